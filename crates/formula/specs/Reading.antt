@@ -1,0 +1,146 @@
+-- The reading of a formula: its tree, or the number and the place of its first fault in reading order (document 01,
+-- "Bytes of a formula" and answers 3 and 4).
+-- A list is read with the number of levels that may still be entered below it. Places within an item count from its
+-- first byte, and places within a list from the list's first byte. `R` stands for the reading of shorter lists.
+--     fieldFrom    a field, by its kind byte: a list's kind byte comes before its length, its length before its contents
+--     itemBy       an item: what opens it, then its fields in order
+--     listBy       a list: its first item, then the rest
+--     read         the whole
+-- Assumes nothing.
+use mathlib.Core.Bool.{Bool, true, false}
+use mathlib.Core.List.{List, [], _∷_}
+use Prim.Native.Nat.{ℕ, zero, suc, _+_, _-_}
+use lib.Dec.{ltb, leb, eqb}
+use lib.ListN.{length, take, drop}
+use Rattle.scaled.specs.Words.{littleEndian}
+use Rattle.formula.specs.declared.Kind.{Kind}
+use Rattle.formula.specs.declared.Kind.the-variants.{Atom, Over, Under, Fraction}
+use Rattle.formula.specs.declared.Bar.{Bar}
+use Rattle.formula.specs.Tree.{Items, Item, Field, nil, cons, noad, kern, empty, symbol, list, openingBytes, kernBytes, symbolBytes, listOpeningBytes}
+use Rattle.formula.specs.Opening.{Opening, noItem, fieldsOf, kernOf, openingOf}
+
+-- ---- the numbers of the format
+
+abbrev pub formulaLimit : ℕ
+formulaLimit = 4_096
+
+abbrev pub depthLimit : ℕ
+depthLimit = 16
+
+abbrev pub greatestFamily : ℕ
+greatestFamily = 15
+
+-- the answer numbers of the two faults: an item that can't be read, and a list too deep
+abbrev pub unreadableNumber : ℕ
+unreadableNumber = 3
+
+abbrev pub tooDeepNumber : ℕ
+tooDeepNumber = 4
+
+-- ---- what reading gives
+
+-- a list's tree, or its first fault: number and place
+pub data Read : Type 0 where
+  good : Items → Read
+  fault : ℕ → ℕ → Read
+
+-- a part of an item, with the place behind it, or a fault
+pub data Got (A : Type 0) : Type 0 where
+  got : A → ℕ → Got A
+  stopped : ℕ → ℕ → Got A
+
+-- an item that can't be read is a fault at its own first byte
+abbrev pub unreadable : {A : Type 0} → Got A
+unreadable = stopped unreadableNumber 0
+
+infixr 20 _thenAt_
+abbrev pub _thenAt_ : {A B : Type 0} → Got A → (A → ℕ → Got B) → Got B
+got a at thenAt next = next a at
+stopped number place thenAt next = stopped number place
+
+-- ---- a field, whose kind byte stands at the place `at` of its item, from the bytes behind that
+
+unfoldable pub symbolFrom : ℕ → List ℕ → Got Field
+symbolFrom at [] = unreadable
+symbolFrom at (family ∷ []) = unreadable
+symbolFrom at (family ∷ code ∷ s) =
+    elim (leb family greatestFamily) [ true ↦ got (symbol family code) (at + symbolBytes) | false ↦ unreadable ]
+
+-- a list of n bytes that has been read
+unfoldable pub listGot : ℕ → ℕ → Read → Got Field
+listGot at n (good l) = got (list l) (at + listOpeningBytes + n)
+listGot at n (fault number place) = stopped number (at + listOpeningBytes + place)
+
+-- its length must not pass the end of the list that holds the item
+unfoldable pub listWithin : (ℕ → List ℕ → Read) → ℕ → ℕ → ℕ → List ℕ → Got Field
+listWithin R levels at n s =
+    elim (leb n (length s)) [ true ↦ listGot at n (R levels (take n s)) | false ↦ unreadable ]
+
+unfoldable pub listFrom : (ℕ → List ℕ → Read) → ℕ → ℕ → List ℕ → Got Field
+listFrom R zero at s = stopped tooDeepNumber at
+listFrom R (suc levels) at [] = unreadable
+listFrom R (suc levels) at (low ∷ []) = unreadable
+listFrom R (suc levels) at (low ∷ high ∷ s) = listWithin R levels at (littleEndian 2 (low ∷ high ∷ [])) s
+
+-- 0 is empty, 1 a symbol, 2 a list
+unfoldable pub fieldFrom : (ℕ → List ℕ → Read) → ℕ → ℕ → List ℕ → Got Field
+fieldFrom R levels at [] = unreadable
+fieldFrom R levels at (kind ∷ s) =
+    elim (eqb kind 0) [ true ↦ got empty (at + 1) | false ↦
+    elim (eqb kind 1) [ true ↦ symbolFrom at s | false ↦
+    elim (eqb kind 2) [ true ↦ listFrom R levels at s | false ↦ unreadable ] ] ]
+
+-- ---- an item, from its first byte to the end of its list
+
+module _ (R : ℕ → List ℕ → Read) (levels : ℕ) (s : List ℕ) where
+  unfoldable pub fieldAt : ℕ → Got Field
+  fieldAt at = fieldFrom R levels at (drop at s)
+
+  -- a fraction has two fields, any other kind three
+  unfoldable pub thirdAt : Kind → ℕ → Got Field
+  thirdAt (Atom class limits) at = fieldAt at
+  thirdAt Over at = fieldAt at
+  thirdAt Under at = fieldAt at
+  thirdAt (Fraction bar) at = got empty at
+
+  unfoldable pub noadAt : Kind → Got Item
+  noadAt kind =
+      fieldAt (openingBytes kind) thenAt λ a at₂.
+      fieldAt at₂ thenAt λ b at₃.
+      thirdAt kind at₃ thenAt λ c end.
+      got (noad kind a b c) end
+
+  unfoldable pub openedBy : Opening → Got Item
+  openedBy noItem = unreadable
+  openedBy (fieldsOf kind) = noadAt kind
+  openedBy (kernOf n) = got (kern n) kernBytes
+
+  unfoldable pub itemBy : Got Item
+  itemBy = openedBy (openingOf s)
+
+-- ---- a list
+
+-- the item i of `size` bytes, and then what reading the rest gave
+unfoldable pub before : Item → ℕ → Read → Read
+before i size (good l) = good (cons i l)
+before i size (fault number place) = fault number (size + place)
+
+unfoldable pub restBy : (ℕ → List ℕ → Read) → ℕ → List ℕ → Got Item → Read
+restBy R levels s (got i size) = before i size (R levels (drop size s))
+restBy R levels s (stopped number place) = fault number place
+
+unfoldable pub listBy : (ℕ → List ℕ → Read) → ℕ → List ℕ → Read
+listBy R levels [] = good nil
+listBy R levels (b ∷ s) = restBy R levels (b ∷ s) (itemBy R levels (b ∷ s))
+
+-- reading in at most n steps; with more steps than bytes their number makes no difference
+unfoldable pub readBy : ℕ → ℕ → List ℕ → Read
+readBy zero levels s = fault unreadableNumber 0
+readBy (suc n) levels s = listBy (readBy n) levels s
+
+unfoldable pub read : ℕ → List ℕ → Read
+read levels s = readBy (suc (length s)) levels s
+
+-- the formula itself is the first level
+unfoldable pub readFormula : List ℕ → Read
+readFormula s = elim (ltb formulaLimit (length s)) [ true ↦ fault unreadableNumber 0 | false ↦ read (depthLimit - 1) s ]

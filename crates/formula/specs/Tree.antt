@@ -1,0 +1,63 @@
+-- A formula as a tree (document 01, "Bytes of a formula"), and the number of bytes that each part of it is written in.
+-- An item with fields is a noad, TeX's word: it has a kind and three fields, which are nucleus, superscript and
+-- subscript, or numerator, denominator and an empty one. A tree holds no places: each part is written in one way, so
+-- that a place follows from the bytes of what stands before it.
+-- Assumes nothing.
+use Prim.Native.Nat.{ℕ, _+_}
+use lib.IntN.{ℤ}
+use Rattle.formula.specs.declared.Kind.{Kind}
+use Rattle.formula.specs.declared.Kind.the-variants.{Atom, Over, Under, Fraction}
+
+mutual
+  pub data Items : Type 0 where
+    nil : Items
+    cons : Item → Items → Items
+
+  pub data Item : Type 0 where
+    noad : Kind → Field → Field → Field → Item
+    kern : ℤ → Item
+
+  pub data Field : Type 0 where
+    empty : Field
+    symbol : ℕ → ℕ → Field        -- family, code
+    list : Items → Field
+
+-- mark and what stands before the fields: class and limits, nothing, or the bar
+abbrev pub openingBytes : Kind → ℕ
+openingBytes (Atom class limits) = 4
+openingBytes Over = 2
+openingBytes Under = 2
+openingBytes (Fraction bar) = 3
+
+-- mark and four bytes
+abbrev pub kernBytes : ℕ
+kernBytes = 6
+
+-- kind byte, family, code
+abbrev pub symbolBytes : ℕ
+symbolBytes = 3
+
+-- kind byte and a two-byte length
+abbrev pub listOpeningBytes : ℕ
+listOpeningBytes = 3
+
+-- a fraction has no third field
+abbrev pub thirdBytes : Kind → ℕ → ℕ
+thirdBytes (Atom class limits) n = n
+thirdBytes Over n = n
+thirdBytes Under n = n
+thirdBytes (Fraction bar) n = 0
+
+unfoldable mutual
+  pub itemsBytes : Items → ℕ
+  itemsBytes nil = 0
+  itemsBytes (cons i r) = itemBytes i + itemsBytes r
+
+  pub itemBytes : Item → ℕ
+  itemBytes (noad k a b c) = openingBytes k + fieldBytes a + fieldBytes b + thirdBytes k (fieldBytes c)
+  itemBytes (kern n) = kernBytes
+
+  pub fieldBytes : Field → ℕ
+  fieldBytes empty = 1
+  fieldBytes (symbol family code) = symbolBytes
+  fieldBytes (list l) = listOpeningBytes + itemsBytes l

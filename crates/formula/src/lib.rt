@@ -1,0 +1,34 @@
+// The formula's bytes. What they mean, and where they break a rule, is defined in specs/Tree.antt and specs/Reading.antt.
+
+// The class of an atom, by which it is spaced.
+pub enum Class {
+    Ord,
+    Op,
+    Bin,
+    Rel,
+    Open,
+    Close,
+    Punct,
+    Inner,
+}
+
+// Where the scripts of a large operator stand as limits.
+pub enum Limits {
+    DisplayOnly,
+    Always,
+    Never,
+}
+
+// The bar of a fraction: of the default thickness, or none.
+pub enum Bar {
+    Default,
+    Without,
+}
+
+// What an item with fields is.
+pub enum Kind {
+    Atom(Class, Limits),
+    Over,
+    Under,
+    Fraction(Bar),
+}

@@ -1,0 +1,120 @@
+-- What measuring and setting answer, for any bytes (document 01, "Answer numbers, in the order they are tested"), and the
+-- node buffer after setting.
+-- Assumes nothing.
+use mathlib.Core.Bool.{Bool, true, false, not}
+use mathlib.Core.List.{List, _++_}
+use mathlib.Core.Option.{Option, none, some}
+use Prim.Native.Nat.{ℕ, _*_}
+use lib.Dec.{leb}
+use lib.IntN.{ℤ, pos}
+use lib.ListN.{length, drop}
+use Rattle.font.specs.Table.{goodTable}
+use Rattle.font.specs.Font.{Font, fontOf}
+use Rattle.formula.specs.Tree.{Items}
+use Rattle.formula.specs.Reading.{Read, good, fault, readFormula}
+use Rattle.rules.specs.declared.Style.{Style}
+use Rattle.rules.specs.Styles.{styleOf}
+use Rattle.rules.specs.Boxes.{Size, zeroSize}
+use Rattle.layout.specs.Nodes.{Node, bytesOf, bytesInNode}
+use Rattle.layout.specs.Setting.{Box, setList}
+use Rattle.layout.specs.Missing.{missingItems}
+use Rattle.layout.specs.Fitting.{listFits}
+
+-- ---- the answer numbers; 3 and 4 are those of the reading
+
+abbrev pub acceptedNumber : ℕ
+acceptedNumber = 0
+
+abbrev pub styleNumber : ℕ
+styleNumber = 1
+
+abbrev pub tableNumber : ℕ
+tableNumber = 2
+
+abbrev pub missingNumber : ℕ
+missingNumber = 5
+
+abbrev pub tooLargeNumber : ℕ
+tooLargeNumber = 6
+
+abbrev pub noRoomNumber : ℕ
+noRoomNumber = 7
+
+-- ---- what is found: the box, or the number and place of the refusal
+
+pub data Result : Type 0 where
+  boxed : Box → Result
+  refused : ℕ → ℕ → Result
+
+-- 6, and then the box
+unfoldable pub ifFits : Bool → Box → Result
+ifFits true b = boxed b
+ifFits false b = refused tooLargeNumber 0
+
+-- 5
+unfoldable pub ifPresent : Font → Style → Items → Option ℕ → Result
+ifPresent F s l none = ifFits (listFits F s l) (setList F s l)
+ifPresent F s l (some place) = refused missingNumber place
+
+-- 3 and 4
+unfoldable pub ifRead : Font → Style → Read → Result
+ifRead F s (good l) = ifPresent F s l (missingItems F s 0 l)
+ifRead F s (fault number place) = refused number place
+
+-- 2
+unfoldable pub ifGood : Bool → Font → Style → Read → Result
+ifGood true F s r = ifRead F s r
+ifGood false F s r = refused tableNumber 0
+
+-- 1
+unfoldable pub ifStyle : List ℕ → List ℕ → Option Style → Result
+ifStyle table formula none = refused styleNumber 0
+ifStyle table formula (some s) = ifGood (goodTable table) (fontOf table) s (readFormula formula)
+
+unfoldable pub resultOf : ℕ → List ℕ → List ℕ → Result
+resultOf style table formula = ifStyle table formula (styleOf style)
+
+-- ---- the answers
+
+pub record Answered : Type 0 where
+  pub number : ℕ
+  pub place : ℕ
+  pub size : Size
+  pub count : ℕ
+
+-- every refusal has sizes 0 and count 0
+abbrev pub refusal : ℕ → ℕ → Answered
+refusal number place = record { number = number; place = place; size = zeroSize; count = 0 }
+
+abbrev pub accepted : Box → Answered
+accepted b = record { number = acceptedNumber; place = 0; size = b .size; count = length (b .nodes) }
+
+unfoldable pub measuredBy : Result → Answered
+measuredBy (boxed b) = accepted b
+measuredBy (refused number place) = refusal number place
+
+unfoldable pub measured : ℕ → List ℕ → List ℕ → Answered
+measured style table formula = measuredBy (resultOf style table formula)
+
+-- 7: whether a buffer of this many bytes has room for the nodes of a box
+unfoldable pub hasRoom : ℕ → Box → Bool
+hasRoom room b = leb (bytesInNode * length (b .nodes)) room
+
+unfoldable pub setBy : ℕ → Result → Answered
+setBy room (boxed b) = elim (hasRoom room b) [ true ↦ accepted b | false ↦ refusal noRoomNumber 0 ]
+setBy room (refused number place) = refusal number place
+
+unfoldable pub setting : ℕ → List ℕ → List ℕ → ℕ → Answered
+setting style table formula room = setBy room (resultOf style table formula)
+
+-- an acceptance writes the nodes at the buffer's front, a refusal nothing
+unfoldable pub bufferBy : List ℕ → Result → List ℕ
+bufferBy buffer (boxed b) =
+    elim (hasRoom (length buffer) b) [
+      true ↦ bytesOf (b .nodes) ++ drop (bytesInNode * length (b .nodes)) buffer
+    | false ↦ buffer
+    ]
+bufferBy buffer (refused number place) = buffer
+
+unfoldable pub bufferAfter : ℕ → List ℕ → List ℕ → List ℕ → List ℕ
+bufferAfter style table formula buffer = bufferBy buffer (resultOf style table formula)

@@ -1,0 +1,5 @@
+pub mod Nodes
+pub mod Setting
+pub mod Missing
+pub mod Fitting
+pub mod Answers

@@ -1,0 +1,10 @@
+pub mod Styles
+pub mod Parameters
+pub mod Classes
+pub mod Spacing
+pub mod Boxes
+pub mod Nucleus
+pub mod Limits
+pub mod Scripts
+pub mod Fractions
+pub mod Arrange

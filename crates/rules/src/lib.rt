@@ -1,0 +1,15 @@
+// The rules of Appendix G as functions on numbers. They are defined in specs/, a file for each idea; specs/Arrange.antt
+// puts them together.
+
+pub enum Level {
+    Display,
+    Text,
+    Script,
+    Scriptscript,
+}
+
+// One of the eight styles. Cramped is what document 01 writes with a prime.
+pub struct Style {
+    pub level: Level,
+    pub cramped: bool,
+}
