@@ -1,3 +1,3 @@
 pub mod Tree
-pub mod Opening
+pub mod Heads
 pub mod Reading

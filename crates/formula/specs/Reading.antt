@@ -2,22 +2,24 @@
 -- "Bytes of a formula" and answers 3 and 4).
 -- A list is read with the number of levels that may still be entered below it. Places within an item count from its
 -- first byte, and places within a list from the list's first byte. `R` stands for the reading of shorter lists.
---     fieldFrom    a field, by its kind byte: a list's kind byte comes before its length, its length before its contents
---     itemBy       an item: what opens it, then its fields in order
+--     fieldBy      a field, by its head
+--     itemBy       an item: its opening, then its fields in order
 --     listBy       a list: its first item, then the rest
 --     read         the whole
 -- Assumes nothing.
 use mathlib.Core.Bool.{Bool, true, false}
 use mathlib.Core.List.{List, [], _∷_}
 use Prim.Native.Nat.{ℕ, zero, suc, _+_, _-_}
-use lib.Dec.{ltb, leb, eqb}
+use lib.Dec.{ltb}
 use lib.ListN.{length, take, drop}
-use Rattle.scaled.specs.Words.{littleEndian}
 use Rattle.formula.specs.declared.Kind.{Kind}
 use Rattle.formula.specs.declared.Kind.the-variants.{Atom, Over, Under, Fraction}
-use Rattle.formula.specs.declared.Bar.{Bar}
+use Rattle.formula.specs.declared.Opening.{Opening}
+use Rattle.formula.specs.declared.Opening.the-variants.{NoItem, Fields, Kern}
+use Rattle.formula.specs.declared.FieldHead.{FieldHead}
+use Rattle.formula.specs.declared.FieldHead.the-variants.{NoField, Empty, Symbol, Sublist, CutSublist}
 use Rattle.formula.specs.Tree.{Items, Item, Field, nil, cons, noad, kern, empty, symbol, list, openingBytes, kernBytes, symbolBytes, listOpeningBytes}
-use Rattle.formula.specs.Opening.{Opening, noItem, fieldsOf, kernOf, openingOf}
+use Rattle.formula.specs.Heads.{openingOf, fieldHead}
 
 -- ---- the numbers of the format
 
@@ -26,9 +28,6 @@ formulaLimit = 4_096
 
 abbrev pub depthLimit : ℕ
 depthLimit = 16
-
-abbrev pub greatestFamily : ℕ
-greatestFamily = 15
 
 -- the answer numbers of the two faults: an item that can't be read, and a list too deep
 abbrev pub unreadableNumber : ℕ
@@ -58,43 +57,28 @@ abbrev pub _thenAt_ : {A B : Type 0} → Got A → (A → ℕ → Got B) → Got
 got a at thenAt next = next a at
 stopped number place thenAt next = stopped number place
 
--- ---- a field, whose kind byte stands at the place `at` of its item, from the bytes behind that
-
-unfoldable pub symbolFrom : ℕ → List ℕ → Got Field
-symbolFrom at [] = unreadable
-symbolFrom at (family ∷ []) = unreadable
-symbolFrom at (family ∷ code ∷ s) =
-    elim (leb family greatestFamily) [ true ↦ got (symbol family code) (at + symbolBytes) | false ↦ unreadable ]
+-- ---- a field, whose kind byte stands at the place `at` of its item
 
 -- a list of n bytes that has been read
 unfoldable pub listGot : ℕ → ℕ → Read → Got Field
 listGot at n (good l) = got (list l) (at + listOpeningBytes + n)
 listGot at n (fault number place) = stopped number (at + listOpeningBytes + place)
 
--- its length must not pass the end of the list that holds the item
-unfoldable pub listWithin : (ℕ → List ℕ → Read) → ℕ → ℕ → ℕ → List ℕ → Got Field
-listWithin R levels at n s =
-    elim (leb n (length s)) [ true ↦ listGot at n (R levels (take n s)) | false ↦ unreadable ]
-
-unfoldable pub listFrom : (ℕ → List ℕ → Read) → ℕ → ℕ → List ℕ → Got Field
-listFrom R zero at s = stopped tooDeepNumber at
-listFrom R (suc levels) at [] = unreadable
-listFrom R (suc levels) at (low ∷ []) = unreadable
-listFrom R (suc levels) at (low ∷ high ∷ s) = listWithin R levels at (littleEndian 2 (low ∷ high ∷ [])) s
-
--- 0 is empty, 1 a symbol, 2 a list
-unfoldable pub fieldFrom : (ℕ → List ℕ → Read) → ℕ → ℕ → List ℕ → Got Field
-fieldFrom R levels at [] = unreadable
-fieldFrom R levels at (kind ∷ s) =
-    elim (eqb kind 0) [ true ↦ got empty (at + 1) | false ↦
-    elim (eqb kind 1) [ true ↦ symbolFrom at s | false ↦
-    elim (eqb kind 2) [ true ↦ listFrom R levels at s | false ↦ unreadable ] ] ]
+-- a list's kind byte comes before its length, its length before its contents; s goes from the kind byte to the end
+unfoldable pub fieldBy : (ℕ → List ℕ → Read) → ℕ → ℕ → List ℕ → FieldHead → Got Field
+fieldBy R levels at s NoField = unreadable
+fieldBy R levels at s Empty = got empty (at + 1)
+fieldBy R levels at s (Symbol family code) = got (symbol family code) (at + symbolBytes)
+fieldBy R zero at s (Sublist n) = stopped tooDeepNumber at
+fieldBy R (suc levels) at s (Sublist n) = listGot at n (R levels (take n (drop listOpeningBytes s)))
+fieldBy R zero at s CutSublist = stopped tooDeepNumber at
+fieldBy R (suc levels) at s CutSublist = unreadable
 
 -- ---- an item, from its first byte to the end of its list
 
 module _ (R : ℕ → List ℕ → Read) (levels : ℕ) (s : List ℕ) where
   unfoldable pub fieldAt : ℕ → Got Field
-  fieldAt at = fieldFrom R levels at (drop at s)
+  fieldAt at = fieldBy R levels at (drop at s) (fieldHead (drop at s))
 
   -- a fraction has two fields, any other kind three
   unfoldable pub thirdAt : Kind → ℕ → Got Field
@@ -111,9 +95,9 @@ module _ (R : ℕ → List ℕ → Read) (levels : ℕ) (s : List ℕ) where
       got (noad kind a b c) end
 
   unfoldable pub openedBy : Opening → Got Item
-  openedBy noItem = unreadable
-  openedBy (fieldsOf kind) = noadAt kind
-  openedBy (kernOf n) = got (kern n) kernBytes
+  openedBy NoItem = unreadable
+  openedBy (Fields kind) = noadAt kind
+  openedBy (Kern n) = got (kern (n .0)) kernBytes
 
   unfoldable pub itemBy : Got Item
   itemBy = openedBy (openingOf s)

@@ -19,7 +19,7 @@ mutual
 
   pub data Field : Type 0 where
     empty : Field
-    symbol : ℕ → ℕ → Field        -- family, code
+    symbol : ℕ → ℕ → Field  -- family, code
     list : Items → Field
 
 -- mark and what stands before the fields: class and limits, nothing, or the bar

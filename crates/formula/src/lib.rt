@@ -1,5 +1,7 @@
 // The formula's bytes. What they mean, and where they break a rule, is defined in specs/Tree.antt and specs/Reading.antt.
 
+use scaled::Sp;
+
 // The class of an atom, by which it is spaced.
 pub enum Class {
     Ord,
@@ -31,4 +33,20 @@ pub enum Kind {
     Over,
     Under,
     Fraction(Bar),
+}
+
+// What an item says before its fields.
+pub enum Opening {
+    NoItem,
+    Fields(Kind),
+    Kern(Sp),
+}
+
+// What a field says at its kind byte. A list has its number of bytes, or its length is cut off or passes the end.
+pub enum FieldHead {
+    NoField,
+    Empty,
+    Symbol(u8, u8),
+    Sublist(usize),
+    CutSublist,
 }

@@ -111,8 +111,8 @@ setting style table formula room = setBy room (resultOf style table formula)
 unfoldable pub bufferBy : List ℕ → Result → List ℕ
 bufferBy buffer (boxed b) =
     elim (hasRoom (length buffer) b) [
-      true ↦ bytesOf (b .nodes) ++ drop (bytesInNode * length (b .nodes)) buffer
-    | false ↦ buffer
+      | true ↦ bytesOf (b .nodes) ++ drop (bytesInNode * length (b .nodes)) buffer
+      | false ↦ buffer
     ]
 bufferBy buffer (refused number place) = buffer
 

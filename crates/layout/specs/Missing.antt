@@ -17,7 +17,6 @@ _orElse_ (some place) later = some place
 _orElse_ none later = later
 
 infixr 20 _orElse_
-
 unfoldable pub absentAt : ℕ → Option Symbol → Option ℕ
 absentAt at none = some at
 absentAt at (some s) = none

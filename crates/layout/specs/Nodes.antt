@@ -9,8 +9,8 @@ use Rattle.rules.specs.Boxes.{Place}
 
 -- x and y from the reference point of the list, y upward
 pub data Node : Type 0 where
-  glyph : ℤ → ℤ → ℕ → ℕ → ℕ → Node      -- x, y, size, family, code
-  rule : ℤ → ℤ → ℤ → ℤ → Node           -- x, y of the lower left corner, width, thickness
+  glyph : ℤ → ℤ → ℕ → ℕ → ℕ → Node  -- x, y, size, family, code
+  rule : ℤ → ℤ → ℤ → ℤ → Node  -- x, y of the lower left corner, width, thickness
 
 abbrev pub movedNode : Place → Node → Node
 movedNode by (glyph x y size family code) = glyph (x +ℤ by .across) (y +ℤ by .up) size family code

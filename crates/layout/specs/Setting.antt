@@ -98,11 +98,11 @@ beside b space c =
     let x = b .size .width +ℤ space in
     record {
       size =
-        record {
-          width = x +ℤ c .size .width;
-          height = maxℤ (b .size .height) (c .size .height);
-          depth = maxℤ (b .size .depth) (c .size .depth);
-        };
+          record {
+            width = x +ℤ c .size .width;
+            height = maxℤ (b .size .height) (c .size .height);
+            depth = maxℤ (b .size .depth) (c .size .depth);
+          };
       nodes = b .nodes ++ moved (at x (pos 0)) (c .nodes);
     }
 

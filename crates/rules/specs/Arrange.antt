@@ -8,7 +8,7 @@ use Rattle.formula.specs.declared.Class.{Class}
 use Rattle.formula.specs.declared.Limits.{Limits}
 use Rattle.formula.specs.declared.Kind.{Kind}
 use Rattle.formula.specs.declared.Kind.the-variants.{Atom, Over, Under, Fraction}
-use Rattle.formula.specs.Opening.{isOp}
+use Rattle.formula.specs.Heads.{isOp}
 use Rattle.rules.specs.declared.Style.{Style}
 use Rattle.rules.specs.Styles.{fontSize, isDisplay, superscriptStyle, subscriptStyle, numeratorStyle, denominatorStyle, crampedStyle}
 use Rattle.rules.specs.Parameters.{Parameters, axisHeight, ruleThickness}

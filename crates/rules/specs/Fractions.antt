@@ -45,8 +45,8 @@ clearance x z t = (t .up -ℤ x .depth) -ℤ (z .height -ℤ t .down)
 unfoldable pub parted : ℤ → ℤ → Shifts → Shifts
 parted φ ψ t =
     elim (ltZ ψ φ) [
-      true ↦ record { up = t .up +ℤ half (φ -ℤ ψ); down = t .down +ℤ half (φ -ℤ ψ) }
-    | false ↦ t
+      | true ↦ record { up = t .up +ℤ half (φ -ℤ ψ); down = t .down +ℤ half (φ -ℤ ψ) }
+      | false ↦ t
     ]
 
 unfoldable pub shiftsWithoutBar : Parameters → Style → Size → Size → Shifts → Shifts
@@ -73,20 +73,20 @@ shiftsWithBar axis θ φ x z t =
 abbrev pub finalShifts : Parameters → Style → ℤ → Size → Size → Shifts
 finalShifts p s θ x z =
     elim (hasBar θ) [
-      true ↦ shiftsWithBar (axisHeight p (fontSize s)) θ (leastFromBar s θ) x z (fractionShifts p s θ)
-    | false ↦ shiftsWithoutBar p s x z (fractionShifts p s θ)
+      | true ↦ shiftsWithBar (axisHeight p (fontSize s)) θ (leastFromBar s θ) x z (fractionShifts p s θ)
+      | false ↦ shiftsWithoutBar p s x z (fractionShifts p s θ)
     ]
 
 -- the bar's top is half of its thickness above the axis
 abbrev pub barOf : ℤ → ℤ → ℤ → Option Rule
 barOf axis θ w =
     elim (hasBar θ) [
-      true ↦ some record {
+      | true ↦ some record {
         place = at (pos 0) ((axis +ℤ half θ) -ℤ θ);
         width = w;
         thickness = θ;
       }
-    | false ↦ none
+      | false ↦ none
     ]
 
 unfoldable pub fraction : Parameters → Style → Bar → Size → Size → Arranged

@@ -10,7 +10,7 @@ use Rattle.scaled.specs.Length.{maxℤ, half}
 use Rattle.formula.specs.declared.Class.{Class}
 use Rattle.formula.specs.declared.Limits.{Limits}
 use Rattle.formula.specs.declared.Limits.the-variants.{DisplayOnly, Always, Never}
-use Rattle.formula.specs.Opening.{isOp}
+use Rattle.formula.specs.Heads.{isOp}
 use Rattle.rules.specs.declared.Level.{Level}
 use Rattle.rules.specs.Styles.{isDisplay}
 use Rattle.rules.specs.Parameters.{Parameters, bigOpSpacing1, bigOpSpacing2, bigOpSpacing3, bigOpSpacing4, bigOpSpacing5}
@@ -75,7 +75,7 @@ limited p size n superscript subscript =
     let w = maxℤ (maxℤ (n .size .width) (widthOf superscript)) (widthOf subscript) in
     record {
       size =
-        record { width = w; height = heightAbove p size n superscript; depth = depthBelow p size n subscript };
+          record { width = w; height = heightAbove p size n superscript; depth = depthBelow p size n subscript };
       first = at (centred w (n .size .width)) (n .raise);
       second = placeAbove p size n w superscript;
       third = placeBelow p size n w subscript;

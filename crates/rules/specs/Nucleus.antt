@@ -10,9 +10,9 @@ use Rattle.rules.specs.Boxes.{Size, Shape, nothing, char, box, charSize,
 -- A nucleus as the limits and the scripts see it.
 pub record Nucleus : Type 0 where
   pub size : Size
-  pub raise : ℤ           -- how far its symbol stands above the baseline
-  pub δ : ℤ               -- the italic correction that a superscript of a pair, or the limits, still have to heed
-  pub isPlain : Bool      -- whether the drops of rule 18a are 0
+  pub raise : ℤ  -- how far its symbol stands above the baseline
+  pub δ : ℤ  -- the italic correction that a superscript of a pair, or the limits, still have to heed
+  pub isPlain : Bool  -- whether the drops of rule 18a are 0
   pub line : Option Rule
 
 abbrev pub boxNucleus : Size → Nucleus
@@ -47,11 +47,11 @@ operatorNucleus axis m subscriptBeside =
     let down = operatorShift axis m in
     record {
       size =
-        record {
-          width = operatorWidth m subscriptBeside;
-          height = maxℤ (pos 0) (pos (m .height) -ℤ down);
-          depth = maxℤ (pos 0) (pos (m .depth) +ℤ down);
-        };
+          record {
+            width = operatorWidth m subscriptBeside;
+            height = maxℤ (pos 0) (pos (m .height) -ℤ down);
+            depth = maxℤ (pos 0) (pos (m .depth) +ℤ down);
+          };
       raise = negℤ down;
       δ = pos (m .italic);
       isPlain = false;
@@ -75,11 +75,11 @@ overline θ x =
       δ = pos 0;
       isPlain = false;
       line =
-        some record {
-          place = at (pos 0) (x .height +ℤ θ *ℤ pos 3);
-          width = x .width;
-          thickness = θ;
-        };
+          some record {
+            place = at (pos 0) (x .height +ℤ θ *ℤ pos 3);
+            width = x .width;
+            thickness = θ;
+          };
     }
 
 -- the line's top is 3θ below the nucleus, so that its lower edge is 4θ below
@@ -91,9 +91,9 @@ underline θ x =
       δ = pos 0;
       isPlain = false;
       line =
-        some record {
-          place = at (pos 0) (negℤ (x .depth +ℤ θ *ℤ pos 3) -ℤ θ);
-          width = x .width;
-          thickness = θ;
-        };
+          some record {
+            place = at (pos 0) (negℤ (x .depth +ℤ θ *ℤ pos 3) -ℤ θ);
+            width = x .width;
+            thickness = θ;
+          };
     }

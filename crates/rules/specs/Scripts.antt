@@ -84,8 +84,8 @@ lifted ψ s =
 unfoldable pub spread : Parameters → ℕ → Size → Size → Shifts → Shifts
 spread p size x y s =
     elim (ltZ (gap x y (s .up) (s .down)) (fourRules p size)) [
-      true ↦ lifted (ψOf p size x (s .up)) (record { up = s .up; down = gapDown p size x y (s .up) })
-    | false ↦ s
+      | true ↦ lifted (ψOf p size x (s .up)) (record { up = s .up; down = gapDown p size x y (s .up) })
+      | false ↦ s
     ]
 
 unfoldable pub pairShifts : Parameters → Style → Nucleus → Size → Size → Shifts
@@ -99,11 +99,11 @@ abbrev pub assembled : Nucleus → Place → Place → ℤ → List ℤ → List
 assembled n second third w tops bottoms =
     record {
       size =
-        record {
-          width = n .size .width +ℤ w;
-          height = greatest (n .size .height ∷ tops);
-          depth = greatest (n .size .depth ∷ bottoms);
-        };
+          record {
+            width = n .size .width +ℤ w;
+            height = greatest (n .size .height ∷ tops);
+            depth = greatest (n .size .depth ∷ bottoms);
+          };
       first = at (pos 0) (n .raise);
       second = second;
       third = third;

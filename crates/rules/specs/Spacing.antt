@@ -24,14 +24,14 @@ pub data Entry : Type 0 where
 
 -- left class; the right one goes from Ord to Inner
 unfoldable pub row : Class → List Entry
-row Ord   = o      ∷ thin    ∷ ⟨med⟩ ∷ ⟨thick⟩ ∷ o      ∷ o      ∷ o      ∷ ⟨thin⟩ ∷ []
-row Op    = thin   ∷ thin    ∷ ✶     ∷ ⟨thick⟩ ∷ o      ∷ o      ∷ o      ∷ ⟨thin⟩ ∷ []
-row Bin   = ⟨med⟩  ∷ ⟨med⟩   ∷ ✶     ∷ ✶       ∷ ⟨med⟩  ∷ ✶      ∷ ✶      ∷ ⟨med⟩  ∷ []
-row Rel   = ⟨thick⟩ ∷ ⟨thick⟩ ∷ ✶    ∷ o       ∷ ⟨thick⟩ ∷ o     ∷ o      ∷ ⟨thick⟩ ∷ []
-row Open  = o      ∷ o       ∷ ✶     ∷ o       ∷ o      ∷ o      ∷ o      ∷ o      ∷ []
-row Close = o      ∷ thin    ∷ ⟨med⟩ ∷ ⟨thick⟩ ∷ o      ∷ o      ∷ o      ∷ ⟨thin⟩ ∷ []
-row Punct = ⟨thin⟩ ∷ ⟨thin⟩  ∷ ✶     ∷ ⟨thin⟩  ∷ ⟨thin⟩ ∷ ⟨thin⟩ ∷ ⟨thin⟩ ∷ ⟨thin⟩ ∷ []
-row Inner = ⟨thin⟩ ∷ thin    ∷ ⟨med⟩ ∷ ⟨thick⟩ ∷ ⟨thin⟩ ∷ o      ∷ ⟨thin⟩ ∷ ⟨thin⟩ ∷ []
+row Ord = o ∷ thin ∷ ⟨med⟩ ∷ ⟨thick⟩ ∷ o ∷ o ∷ o ∷ ⟨thin⟩ ∷ []
+row Op = thin ∷ thin ∷ ✶ ∷ ⟨thick⟩ ∷ o ∷ o ∷ o ∷ ⟨thin⟩ ∷ []
+row Bin = ⟨med⟩ ∷ ⟨med⟩ ∷ ✶ ∷ ✶ ∷ ⟨med⟩ ∷ ✶ ∷ ✶ ∷ ⟨med⟩ ∷ []
+row Rel = ⟨thick⟩ ∷ ⟨thick⟩ ∷ ✶ ∷ o ∷ ⟨thick⟩ ∷ o ∷ o ∷ ⟨thick⟩ ∷ []
+row Open = o ∷ o ∷ ✶ ∷ o ∷ o ∷ o ∷ o ∷ o ∷ []
+row Close = o ∷ thin ∷ ⟨med⟩ ∷ ⟨thick⟩ ∷ o ∷ o ∷ o ∷ ⟨thin⟩ ∷ []
+row Punct = ⟨thin⟩ ∷ ⟨thin⟩ ∷ ✶ ∷ ⟨thin⟩ ∷ ⟨thin⟩ ∷ ⟨thin⟩ ∷ ⟨thin⟩ ∷ ⟨thin⟩ ∷ []
+row Inner = ⟨thin⟩ ∷ thin ∷ ⟨med⟩ ∷ ⟨thick⟩ ∷ ⟨thin⟩ ∷ o ∷ ⟨thin⟩ ∷ ⟨thin⟩ ∷ []
 
 abbrev pub column : Class → ℕ
 column Ord = 0

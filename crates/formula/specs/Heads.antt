@@ -1,0 +1,155 @@
+-- What stands at the head of an item and of a field (document 01, "Bytes of a formula"), with nothing within a list looked at.
+--     openingOf    what an item says before its fields: its kind, or its kern
+--     fieldHead    what a field says at its kind byte
+-- Both are total: bytes that can be neither are `NoItem` and `NoField`.
+-- Assumes nothing.
+use mathlib.Core.Bool.{Bool, true, false, _&&_, _||_}
+use mathlib.Core.List.{List, [], _∷_}
+use mathlib.Core.Option.{Option, none, some}
+use Prim.Native.Nat.{ℕ, zero, suc}
+use lib.Dec.{leb, eqb}
+use lib.IntN.{ℤ, natAbs}
+use lib.ListN.{length, getElem?}
+use Rattle.scaled.specs.Words.{littleEndian, signedWord}
+use Rattle.formula.specs.declared.Class.{Class}
+use Rattle.formula.specs.declared.Class.the-variants.{Ord, Op, Bin, Rel, Open, Close, Punct, Inner}
+use Rattle.formula.specs.declared.Limits.{Limits}
+use Rattle.formula.specs.declared.Limits.the-variants.{DisplayOnly, Always, Never}
+use Rattle.formula.specs.declared.Bar.{Bar}
+use Rattle.formula.specs.declared.Bar.the-variants.{Default, Without}
+use Rattle.formula.specs.declared.Kind.{Kind}
+use Rattle.formula.specs.declared.Kind.the-variants.{Atom, Over, Under, Fraction}
+use Rattle.formula.specs.declared.FieldHead.{FieldHead}
+use Rattle.formula.specs.declared.FieldHead.the-variants.{NoField, Empty, Symbol, Sublist, CutSublist}
+use Rattle.formula.specs.declared.Opening.{Opening}
+use Rattle.formula.specs.declared.Opening.the-variants.{NoItem, Fields, Kern}
+
+-- ---- an item
+
+pub data Mark : Type 0 where
+  AT OV UN FR KN unknown : Mark
+
+-- the letters of the marks, in ASCII
+unfoldable pub markOf : ℕ → ℕ → Mark
+markOf a b =
+    elim (eqb a 65 && eqb b 84) [
+      | true ↦ AT
+      | false ↦
+          elim (eqb a 79 && eqb b 86) [
+            | true ↦ OV
+            | false ↦
+                elim (eqb a 85 && eqb b 78) [
+                  | true ↦ UN
+                  | false ↦
+                      elim (eqb a 70 && eqb b 82) [
+                        | true ↦ FR
+                        | false ↦
+                            elim (eqb a 75 && eqb b 78) [ true ↦ KN | false ↦ unknown ]
+                      ]
+                ]
+          ]
+    ]
+
+abbrev pub classes : List Class
+classes = Ord ∷ Op ∷ Bin ∷ Rel ∷ Open ∷ Close ∷ Punct ∷ Inner ∷ []
+
+abbrev pub limitKinds : List Limits
+limitKinds = DisplayOnly ∷ Always ∷ Never ∷ []
+
+abbrev pub bars : List Bar
+bars = Default ∷ Without ∷ []
+
+abbrev pub isOp : Class → Bool
+isOp Ord = false
+isOp Op = true
+isOp Bin = false
+isOp Rel = false
+isOp Open = false
+isOp Close = false
+isOp Punct = false
+isOp Inner = false
+
+abbrev pub isDisplayOnly : Limits → Bool
+isDisplayOnly DisplayOnly = true
+isDisplayOnly Always = false
+isDisplayOnly Never = false
+
+-- limits are 0 unless the class is Op
+unfoldable pub atomOf : Option Class → Option Limits → Opening
+atomOf none l = NoItem
+atomOf (some class) none = NoItem
+atomOf (some class) (some limits) =
+    elim (isOp class || isDisplayOnly limits) [ true ↦ Fields (Atom class limits) | false ↦ NoItem ]
+
+unfoldable pub atomOpening : List ℕ → Opening
+atomOpening [] = NoItem
+atomOpening (class ∷ []) = NoItem
+atomOpening (class ∷ limits ∷ s) = atomOf (getElem? classes class) (getElem? limitKinds limits)
+
+unfoldable pub fractionOf : Option Bar → Opening
+fractionOf none = NoItem
+fractionOf (some bar) = Fields (Fraction bar)
+
+unfoldable pub fractionOpening : List ℕ → Opening
+fractionOpening [] = NoItem
+fractionOpening (bar ∷ s) = fractionOf (getElem? bars bar)
+
+-- a kern is at most this much either way
+abbrev pub greatestKern : ℕ
+greatestKern = 8_388_607
+
+unfoldable pub kernWithin : ℤ → Opening
+kernWithin n = elim (leb (natAbs n) greatestKern) [ true ↦ Kern (record { 0 = n }) | false ↦ NoItem ]
+
+unfoldable pub kernOpening : List ℕ → Opening
+kernOpening [] = NoItem
+kernOpening (a ∷ []) = NoItem
+kernOpening (a ∷ b ∷ []) = NoItem
+kernOpening (a ∷ b ∷ c ∷ []) = NoItem
+kernOpening (a ∷ b ∷ c ∷ d ∷ s) = kernWithin (signedWord (littleEndian 4 (a ∷ b ∷ c ∷ d ∷ s)))
+
+-- what opens behind a mark, from the bytes behind the mark
+unfoldable pub opens : Mark → List ℕ → Opening
+opens AT s = atomOpening s
+opens OV s = Fields Over
+opens UN s = Fields Under
+opens FR s = fractionOpening s
+opens KN s = kernOpening s
+opens unknown s = NoItem
+
+unfoldable pub openingOf : List ℕ → Opening
+openingOf [] = NoItem
+openingOf (a ∷ []) = NoItem
+openingOf (a ∷ b ∷ s) = opens (markOf a b) s
+
+-- ---- a field
+
+abbrev pub greatestFamily : ℕ
+greatestFamily = 15
+
+unfoldable pub symbolHead : List ℕ → FieldHead
+symbolHead [] = NoField
+symbolHead (family ∷ []) = NoField
+symbolHead (family ∷ code ∷ s) = elim (leb family greatestFamily) [ true ↦ Symbol family code | false ↦ NoField ]
+
+-- a list's bytes must not pass the end of the list that holds the item
+unfoldable pub listHead : List ℕ → FieldHead
+listHead [] = CutSublist
+listHead (low ∷ []) = CutSublist
+listHead (low ∷ high ∷ s) =
+    let n = littleEndian 2 (low ∷ high ∷ []) in
+    elim (leb n (length s)) [ true ↦ Sublist n | false ↦ CutSublist ]
+
+-- 0 is empty, 1 a symbol, 2 a list; s goes from the kind byte to the end of the list that holds the item
+unfoldable pub fieldHead : List ℕ → FieldHead
+fieldHead [] = NoField
+fieldHead (kind ∷ s) =
+    elim (eqb kind 0) [
+      | true ↦ Empty
+      | false ↦
+          elim (eqb kind 1) [
+            | true ↦ symbolHead s
+            | false ↦
+                elim (eqb kind 2) [ true ↦ listHead s | false ↦ NoField ]
+          ]
+    ]
