@@ -1,1 +1,4 @@
 pub mod Length
+pub mod Signed
+pub mod Linear
+pub mod Made

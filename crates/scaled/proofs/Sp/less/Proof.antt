@@ -1,0 +1,10 @@
+use borrow.Author.Needs.{needs}
+use Rattle.scaled.specs.Made.{less-is}
+use Rattle.scaled.proofs.Sp.less.Statement.{statement}
+use Rattle.scaled.proofs.Sp.less.Tie as tie
+
+returns : tie.Need-returns
+returns c = less-is (search needs)
+
+pub less-spec : {M : Type 1} → statement M
+less-spec = tie.close (tie.spec returns)
