@@ -1,19 +1,21 @@
 -- Each z of ℤ as two naturals: how far it lies above zero, and how far below. One of them is 0, and z is their difference.
--- So a linear fact on ℤ is one on naturals, and `omega` proves it. In order:
---     above, below           the two naturals
---     Within k z             −k ≤ z ≤ k, and `NotNegative z`: facts on the difference, which `omega` carries through sums
---     Parts z p n            z is p − n, with a law for each operation: z is made of x and y, and p, n of theirs
---     parts-eq, test-parts   equality and the order by the parts; `le-parts`, `parts-le` and so on for the records of the order
---     fits-parts             what fits 64 bits, `mag-parts` what that says
---     within-product         a product's bound
---     signed                 the rules for `omega (arith, signed)`: each reads an equation or an order among the hypotheses
+-- So a linear fact on ℤ is one on naturals, which `omega` proves. In order:
+--     above, below       the two naturals
+--     Within k z         −k ≤ z ≤ k, and `NotNegative z`: facts on the difference, which `omega` carries through sums
+--     Parts z p n        z is p − n; `own`, that z is the difference of its own two
+--     lt-test, le-test   a test of the order, on the parts
+--     parts-neg ..       for each operation, the parts of its result from those of its arguments
+--     parts-same         equality, and `le-parts`, `parts-le`, `lt-parts`, `parts-lt` the order, by the parts
+--     fits-parts ..      what fits 64 bits, and bounds
+--     signed             the rules for `omega (arith, signed)`: by them it reads equations and orders of ℤ among the hypotheses,
+--                        and proves orders; an equation is proved by `eq-by` of `Linear`
 -- Assumes nothing.
 use mathlib.Core.Path.{_≡_, refl, sym, ap, subst, _∙_}
 use mathlib.Core.Bool.{Bool, true, false, cond}
 use mathlib.Core.Logic.{_⊎_, inl, inr, ⊎-elim}
 use Prim.Native.Nat.{ℕ, zero, suc, _+_, _-_, _*_, _/_, _%_, _^_, _≤_, _<_, max, min}
 use native.Mathlib.Omega.{arith}
-use native.Mathlib.Nat.{add-zero, zero-add, zero-mul, mul-le-mul, add-mul-div-right, div-eq-of-lt-le, div-add-mod', mod-lt, zero-lt-suc}
+use native.Mathlib.Nat.{mul-le-mul, add-mul-div-right, div-eq-of-lt-le, div-add-mod', mod-lt, zero-lt-suc}
 use lib.Dec.{T, leb, ltb, lit<, leb→le, ltb→lt, le→leb, lt→ltb}
 use lib.IntN.{ℤ, pos, negsuc, negℤ, natAbs, subℕ, _+ℤ_, _-ℤ_, _*ℤ_}
 use lib.Signed.{mag, ltZ, leZ, shrZ, quotZ, nonNeg, _≤ℤ_, _<ℤ_}
@@ -44,7 +46,6 @@ pub record Parts (z : ℤ) (p n : ℕ) : Type 0 where
 pub own : (z : ℤ) → Parts z (above z) (below z)
 own z = record { parts = refl }
 
--- one of the two is 0
 pub apart : (z : ℤ) → (above z ≡ 0) ⊎ (below z ≡ 0)
 apart (pos n) = inr refl
 apart (negsuc n) = inl refl
@@ -53,13 +54,13 @@ by-test : (Q : Bool → Type 0) (t : Bool) → (t ≡ true → Q true) → (t �
 by-test Q true f g = f refl
 by-test Q false f g = g refl
 
--- ---- sums
+-- ---- operations, at the arguments' own parts
 
 parts-subℕ : (a b : ℕ) → Parts (subℕ a b) a b
 parts-subℕ a b =
     by-test (λ (t : Bool). Parts (cond t (negsuc (b - suc a)) (pos (a - b))) a b) (ltb a b)
-    (λ e. let h = ltb-true a b e in omega arith)
-    (λ e. let h = ltb-false a b e in omega arith)
+    (λ e. omega (arith, ltb-true a b e))
+    (λ e. omega (arith, ltb-false a b e))
 
 own-add : (a b : ℤ) → Parts (a +ℤ b) (above a + above b) (below a + below b)
 own-add (pos a) (pos b) = omega arith
@@ -79,7 +80,7 @@ own-product (pos a) (negsuc b) = omega (arith, own-neg (pos (a * suc b)))
 own-product (negsuc a) (pos b) = omega (arith, own-neg (pos (suc a * b)))
 own-product (negsuc a) (negsuc b) = omega arith
 
--- two differences multiplied out
+-- the product of s − t and u − v is that of p − n and q − m
 cross : (s t u v p n q m : ℕ) → s + n ≡ p + t → u + m ≡ q + v →
     (s * u + t * v) + (p * m + n * q) ≡ (p * q + n * m) + (s * v + t * u)
 cross s t u v p n q m h k =
@@ -89,29 +90,22 @@ cross s t u v p n q m h k =
     let kt : t * (u + m) ≡ t * (q + v) = ap (λ (x : ℕ). t * x) k in
     omega arith
 
--- ---- rounding down
-
-floor-up : (m p n j : ℕ) → m + n ≡ p + 0 → (p + n * j) / suc j ≡ m / suc j + n
-floor-up m p n j e =
+-- rounded down, z / k + n is (z + n · k) / k, and below zero too
+floor-suc : (z : ℤ) (p n j : ℕ) → Parts z p n → Parts (shrZ z (suc j)) ((p + n * j) / suc j) n
+floor-suc (pos m) p n j h =
     let s : p + n * j ≡ m + n * suc j = omega arith in
-    ap (λ (x : ℕ). x / suc j) s ∙ add-mul-div-right m n (zero-lt-suc j)
-
-floor-down : (m p n j : ℕ) → 0 + n ≡ p + suc m → n ≡ (p + n * j) / suc j + suc (m / suc j)
-floor-down m p n j e =
-    let t : ℕ = p + m - m / suc j in
-    let d : m / suc j * suc j + m % suc j ≡ m = div-add-mod' m (suc j) in
-    let r : m % suc j < suc j = mod-lt m (zero-lt-suc j) in
-    let s : t + m / suc j ≡ p + m = omega arith in
-    let sj : (t + m / suc j) * j ≡ (p + m) * j = ap (λ (x : ℕ). x * j) s in
-    let nj : (0 + n) * j ≡ (p + suc m) * j = ap (λ (x : ℕ). x * j) e in
-    let v : (p + n * j) / suc j ≡ t = div-eq-of-lt-le (suc j) (omega arith) (omega arith) in
+    omega (arith, ap (λ (x : ℕ). x / suc j) s, add-mul-div-right m n (zero-lt-suc j))
+floor-suc (negsuc m) p n j h =
+    let d = m / suc j in
+    let dm : d * suc j + m % suc j ≡ m = div-add-mod' m (suc j) in
+    let ml : m % suc j < suc j = mod-lt m (zero-lt-suc j) in
+    let t = n - suc d in
+    let s : n ≡ t + suc d = omega arith in
+    let sj : n * j ≡ (t + suc d) * j = ap (λ (x : ℕ). x * j) s in
+    let q : (p + n * j) / suc j ≡ t = div-eq-of-lt-le (suc j) (omega arith) (omega arith) in
     omega arith
 
-floor-suc : (z : ℤ) (p n j : ℕ) → Parts z p n → Parts (shrZ z (suc j)) ((p + n * j) / suc j) n
-floor-suc (pos m) p n j h = omega (arith, floor-up m p n j (h .parts))
-floor-suc (negsuc m) p n j h = omega (arith, floor-down m p n j (h .parts))
-
--- ---- the order
+-- ---- tests
 
 leb-moved : (x y u v : ℕ) → x + v ≡ u + y → leb x y ≡ leb u v
 leb-moved x y u v e =
@@ -119,33 +113,33 @@ leb-moved x y u v e =
     (λ t. let h = leb-true x y t in sym (le-leb u v (omega arith)))
     (λ t. let h = leb-false x y t in sym (lt-leb u v (omega arith)))
 
-pub lt-test : {a b : ℤ} {p n q m : ℕ} → Parts a p n → Parts b q m → ltZ a b ≡ ltb (p + m) (q + n)
-lt-test {a = pos a} {b = pos b} {p} {n} {q} {m} h k = leb-moved (suc a) b (suc (p + m)) (q + n) (omega arith)
-lt-test {a = pos a} {b = negsuc b} {p} {n} {q} {m} h k = sym (le-ltb (p + m) (q + n) (omega arith))
-lt-test {a = negsuc a} {b = pos b} {p} {n} {q} {m} h k = sym (lt-ltb (p + m) (q + n) (omega arith))
-lt-test {a = negsuc a} {b = negsuc b} {p} {n} {q} {m} h k = leb-moved (suc b) a (suc (p + m)) (q + n) (omega arith)
+module _ {p n q m : ℕ} where
+  pub lt-test : {a b : ℤ} → Parts a p n → Parts b q m → ltZ a b ≡ ltb (p + m) (q + n)
+  lt-test {a = pos a} {b = pos b} h k = leb-moved (suc a) b (suc (p + m)) (q + n) (omega arith)
+  lt-test {a = pos a} {b = negsuc b} h k = sym (le-ltb (p + m) (q + n) (omega arith))
+  lt-test {a = negsuc a} {b = pos b} h k = sym (lt-ltb (p + m) (q + n) (omega arith))
+  lt-test {a = negsuc a} {b = negsuc b} h k = leb-moved (suc b) a (suc (p + m)) (q + n) (omega arith)
 
-pub le-test : {a b : ℤ} {p n q m : ℕ} → Parts a p n → Parts b q m → leZ a b ≡ leb (p + m) (q + n)
-le-test {a = pos a} {b = pos b} {p} {n} {q} {m} h k = leb-moved a b (p + m) (q + n) (omega arith)
-le-test {a = pos a} {b = negsuc b} {p} {n} {q} {m} h k = sym (lt-leb (p + m) (q + n) (omega arith))
-le-test {a = negsuc a} {b = pos b} {p} {n} {q} {m} h k = sym (le-leb (p + m) (q + n) (omega arith))
-le-test {a = negsuc a} {b = negsuc b} {p} {n} {q} {m} h k = leb-moved b a (p + m) (q + n) (omega arith)
+  pub le-test : {a b : ℤ} → Parts a p n → Parts b q m → leZ a b ≡ leb (p + m) (q + n)
+  le-test {a = pos a} {b = pos b} h k = leb-moved a b (p + m) (q + n) (omega arith)
+  le-test {a = pos a} {b = negsuc b} h k = sym (lt-leb (p + m) (q + n) (omega arith))
+  le-test {a = negsuc a} {b = pos b} h k = sym (le-leb (p + m) (q + n) (omega arith))
+  le-test {a = negsuc a} {b = negsuc b} h k = leb-moved b a (p + m) (q + n) (omega arith)
 
--- ---- the law of each operation
+-- ---- the parts of each operation's result
 
 module _ {a : ℤ} {p n : ℕ} (h : Parts a p n) where
   pub parts-neg : Parts (negℤ a) n p
   parts-neg = omega (arith, own-neg a)
+
+  pub parts-times : (k : ℕ) → Parts (a *ℤ pos k) (p * k) (n * k)
+  parts-times k = omega (arith, own-product a (pos k), ap (λ (x : ℕ). x * k) (h .parts))
 
   pub parts-floor : (k : ℕ) → 0 < k → Parts (shrZ a k) ((p + n * (k - 1)) / k) n
   parts-floor zero l = absurd (omega arith)
   parts-floor (suc j) l =
       let e : suc j - 1 ≡ j = omega arith in
       rw e (floor-suc a p n j h)
-
-  pub parts-times : (k : ℕ) → Parts (a *ℤ pos k) (p * k) (n * k)
-  parts-times k =
-      omega (arith, own-product a (pos k), cross (above a) (below a) k 0 p n k 0 (h .parts) refl)
 
 module _ {a b : ℤ} {p n q m : ℕ} (h : Parts a p n) (k : Parts b q m) where
   pub parts-add : Parts (a +ℤ b) (p + q) (n + m)
@@ -182,7 +176,10 @@ pub parts-units : {a b : ℤ} {p n q m : ℕ} → Parts a p n → Parts b q m �
 unfolding atQuad
 parts-units h k = parts-product h (parts-floor k unitsInQuad (lit< tt))
 
--- ---- equality, the order and its records
+-- ---- equality and the order
+
+pub parts-is : {a b : ℤ} {p n : ℕ} → a ≡ b → Parts b p n → Parts a p n
+parts-is e h = rw e h
 
 pub parts-same : {a b : ℤ} {p n q m : ℕ} → Parts a p n → Parts b q m → p + m ≡ q + n → a ≡ b
 parts-same {a = pos a} {b = pos b} h k e = ap pos (omega arith)
@@ -190,46 +187,42 @@ parts-same {a = pos a} {b = negsuc b} h k e = absurd (omega arith)
 parts-same {a = negsuc a} {b = pos b} h k e = absurd (omega arith)
 parts-same {a = negsuc a} {b = negsuc b} h k e = ap negsuc (omega arith)
 
-pub parts-is : {a b : ℤ} {p n : ℕ} → a ≡ b → Parts b p n → Parts a p n
-parts-is {p} {n} e h = subst (λ (z : ℤ). Parts z p n) (sym e) h
-
 module _ {a b : ℤ} where
   pub le-parts : a ≤ℤ b → above a + below b ≤ above b + below a
   le-parts h = leb→le _ _ (subst T (le-test (own a) (own b)) (h .le))
 
-  pub lt-parts : a <ℤ b → above a + below b < above b + below a
-  lt-parts h = ltb→lt _ _ (subst T (lt-test (own a) (own b)) (h .lt))
-
   pub parts-le : above a + below b ≤ above b + below a → a ≤ℤ b
   parts-le h = record { le = subst T (sym (le-test (own a) (own b))) (le→leb _ _ h) }
+
+  pub lt-parts : a <ℤ b → above a + below b < above b + below a
+  lt-parts h = ltb→lt _ _ (subst T (lt-test (own a) (own b)) (h .lt))
 
   pub parts-lt : above a + below b < above b + below a → a <ℤ b
   parts-lt h = record { lt = subst T (sym (lt-test (own a) (own b))) (lt→ltb _ _ h) }
 
--- ---- 64 bits
+-- ---- 64 bits, and bounds
 
 pub fits-parts : {z : ℤ} {p n : ℕ} → Parts z p n → p < n + 2 ^ 63 → n ≤ p + 2 ^ 63 → SFits w64 z
 fits-parts {z = pos a} h over under = omega arith
 fits-parts {z = negsuc a} h over under = omega arith
 
+pub fits-within : {k : ℕ} {z : ℤ} → Within k z → k < 2 ^ 63 → SFits w64 z
+fits-within {z} h l = fits-parts (own z) (omega arith) (omega arith)
+
+-- a number of the code fits: `mag z < 2 ^ 63`
 pub mag-parts : (z : ℤ) → (above z ≤ mag z) × (below z ≤ mag z + 1)
 mag-parts (pos n) = omega arith
 mag-parts (negsuc n) = omega arith
-
-pub fits-within : {k : ℕ} {z : ℤ} → Within k z → k < 2 ^ 63 → SFits w64 z
-fits-within {z} h l = fits-parts (own z) (omega arith) (omega arith)
 
 pub within-parts : {k : ℕ} {z : ℤ} → Within k z → (above z ≤ k) × (below z ≤ k)
 within-parts {z} h = ⊎-elim (λ a. omega arith) (λ b. omega arith) (apart z)
 
 pub within-times : {j k m : ℕ} {a : ℤ} → Within j a → m ≤ k → Within (j * k) (a *ℤ pos m)
-within-times {j} {k} {m} {a = pos x} h l =
-    let b : x * m ≤ j * k = mul-le-mul (omega arith) l in
-    omega arith
-within-times {j} {k} {m} {a = negsuc x} h l =
-    let b : suc x * m ≤ j * k = mul-le-mul (omega arith) l in
-    omega (arith, own-neg (pos (suc x * m)))
+within-times {m} {a} h l =
+    let b = within-parts h in
+    omega (arith, parts-times (own a) m, mul-le-mul (b .0) l, mul-le-mul (b .1) l)
 
+-- toward zero is down, of what is not negative
 pub quot-floor : (z : ℤ) (k : ℕ) → NotNegative z → quotZ z (pos k) ≡ shrZ z k
 quot-floor (pos n) k h = refl
 quot-floor (negsuc n) k h = absurd (omega arith)
@@ -238,7 +231,7 @@ pub natural-parts : {z : ℤ} {p n : ℕ} → Parts z p n → n ≤ p → T (non
 natural-parts {z = pos a} h l = (tt, omega arith)
 natural-parts {z = negsuc a} h l = absurd (omega arith)
 
--- ---- rules for `omega`: an equation among the hypotheses, by the parts
+-- ---- the rules for `omega`
 
 module _ (r a : ℤ) where
   pub by-neg : r ≡ negℤ a → above r + above a ≡ below a + below r
@@ -260,13 +253,16 @@ module _ (r a b : ℤ) where
   pub by-sub : r ≡ a -ℤ b → above r + (below a + above b) ≡ (above a + below b) + below r
   by-sub e = parts-is e (parts-sub (own a) (own b)) .parts
 
-  pub by-max : r ≡ maxℤ a b → above r + (below a + below b) ≡ max (above a + below b) (above b + below a) + below r
+  pub by-max : r ≡ maxℤ a b →
+      above r + (below a + below b) ≡ max (above a + below b) (above b + below a) + below r
   by-max e = parts-is e (parts-max (own a) (own b)) .parts
 
-  pub by-min : r ≡ minℤ a b → above r + (below a + below b) ≡ min (above a + below b) (above b + below a) + below r
+  pub by-min : r ≡ minℤ a b →
+      above r + (below a + below b) ≡ min (above a + below b) (above b + below a) + below r
   by-min e = parts-is e (parts-min (own a) (own b)) .parts
 
 pub ruleset signed = (by-sub, by-add, by-neg, by-times, by-half, by-floor, by-max, by-min, le-parts, lt-parts, parts-le, parts-lt)
 
-rules : (a b c d e f g h : ℤ) → Within 100 a → Within 100 b → c ≡ a +ℤ b → d ≡ c -ℤ b → e ≡ maxℤ c d → f ≡ shrZ e 4 → g ≡ f *ℤ pos 3 → h ≡ half g → Within 76 h
-rules a b c d e f g h p q t u v w x y = omega (arith, signed)
+-- for example
+signed-bound : (a b c d e : ℤ) → Within 100 a → b ≤ℤ a → c ≡ maxℤ a b → d ≡ c -ℤ b → e ≡ half c → e ≤ℤ pos 50
+signed-bound a b c d e h l p q r = omega (arith, signed)

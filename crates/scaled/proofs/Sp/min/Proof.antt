@@ -1,7 +1,8 @@
-use borrow.Author.Needs.{needs}
+-- `Sp::min` meets its contract: by the parts, the one that it picks is the lesser.
+-- Assumes nothing.
 use native.Mathlib.Omega.{arith}
-use Rattle.scaled.specs.Linear.{#, least}
-use Rattle.scaled.specs.Made.{made-by}
+use borrow.Author.Needs.{needs}
+use Rattle.scaled.specs.Made.{made-parts}
 use Rattle.scaled.proofs.Sp.min.Statement.{statement}
 use Rattle.scaled.proofs.Sp.min.Tie as tie
 
@@ -9,18 +10,10 @@ less-requires : tie.Need-less-requires
 less-requires c κs = search needs
 
 returns : tie.Need-returns
-returns c =
-    let args = c .before .before .args in
-    let a = # (args .self .0) in
-    let b = # (args .o .0) in
-    made-by b (least a b) (omega (arith, c .before .less .ensures .yes))
+returns c = made-parts (omega (arith, c .before .less .ensures .yes))
 
 returns-2 : tie.Need-returns-2
-returns-2 c =
-    let args = c .before .before .args in
-    let a = # (args .self .0) in
-    let b = # (args .o .0) in
-    made-by a (least a b) (omega (arith, c .before .less .ensures .no))
+returns-2 c = made-parts (omega (arith, c .before .less .ensures .no))
 
 pub min-spec : {M : Type 1} → statement M
 min-spec = tie.close (tie.spec less-requires returns returns-2)

@@ -1,4 +1,5 @@
-use native.Mathlib.Omega.{arith}
+-- `Sp::minus` meets its contract, by `difference-kept`.
+-- Assumes nothing.
 use Rattle.scaled.specs.Made.{made}
 use Rattle.scaled.proofs.Stored.{difference-kept}
 use Rattle.scaled.proofs.Sp.minus.Statement.{statement}

@@ -1,8 +1,10 @@
-use borrow.Author.Needs.{needs}
+-- `Sp::of_word` meets its contract: a word is read back as itself.
+-- Assumes nothing.
 use native.Mathlib.Omega.{arith}
-use Rattle.scaled.specs.Made.{made}
+use borrow.Author.Needs.{needs}
 use mir.Syntax.{w64}
 use mir.ValLaws.{toZ-pos}
+use Rattle.scaled.specs.Made.{made}
 use Rattle.scaled.proofs.Sp.of_word.Statement.{statement}
 use Rattle.scaled.proofs.Sp.of_word.Tie as tie
 

@@ -1,5 +1,6 @@
+-- `Sp::part` meets its contract, by `part-kept`: of what is not negative, toward zero is down.
+-- Assumes nothing.
 use borrow.Author.Needs.{needs}
-use native.Mathlib.Omega.{arith}
 use Rattle.scaled.specs.Made.{made}
 use Rattle.scaled.proofs.Stored.{part-kept}
 use Rattle.scaled.proofs.Sp.part.Statement.{statement}
