@@ -15,10 +15,11 @@ use Rattle.rules.specs.Limits.{limited}
 use Rattle.rules.specs.Scripts.{dropUp, dropDown, subscriptDown, leastUp, superscriptUp, pairDown, gapDown, ψOf, lifted, spread, pairShifts, scripted}
 use Rattle.rules.specs.Fractions.{fractionShifts, parted, shiftsWithoutBar, cleared, shiftsWithBar, fraction}
 use Rattle.rules.specs.Arrange.{arrange}
-use Rattle.layout.specs.Nodes.{moved, signedBytes, nodeBytes, bytesOf}
-use Rattle.layout.specs.Setting.{found, successor, enlarged, symbolIn, symbolPart, ruleNodes, itemNodes, itemBox, placed, nextClass, setItems, setItem, setField, setList}
-use Rattle.layout.specs.Missing.{absentAt, missingItems, missingItem, missingField}
-use Rattle.layout.specs.Fitting.{nodesFit, boxFits, itemsFit, itemFits, fieldFits, listFits}
+use Rattle.nodes.specs.Nodes.{moved, signedBytes, nodeBytes, bytesOf}
+use Rattle.walk.specs.Setting.{found, successor, enlarged, symbolIn, symbolPart, ruleNodes, itemNodes, itemBox, placed, nextClass, setItems, setItem, setField, setList}
+use Rattle.walk.specs.Missing.{absentAt, missingItems, missingItem, missingField}
+use Rattle.nodes.specs.Bounds.{nodesFit}
+use Rattle.walk.specs.Fitting.{boxFits, itemsFit, itemFits, fieldFits, listFits}
 use Rattle.layout.specs.Answers.{ifFits, ifPresent, ifRead, ifGood, ifStyle, resultOf, measuredBy, measured, hasRoom, setBy, setting, bufferBy, bufferAfter}
 
 unfoldable pub definitions : Unit {0}

@@ -6,8 +6,8 @@ use mathlib.Core.List.{List, [], _∷_, _++_, map}
 use Prim.Native.Nat.{ℕ}
 use lib.IntN.{ℤ, pos, negℤ}
 use Rattle.rules.specs.Boxes.{Size}
-use Rattle.layout.specs.Nodes.{Node, glyph, rule}
-use Rattle.layout.specs.Setting.{Box}
+use Rattle.nodes.specs.Nodes.{Node, glyph, rule}
+use Rattle.walk.specs.Setting.{Box}
 use Rattle.layout.specs.Answers.{Result, boxed, resultOf, Answered, measured, setting, bufferAfter}
 use Rattle.layout.proofs.BenchTable.{benchTable}
 use Rattle.layout.proofs.Definitions.{definitions}

@@ -15,10 +15,10 @@ use Rattle.formula.specs.Reading.{Read, good, fault, readFormula}
 use Rattle.rules.specs.declared.Style.{Style}
 use Rattle.rules.specs.Styles.{styleOf}
 use Rattle.rules.specs.Boxes.{Size, zeroSize}
-use Rattle.layout.specs.Nodes.{Node, bytesOf, bytesInNode}
-use Rattle.layout.specs.Setting.{Box, setList}
-use Rattle.layout.specs.Missing.{missingItems}
-use Rattle.layout.specs.Fitting.{listFits}
+use Rattle.nodes.specs.Nodes.{Node, bytesOf, bytesInNode}
+use Rattle.walk.specs.Setting.{Box, setList}
+use Rattle.walk.specs.Missing.{missingItems}
+use Rattle.walk.specs.Fitting.{listFits}
 
 -- ---- the answer numbers; 3 and 4 are those of the reading
 

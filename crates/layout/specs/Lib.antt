@@ -1,5 +1,1 @@
-pub mod Nodes
-pub mod Setting
-pub mod Missing
-pub mod Fitting
 pub mod Answers

@@ -18,9 +18,9 @@ use Rattle.rules.specs.declared.Style.{Style}
 use Rattle.rules.specs.Styles.{fontSize}
 use Rattle.rules.specs.Classes.{Neighbour, classOf, changedClass}
 use Rattle.rules.specs.Spacing.{spaceBefore}
-use Rattle.rules.specs.Boxes.{Size, Shape, nothing, char, box, Place, at, Rule, Arranged}
+use Rattle.rules.specs.Boxes.{Size, Shape, nothing, char, box, Place, Rule, Arranged, zeroSize}
 use Rattle.rules.specs.Arrange.{arrange, firstStyle, secondStyle, thirdStyle, enlarges}
-use Rattle.layout.specs.Nodes.{Node, glyph, rule, moved}
+use Rattle.nodes.specs.Nodes.{Node, glyph, rule, moved}
 
 pub record Box : Type 0 where
   pub size : Size
@@ -66,13 +66,19 @@ symbolPart size family (some s) =
 
 -- ---- an item, at its own reference point: field 1, line or bar, field 2, field 3
 
+abbrev pub movedTo : Place → List Node → List Node
+movedTo p ns = moved (p .across) (p .up) ns
+
 unfoldable pub ruleNodes : Option Rule → List Node
 ruleNodes none = []
 ruleNodes (some r) = rule (r .place .across) (r .place .up) (r .width) (r .thickness) ∷ []
 
 unfoldable pub itemNodes : Arranged → Part → Part → Part → List Node
 itemNodes a x y z =
-    moved (a .first) (x .nodes) ++ ruleNodes (a .rule) ++ moved (a .second) (y .nodes) ++ moved (a .third) (z .nodes)
+    movedTo (a .first) (x .nodes)
+    ++ ruleNodes (a .rule)
+    ++ movedTo (a .second) (y .nodes)
+    ++ movedTo (a .third) (z .nodes)
 
 unfoldable pub itemBox : Font → Style → Kind → Part → Part → Part → Box
 itemBox F s kind x y z =
@@ -87,7 +93,7 @@ pub record Line : Type 0 where
   pub box : Box
 
 abbrev pub emptyBox : Box
-emptyBox = record { size = record { width = pos 0; height = pos 0; depth = pos 0 }; nodes = [] }
+emptyBox = record { size = zeroSize; nodes = [] }
 
 abbrev pub start : Line
 start = record { left = none; box = emptyBox }
@@ -103,7 +109,7 @@ beside b space c =
             height = maxℤ (b .size .height) (c .size .height);
             depth = maxℤ (b .size .depth) (c .size .depth);
           };
-      nodes = b .nodes ++ moved (at x (pos 0)) (c .nodes);
+      nodes = b .nodes ++ moved x (pos 0) (c .nodes);
     }
 
 abbrev pub kerned : Box → ℤ → Box

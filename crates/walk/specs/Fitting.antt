@@ -2,34 +2,16 @@
 -- as measured from its own reference point. A node so comes to be measured from the reference point of each list around it.
 -- Assumes nothing.
 use mathlib.Core.Bool.{Bool, true, false, _&&_}
-use mathlib.Core.List.{List, [], _∷_}
-use Prim.Native.Nat.{ℕ}
-use lib.Dec.{leb}
-use lib.IntN.{ℤ, natAbs}
 use Rattle.font.specs.Font.{Font}
 use Rattle.formula.specs.Tree.{Items, Item, Field, nil, cons, noad, kern, empty, symbol, list}
 use Rattle.rules.specs.declared.Style.{Style}
 use Rattle.rules.specs.Boxes.{Size}
 use Rattle.rules.specs.Arrange.{firstStyle, secondStyle, thirdStyle}
-use Rattle.layout.specs.Nodes.{Node, glyph, rule}
-use Rattle.layout.specs.Setting.{Box, setList}
-
-abbrev pub greatestLength : ℕ
-greatestLength = 1_073_741_823
-
-abbrev pub within : ℤ → Bool
-within z = leb (natAbs z) greatestLength
+use Rattle.nodes.specs.Bounds.{within, nodesFit}
+use Rattle.walk.specs.Setting.{Box, setList}
 
 abbrev pub sizeFits : Size → Bool
 sizeFits z = within (z .width) && within (z .height) && within (z .depth)
-
-abbrev pub nodeFits : Node → Bool
-nodeFits (glyph x y size family code) = within x && within y
-nodeFits (rule x y width thickness) = within x && within y
-
-unfoldable pub nodesFit : List Node → Bool
-nodesFit [] = true
-nodesFit (n ∷ ns) = nodeFits n && nodesFit ns
 
 unfoldable pub boxFits : Box → Bool
 boxFits b = sizeFits (b .size) && nodesFit (b .nodes)

@@ -5,20 +5,20 @@ use Prim.Native.Nat.{ℕ}
 use lib.IntN.{ℤ, pos, _+ℤ_}
 use Rattle.scaled.specs.Length.{maxℤ}
 use Rattle.scaled.specs.Words.{wordOf, fourBytes}
-use Rattle.rules.specs.Boxes.{Place}
 
 -- x and y from the reference point of the list, y upward
 pub data Node : Type 0 where
   glyph : ℤ → ℤ → ℕ → ℕ → ℕ → Node  -- x, y, size, family, code
   rule : ℤ → ℤ → ℤ → ℤ → Node  -- x, y of the lower left corner, width, thickness
 
-abbrev pub movedNode : Place → Node → Node
-movedNode by (glyph x y size family code) = glyph (x +ℤ by .across) (y +ℤ by .up) size family code
-movedNode by (rule x y width thickness) = rule (x +ℤ by .across) (y +ℤ by .up) width thickness
+-- moved right by dx and up by dy
+abbrev pub movedNode : ℤ → ℤ → Node → Node
+movedNode dx dy (glyph x y size family code) = glyph (x +ℤ dx) (y +ℤ dy) size family code
+movedNode dx dy (rule x y width thickness) = rule (x +ℤ dx) (y +ℤ dy) width thickness
 
-unfoldable pub moved : Place → List Node → List Node
-moved by [] = []
-moved by (n ∷ ns) = movedNode by n ∷ moved by ns
+unfoldable pub moved : ℤ → ℤ → List Node → List Node
+moved dx dy [] = []
+moved dx dy (n ∷ ns) = movedNode dx dy n ∷ moved dx dy ns
 
 abbrev pub bytesInNode : ℕ
 bytesInNode = 18

@@ -1,0 +1,3 @@
+pub mod Setting
+pub mod Missing
+pub mod Fitting
