@@ -1,2 +1,5 @@
 pub mod Length
 pub mod Words
+pub mod Signed
+pub mod Linear
+pub mod Made

@@ -1,0 +1,16 @@
+-- `Sp::negated` meets its contract: by the parts, 0 − a is the negation of a.
+-- Assumes nothing.
+use native.Mathlib.Omega.{arith}
+use borrow.Author.Needs.{needs}
+use Rattle.scaled.specs.Made.{made-parts}
+use Rattle.scaled.proofs.Sp.negated.Statement.{statement}
+use Rattle.scaled.proofs.Sp.negated.Tie as tie
+
+minus-requires : tie.Need-minus-requires
+minus-requires c κs = search needs
+
+returns : tie.Need-returns
+returns c = made-parts (omega arith)
+
+pub negated-spec : {M : Type 1} → statement M
+negated-spec = tie.close (tie.spec minus-requires returns)
