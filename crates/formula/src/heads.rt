@@ -1,5 +1,15 @@
 // What stands at the head of an item and of a field. Each function is total: any bytes may come.
 
+ghost use mathlib.Core.Path.{_≡_};
+ghost use mathlib.Core.Bool.{_&&_};
+ghost use mathlib.Core.Option.{some};
+ghost use Prim.Native.Nat.{_^_, _≤_, _<_};
+ghost use lib.Dec.{eqb};
+ghost use lib.ListN.{length, getElem?};
+ghost use Rattle.scaled.specs.Words.{littleEndian, signedWord};
+ghost use Rattle.formula.specs.Tree.{openingBytes};
+ghost use Rattle.formula.specs.Heads.{markOf, classes, limitKinds, isOp, isDisplayOnly, atomOf, atomOpening, fractionOpening, kernWithin, kernOpening, opens, openingOf, symbolHead, listHead, fieldHead};
+ghost use Rattle.formula.specs.Places.{headBytes, hasThird};
 use scaled::Sp;
 use crate::{Class, Limits, Bar, Kind, Mark, Opening, FieldHead};
 
@@ -7,23 +17,33 @@ const GREATEST_KERN: i64 = 8_388_607;
 const GREATEST_FAMILY: u8 = 15;
 
 // What opens with the first byte of s.
-pub fn opening(s: &[u8]) -> Opening {
+pub fn opening(s: &[u8]) -> Opening
+    ensures { λ r. ⌜ r ≡ openingOf (now (s .entry)) ⌝ }
+{
     if s.len() < 2 {
         return Opening::NoItem;
     }
-    let m = mark(s[0], s[1]);
-    match m {
-        Mark::AT => atom_opening(&s[2..]),
+    opened(mark(s[0], s[1]), &s[2..])
+}
+
+// What opens behind a mark.
+fn opened(mark: Mark, s: &[u8]) -> Opening
+    ensures { λ r. ⌜ r ≡ opens mark (now (s .entry)) ⌝ }
+{
+    match mark {
+        Mark::AT => atom_opening(s),
         Mark::OV => Opening::Fields(Kind::Over),
         Mark::UN => Opening::Fields(Kind::Under),
-        Mark::FR => fraction_opening(&s[2..]),
-        Mark::KN => kern_opening(&s[2..]),
+        Mark::FR => fraction_opening(s),
+        Mark::KN => kern_opening(s),
         Mark::Unknown => Opening::NoItem,
     }
 }
 
 // How many bytes an item has before its fields.
-pub fn opening_bytes(kind: Kind) -> usize {
+pub fn opening_bytes(kind: Kind) -> usize
+    ensures { λ r. ⌜ r ≡ openingBytes kind ⌝ }
+{
     match kind {
         Kind::Atom(_, _) => 4,
         Kind::Over => 2,
@@ -33,7 +53,9 @@ pub fn opening_bytes(kind: Kind) -> usize {
 }
 
 // A fraction has two fields, any other kind three.
-pub fn has_third(kind: Kind) -> bool {
+pub fn has_third(kind: Kind) -> bool
+    ensures { λ r. ⌜ r ≡ hasThird kind ⌝ }
+{
     match kind {
         Kind::Atom(_, _) => true,
         Kind::Over => true,
@@ -42,11 +64,15 @@ pub fn has_third(kind: Kind) -> bool {
     }
 }
 
-fn both(a: u8, b: u8, x: u8, y: u8) -> bool {
+fn both(a: u8, b: u8, x: u8, y: u8) -> bool
+    ensures { λ r. ⌜ r ≡ (eqb a x && eqb b y) ⌝ }
+{
     if a == x { b == y } else { false }
 }
 
-fn mark(a: u8, b: u8) -> Mark {
+fn mark(a: u8, b: u8) -> Mark
+    ensures { λ r. ⌜ r ≡ markOf a b ⌝ }
+{
     if both(a, b, b'A', b'T') {
         return Mark::AT;
     }
@@ -65,7 +91,9 @@ fn mark(a: u8, b: u8) -> Mark {
     Mark::Unknown
 }
 
-fn atom_opening(s: &[u8]) -> Opening {
+fn atom_opening(s: &[u8]) -> Opening
+    ensures { λ r. ⌜ r ≡ atomOpening (now (s .entry)) ⌝ }
+{
     if s.len() < 2 {
         return Opening::NoItem;
     }
@@ -73,7 +101,9 @@ fn atom_opening(s: &[u8]) -> Opening {
 }
 
 // Limits are 0 unless the class is Op.
-fn atom(class: u8, limits: u8) -> Opening {
+fn atom(class: u8, limits: u8) -> Opening
+    ensures { λ r. ⌜ r ≡ atomOf (getElem? classes class) (getElem? limitKinds limits) ⌝ }
+{
     if class > 7 {
         return Opening::NoItem;
     }
@@ -91,7 +121,10 @@ fn atom(class: u8, limits: u8) -> Opening {
     Opening::NoItem
 }
 
-fn class_of(n: u8) -> Class {
+fn class_of(n: u8) -> Class
+    requires { ⌜ n < 8 ⌝ }
+    ensures { λ r. ⌜ getElem? classes n ≡ some r ⌝ }
+{
     match n {
         0 => Class::Ord,
         1 => Class::Op,
@@ -104,7 +137,10 @@ fn class_of(n: u8) -> Class {
     }
 }
 
-fn limits_of(n: u8) -> Limits {
+fn limits_of(n: u8) -> Limits
+    requires { ⌜ n < 3 ⌝ }
+    ensures { λ r. ⌜ getElem? limitKinds n ≡ some r ⌝ }
+{
     match n {
         0 => Limits::DisplayOnly,
         1 => Limits::Always,
@@ -112,21 +148,34 @@ fn limits_of(n: u8) -> Limits {
     }
 }
 
-pub fn is_op(class: Class) -> bool {
+pub fn is_op(class: Class) -> bool
+    ensures { λ r. ⌜ r ≡ isOp class ⌝ }
+{
     match class {
+        Class::Ord => false,
         Class::Op => true,
-        _ => false,
+        Class::Bin => false,
+        Class::Rel => false,
+        Class::Open => false,
+        Class::Close => false,
+        Class::Punct => false,
+        Class::Inner => false,
     }
 }
 
-fn is_display_only(limits: Limits) -> bool {
+fn is_display_only(limits: Limits) -> bool
+    ensures { λ r. ⌜ r ≡ isDisplayOnly limits ⌝ }
+{
     match limits {
         Limits::DisplayOnly => true,
-        _ => false,
+        Limits::Always => false,
+        Limits::Never => false,
     }
 }
 
-fn fraction_opening(s: &[u8]) -> Opening {
+fn fraction_opening(s: &[u8]) -> Opening
+    ensures { λ r. ⌜ r ≡ fractionOpening (now (s .entry)) ⌝ }
+{
     if s.len() == 0 {
         return Opening::NoItem;
     }
@@ -140,14 +189,18 @@ fn fraction_opening(s: &[u8]) -> Opening {
     Opening::NoItem
 }
 
-fn kern_opening(s: &[u8]) -> Opening {
+fn kern_opening(s: &[u8]) -> Opening
+    ensures { λ r. ⌜ r ≡ kernOpening (now (s .entry)) ⌝ }
+{
     if s.len() < 4 {
         return Opening::NoItem;
     }
     kern(signed(word(s)))
 }
 
-fn kern(n: Sp) -> Opening {
+fn kern(n: Sp) -> Opening
+    ensures { λ r. ⌜ r ≡ kernWithin (n .0) ⌝ }
+{
     if n.less(Sp(-GREATEST_KERN)) {
         return Opening::NoItem;
     }
@@ -158,7 +211,9 @@ fn kern(n: Sp) -> Opening {
 }
 
 // The number whose four-byte two's complement is w.
-fn signed(w: u32) -> Sp {
+fn signed(w: u32) -> Sp
+    ensures { λ r. ⌜ r .0 ≡ signedWord w ⌝ }
+{
     if w < 2147483648 {
         Sp(w as i64)
     } else {
@@ -166,35 +221,46 @@ fn signed(w: u32) -> Sp {
     }
 }
 
-fn wide(b: u8) -> u32 {
+fn wide(b: u8) -> u32
+    ensures { λ r. ⌜ (r ≡ b) × (r < 256) ⌝ }
+{
     b as u32
 }
 
 // The number of the first four bytes.
-fn word(s: &[u8]) -> u32 {
+fn word(s: &[u8]) -> u32
+    requires { ⌜ 4 ≤ length (now s) ⌝ }
+    ensures { λ r. ⌜ r ≡ littleEndian 4 (now (s .entry)) ⌝ }
+{
     wide(s[0]) + wide(s[1]) * 256 + wide(s[2]) * 65536 + wide(s[3]) * 16777216
 }
 
 // What the field says whose kind byte is the first of s; s goes to the end of the list that holds the item.
-pub fn field_head(s: &[u8]) -> FieldHead {
+pub fn field_head(s: &[u8]) -> FieldHead
+    ensures { λ r. ⌜ r ≡ fieldHead (now (s .entry)) ⌝ }
+{
     if s.len() == 0 {
         return FieldHead::NoField;
     }
     let kind = s[0];
+    let rest = &s[1..];
     if kind == 0 {
         return FieldHead::Empty;
     }
     if kind == 1 {
-        return symbol_head(&s[1..]);
+        return symbol_head(rest);
     }
     if kind == 2 {
-        return list_head(&s[1..]);
+        return list_head(rest);
     }
     FieldHead::NoField
 }
 
 // How many bytes a field has, by its head.
-pub fn field_bytes(head: FieldHead) -> usize {
+pub fn field_bytes(head: FieldHead) -> usize
+    requires { ⌜ headBytes head < 2 ^ 32 ⌝ }
+    ensures { λ r. ⌜ r ≡ headBytes head ⌝ }
+{
     match head {
         FieldHead::NoField => 0,
         FieldHead::Empty => 1,
@@ -204,7 +270,9 @@ pub fn field_bytes(head: FieldHead) -> usize {
     }
 }
 
-fn symbol_head(s: &[u8]) -> FieldHead {
+fn symbol_head(s: &[u8]) -> FieldHead
+    ensures { λ r. ⌜ r ≡ symbolHead (now (s .entry)) ⌝ }
+{
     if s.len() < 2 {
         return FieldHead::NoField;
     }
@@ -215,11 +283,13 @@ fn symbol_head(s: &[u8]) -> FieldHead {
     FieldHead::Symbol(family, s[1])
 }
 
-fn list_head(s: &[u8]) -> FieldHead {
+fn list_head(s: &[u8]) -> FieldHead
+    ensures { λ r. ⌜ r ≡ listHead (now (s .entry)) ⌝ }
+{
     if s.len() < 2 {
         return FieldHead::CutSublist;
     }
-    let n = (s[0] as usize) + (s[1] as usize) * 256;
+    let n = (wide(s[0]) + wide(s[1]) * 256) as usize;
     if n > s.len() - 2 {
         return FieldHead::CutSublist;
     }

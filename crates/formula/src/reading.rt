@@ -1,5 +1,12 @@
 // The reading of a formula: the first fault in reading order, or none. Nothing is copied and nothing written.
 
+ghost use mathlib.Core.Path.{_≡_};
+ghost use Prim.Native.Nat.{_≤_};
+ghost use lib.ListN.{length};
+ghost use Rattle.formula.specs.declared.Opening.the-variants.{Fields};
+ghost use Rattle.formula.specs.Heads.{openingOf};
+ghost use Rattle.formula.specs.Reading.{fieldAt, noadAt, itemBy, read, readFormula};
+ghost use Rattle.formula.specs.Verdicts.{told, stepOf};
 use crate::{Kind, Opening, FieldHead, Verdict, Step};
 use crate::heads::{opening, opening_bytes, has_third, field_head};
 
@@ -9,7 +16,9 @@ const UNREADABLE: u8 = 3;
 const TOO_DEEP: u8 = 4;
 
 // The formula itself is the first level.
-pub fn read_formula(s: &[u8]) -> Verdict {
+pub fn read_formula(s: &[u8]) -> Verdict
+    ensures { λ r. ⌜ r ≡ told (readFormula (now (s .entry))) ⌝ }
+{
     if s.len() > FORMULA_LIMIT {
         return Verdict::Fault(UNREADABLE, 0);
     }
@@ -17,7 +26,9 @@ pub fn read_formula(s: &[u8]) -> Verdict {
 }
 
 // Reads a list whole; `levels` is how many levels may still be entered below it.
-pub fn read_list(s: &[u8], levels: usize) -> Verdict {
+pub fn read_list(s: &[u8], levels: usize) -> Verdict
+    ensures { λ r. ⌜ r ≡ told (read levels (now (s .entry))) ⌝ }
+{
     let mut at: usize = 0;
     while at < s.len() {
         let r = read_item(&s[at..], levels);
@@ -34,7 +45,9 @@ pub fn read_list(s: &[u8], levels: usize) -> Verdict {
 }
 
 // Reads the item whose first byte is the first of s, which goes to the end of its list.
-fn read_item(s: &[u8], levels: usize) -> Step {
+fn read_item(s: &[u8], levels: usize) -> Step
+    ensures { λ r. ⌜ r ≡ stepOf (itemBy read levels (now (s .entry))) ⌝ }
+{
     let o = opening(s);
     match o {
         Opening::NoItem => Step::Stop(UNREADABLE, 0),
@@ -44,7 +57,10 @@ fn read_item(s: &[u8], levels: usize) -> Step {
 }
 
 // Reads the fields of such an item, in order.
-fn read_noad(s: &[u8], kind: Kind, levels: usize) -> Step {
+fn read_noad(s: &[u8], kind: Kind, levels: usize) -> Step
+    requires { ⌜ openingOf (now s) ≡ Fields kind ⌝ }
+    ensures { λ r. ⌜ r ≡ stepOf (noadAt read levels (now (s .entry)) kind) ⌝ }
+{
     let a = read_field(s, opening_bytes(kind), levels);
     let Step::Next(second) = a else {
         return a;
@@ -60,7 +76,10 @@ fn read_noad(s: &[u8], kind: Kind, levels: usize) -> Step {
 }
 
 // Reads the field whose kind byte stands at `at` of its item.
-fn read_field(s: &[u8], at: usize, levels: usize) -> Step {
+fn read_field(s: &[u8], at: usize, levels: usize) -> Step
+    requires { ⌜ at ≤ length (now s) ⌝ }
+    ensures { λ r. ⌜ r ≡ stepOf (fieldAt read levels (now (s .entry)) at) ⌝ }
+{
     let h = field_head(&s[at..]);
     match h {
         FieldHead::NoField => Step::Stop(UNREADABLE, 0),
