@@ -1,3 +1,5 @@
 pub mod Tree
 pub mod Heads
 pub mod Reading
+pub mod Verdicts
+pub mod Places
