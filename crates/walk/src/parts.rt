@@ -1,0 +1,50 @@
+// A field that has been set alone, at its own reference point.
+
+use nodes::{Hull, put_glyph};
+use nodes::hulls::point;
+use rules::Style;
+use rules::boxes::Shape;
+use rules::styles::font_size;
+use scaled::Sp;
+use crate::symbols::{Sought, symbol_in};
+
+// Its shape, its nodes and how far they reach; large where a list in it passes the greatest length.
+pub struct Part {
+    pub shape: Shape,
+    pub count: usize,
+    pub hull: Hull,
+    pub large: bool,
+}
+
+// A field, or the place of its first symbol that the font lacks.
+pub enum FieldSet {
+    Whole(Part),
+    Missing(usize),
+}
+
+pub fn empty_part() -> Part {
+    Part {
+        shape: Shape::Nothing,
+        count: 0,
+        hull: Hull::Empty,
+        large: false,
+    }
+}
+
+// A symbol's glyph stands at the reference point; a symbol that is missing is so at the field's kind byte.
+pub fn symbol_part(table: &[u8], style: Style, enlarge: bool, family: u8, code: u8, buf: &mut [u8]) -> FieldSet {
+    let size = font_size(style) as u8;
+    let sought = symbol_in(table, size, enlarge, family, code);
+    match sought {
+        Sought::Present(symbol) => {
+            put_glyph(buf, Sp(0), Sp(0), size, family, symbol.code);
+            FieldSet::Whole(Part {
+                shape: Shape::Char(symbol.metrics),
+                count: 1,
+                hull: point(Sp(0), Sp(0)),
+                large: false,
+            })
+        }
+        Sought::Absent => FieldSet::Missing(0),
+    }
+}
