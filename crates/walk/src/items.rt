@@ -1,11 +1,11 @@
-// An item whose fields have been set is arranged and put at its place in the list.
+// An item whose fields have been set, arranged and put at its place in the list.
 
-use formula::{Bar, Kind};
+use formula::{Bar, Class, Kind};
 use nodes::{Hull, move_nodes, put_rule, room};
 use nodes::hulls::{joined, moved, point};
 use rules::Style;
 use rules::arrange::arrange;
-use rules::boxes::{Arranged, Line as Drawn, Place};
+use rules::boxes::{Arranged, Line as Drawn, Place, Shape};
 use rules::classes::{Neighbour, changed_class, class_of};
 use rules::parameters::{Parameters, RULE_THICKNESS, parameter};
 use rules::spacing::space_before;
@@ -37,76 +37,93 @@ fn bar_count(p: Parameters, style: Style, bar: Bar) -> usize {
     }
 }
 
-// The three fields of an item, set one behind the other, with room for its rule behind the first.
-pub struct Fields {
-    pub first: Part,
-    pub second: Part,
-    pub third: Part,
+// Where an item goes: its class after its change, x in the list, and how it is arranged.
+pub struct Setting {
+    pub class: Class,
+    pub x: Sp,
+    pub arranged: Arranged,
 }
 
-// The item's class is changed between its neighbours, space goes before it, and its nodes are moved to their places.
-pub fn place(p: Parameters, style: Style, kind: Kind, right: Neighbour, fields: Fields, line: Line, buf: &mut [u8]) -> Line {
+// The item's class is changed between its neighbours, and space goes before it.
+pub fn setting_of(p: Parameters, style: Style, kind: Kind, right: Neighbour, line: Line, x: Shape, y: Shape, z: Shape) -> Setting {
     let left = line.left;
-    let class = changed_class(left, class_of(kind), right);
     let size = line.size;
-    let x = size.width.plus(space_before(p, style, left, class));
-    let a = fields.first;
-    let b = fields.second;
-    let c = fields.third;
-    let arranged = arrange(p, style, kind, a.shape, b.shape, c.shape);
-    let rules = rule_count(p, style, kind);
-    draw(arranged, x, a.count, rules, b.count, c.count, buf);
+    let class = changed_class(left, class_of(kind), right);
+    Setting {
+        class,
+        x: size.width.plus(space_before(p, style, left, class)),
+        arranged: arrange(p, style, kind, x, y, z),
+    }
+}
+
+// Some of the fields of an item, set and moved to their places: how many nodes, how far they reach, and whether a list in
+// them passes the greatest length.
+pub struct Run {
+    pub count: usize,
+    pub hull: Hull,
+    pub large: bool,
+}
+
+// Moves a field's nodes, at the front of buf, to their place.
+pub fn moved_part(part: Part, x: Sp, place: Place, buf: &mut [u8]) -> Run {
+    let dx = x.plus(place.across);
+    let dy = place.up;
+    let count = part.count;
+    move_nodes(buf, count, dx, dy);
+    Run {
+        count,
+        hull: moved(part.hull, dx, dy),
+        large: part.large,
+    }
+}
+
+// One run behind another.
+pub fn behind(a: Run, b: Run) -> Run {
+    Run {
+        count: a.count + b.count,
+        hull: joined(a.hull, b.hull),
+        large: a.large || b.large,
+    }
+}
+
+// The item's own rule, at the front of buf.
+pub fn ruled(rule: Drawn, x: Sp, buf: &mut [u8]) -> Run {
+    match rule {
+        Drawn::Nothing => Run {
+            count: 0,
+            hull: Hull::Empty,
+            large: false,
+        },
+        Drawn::Ruled(r) => {
+            let place = r.place;
+            let across = x.plus(place.across);
+            put_rule(buf, across, place.up, r.width, r.thickness);
+            Run {
+                count: 1,
+                hull: point(across, place.up),
+                large: false,
+            }
+        }
+    }
+}
+
+// The first field's nodes, at the front of buf, are moved to their place, and the rule goes behind them.
+pub fn front(part: Part, setting: Setting, buf: &mut [u8]) -> Run {
+    let arranged = setting.arranged;
+    let x = setting.x;
+    let first = moved_part(part, x, arranged.first, buf);
+    let j = room(part.count, buf.len());
+    behind(first, ruled(arranged.rule, x, &mut buf[j..]))
+}
+
+// The line with the item behind it.
+pub fn finished(line: Line, setting: Setting, run: Run) -> Line {
+    let arranged = setting.arranged;
     let item = Item {
         size: arranged.size,
-        count: a.count + rules + b.count + c.count,
-        hull: item_hull(arranged, x, a.hull, b.hull, c.hull),
-        large: a.large || b.large || c.large,
+        count: run.count,
+        hull: run.hull,
+        large: run.large,
     };
-    extended(line, class, x, item)
-}
-
-// Moves the runs of nodes of the three fields to their places, and puts the rule between the first and the second.
-fn draw(arranged: Arranged, x: Sp, first: usize, rules: usize, second: usize, third: usize, buf: &mut [u8]) {
-    move_to(buf, first, x, arranged.first);
-    let j = room(first, buf.len());
-    draw_rule(arranged.rule, x, &mut buf[j..]);
-    let k = room(first + rules, buf.len());
-    move_to(&mut buf[k..], second, x, arranged.second);
-    let l = room(first + rules + second, buf.len());
-    move_to(&mut buf[l..], third, x, arranged.third);
-}
-
-fn move_to(buf: &mut [u8], count: usize, x: Sp, place: Place) {
-    move_nodes(buf, count, x.plus(place.across), place.up);
-}
-
-fn draw_rule(line: Drawn, x: Sp, buf: &mut [u8]) {
-    match line {
-        Drawn::Nothing => {}
-        Drawn::Ruled(rule) => {
-            let place = rule.place;
-            put_rule(buf, x.plus(place.across), place.up, rule.width, rule.thickness);
-        }
-    }
-}
-
-// How far the nodes of an item reach, as the list has them.
-fn item_hull(arranged: Arranged, x: Sp, a: Hull, b: Hull, c: Hull) -> Hull {
-    let first = joined(placed(a, x, arranged.first), rule_hull(arranged.rule, x));
-    let second = joined(first, placed(b, x, arranged.second));
-    joined(second, placed(c, x, arranged.third))
-}
-
-fn placed(h: Hull, x: Sp, place: Place) -> Hull {
-    moved(h, x.plus(place.across), place.up)
-}
-
-fn rule_hull(line: Drawn, x: Sp) -> Hull {
-    match line {
-        Drawn::Nothing => Hull::Empty,
-        Drawn::Ruled(rule) => {
-            let place = rule.place;
-            point(x.plus(place.across), place.up)
-        }
-    }
+    extended(line, setting.class, setting.x, item)
 }

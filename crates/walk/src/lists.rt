@@ -1,12 +1,15 @@
 // The cycle: a list's setter calls the item's, that the field's, and that the list's.
+// The nodes of an item stand in the order first field, rule, second field, third field. Each field is set into the front of
+// the rest of the buffer, and once all three are there their nodes are moved, from the last to the first.
 
 use formula::{FieldHead, Kind, Opening};
-use formula::heads::{field_head, opening};
+use formula::heads::{field_head, has_third, opening};
 use nodes::room;
 use rules::Style;
 use rules::arrange::{enlarges, first_style, second_style, third_style};
+use rules::boxes::Shape;
 use rules::parameters::Parameters;
-use crate::items::{Fields, place, rule_count};
+use crate::items::{Run, Setting, behind, finished, front, moved_part, rule_count, setting_of};
 use crate::lines::{Line, kerned, list_part, start};
 use crate::parts::{FieldSet, Part, empty_part, symbol_part};
 use crate::places::{Places, next_class, places_of};
@@ -23,13 +26,18 @@ pub enum Step {
     Missing(usize),
 }
 
+// The last fields of an item at their places, and where the item goes; or the place of the first missing symbol.
+pub enum LastSet {
+    Whole(Setting, Run),
+    Missing(usize),
+}
+
 // Sets a list at its own reference point, into the front of buf.
 pub fn set_list(table: &[u8], p: Parameters, style: Style, s: &[u8], buf: &mut [u8]) -> ListSet {
     let mut line = start();
     let mut at: usize = 0;
     while at < s.len() {
-        let count = line.count;
-        let j = room(count, buf.len());
+        let j = room(line.count, buf.len());
         let step = set_item(table, p, style, &s[at..], line, &mut buf[j..]);
         match step {
             Step::Next(next, bytes) => {
@@ -58,45 +66,71 @@ fn set_item(table: &[u8], p: Parameters, style: Style, s: &[u8], line: Line, buf
 fn set_first(table: &[u8], p: Parameters, style: Style, kind: Kind, s: &[u8], line: Line, buf: &mut [u8]) -> Step {
     let at = places_of(s, kind);
     let first = at.first;
-    let second = at.second;
-    let x = set_field(table, p, first_style(kind, style), enlarges(kind, style), &s[first..second], buf);
+    let x = set_field(table, p, first_style(kind, style), enlarges(kind, style), &s[first..], buf);
     match x {
-        FieldSet::Whole(a) => set_second(table, p, style, kind, s, at, a, line, buf),
+        FieldSet::Whole(a) => set_behind(table, p, style, kind, s, at, line, a, buf),
         FieldSet::Missing(place) => Step::Missing(first + place),
     }
 }
 
-fn set_second(table: &[u8], p: Parameters, style: Style, kind: Kind, s: &[u8], at: Places, a: Part, line: Line, buf: &mut [u8]) -> Step {
-    let second = at.second;
-    let third = at.third;
+// Sets the fields behind the first one, whose nodes are at the front of buf, and then moves that and puts the rule.
+fn set_behind(table: &[u8], p: Parameters, style: Style, kind: Kind, s: &[u8], at: Places, line: Line, a: Part, buf: &mut [u8]) -> Step {
     let j = room(a.count + rule_count(p, style, kind), buf.len());
-    let y = set_field(table, p, second_style(kind, style), false, &s[second..third], &mut buf[j..]);
-    match y {
-        FieldSet::Whole(b) => set_third(table, p, style, kind, s, at, a, b, line, buf),
-        FieldSet::Missing(place) => Step::Missing(second + place),
+    let last = set_second(table, p, style, kind, s, at, line, a.shape, &mut buf[j..]);
+    match last {
+        LastSet::Whole(setting, run) => {
+            let all = behind(front(a, setting, buf), run);
+            Step::Next(finished(line, setting, all), at.end)
+        }
+        LastSet::Missing(place) => Step::Missing(place),
     }
 }
 
-fn set_third(table: &[u8], p: Parameters, style: Style, kind: Kind, s: &[u8], at: Places, a: Part, b: Part, line: Line, buf: &mut [u8]) -> Step {
+// Sets the second field into the front of buf, and the third behind it.
+fn set_second(table: &[u8], p: Parameters, style: Style, kind: Kind, s: &[u8], at: Places, line: Line, x: Shape, buf: &mut [u8]) -> LastSet {
+    let second = at.second;
+    let y = set_field(table, p, second_style(kind, style), false, &s[second..], buf);
+    match y {
+        FieldSet::Whole(b) => {
+            let j = room(b.count, buf.len());
+            let last = set_third(table, p, style, kind, s, at, line, x, b.shape, &mut buf[j..]);
+            match last {
+                LastSet::Whole(setting, run) => {
+                    let arranged = setting.arranged;
+                    let own = moved_part(b, setting.x, arranged.second, buf);
+                    LastSet::Whole(setting, behind(own, run))
+                }
+                LastSet::Missing(place) => LastSet::Missing(place),
+            }
+        }
+        FieldSet::Missing(place) => LastSet::Missing(second + place),
+    }
+}
+
+// Sets the third field, if there is one, into the front of buf. With all three known the item is arranged.
+fn set_third(table: &[u8], p: Parameters, style: Style, kind: Kind, s: &[u8], at: Places, line: Line, x: Shape, y: Shape, buf: &mut [u8]) -> LastSet {
     let third = at.third;
     let end = at.end;
-    let j = room(a.count + rule_count(p, style, kind) + b.count, buf.len());
-    let z = set_field(table, p, third_style(style), false, &s[third..end], &mut buf[j..]);
-    match z {
-        FieldSet::Whole(c) => {
-            let fields = Fields {
-                first: a,
-                second: b,
-                third: c,
-            };
-            let right = next_class(&s[end..]);
-            Step::Next(place(p, style, kind, right, fields, line, buf), end)
+    let right = next_class(&s[end..]);
+    if has_third(kind) {
+        let z = set_field(table, p, third_style(style), false, &s[third..], buf);
+        match z {
+            FieldSet::Whole(c) => arranged_last(p, style, kind, right, line, x, y, c, buf),
+            FieldSet::Missing(place) => LastSet::Missing(third + place),
         }
-        FieldSet::Missing(place) => Step::Missing(third + place),
+    } else {
+        arranged_last(p, style, kind, right, line, x, y, empty_part(), buf)
     }
 }
 
-// Sets the field whose bytes are s alone, at its own reference point; no bytes are an empty field.
+// The item is arranged, and its third field, at the front of buf, moved to its place.
+fn arranged_last(p: Parameters, style: Style, kind: Kind, right: rules::classes::Neighbour, line: Line, x: Shape, y: Shape, c: Part, buf: &mut [u8]) -> LastSet {
+    let setting = setting_of(p, style, kind, right, line, x, y, c.shape);
+    let arranged = setting.arranged;
+    LastSet::Whole(setting, moved_part(c, setting.x, arranged.third, buf))
+}
+
+// Sets the field at the head of s alone, at its own reference point, into the front of buf.
 fn set_field(table: &[u8], p: Parameters, style: Style, enlarge: bool, s: &[u8], buf: &mut [u8]) -> FieldSet {
     let head = field_head(s);
     match head {

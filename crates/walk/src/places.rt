@@ -4,7 +4,7 @@ use formula::{Kind, Opening};
 use formula::heads::{field_bytes, field_head, has_third, opening, opening_bytes};
 use rules::classes::{Neighbour, class_of};
 
-// The first bytes of the fields, and the byte behind the item. A fraction's third field has no bytes.
+// The first bytes of the fields, and the byte behind the item. A fraction has no third field.
 pub struct Places {
     pub first: usize,
     pub second: usize,

@@ -33,11 +33,11 @@ fn successor(table: &[u8], size: u8, family: u8, symbol: Symbol) -> Sought {
     let next = metrics.successor;
     match next {
         Successor::Nothing => Sought::Present(symbol),
-        Successor::Code(code) => sought(code, font::symbol(table, size, family, code)),
+        Successor::Code(code) => symbol_of(code, font::symbol(table, size, family, code)),
     }
 }
 
-fn sought(code: u8, found: Found) -> Sought {
+fn symbol_of(code: u8, found: Found) -> Sought {
     match found {
         Found::Symbol(metrics) => Sought::Present(Symbol { code, metrics }),
         Found::Absent => Sought::Absent,
