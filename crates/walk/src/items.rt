@@ -48,11 +48,14 @@ pub struct Setting {
 pub fn setting_of(p: Parameters, style: Style, kind: Kind, right: Neighbour, line: Line, x: Shape, y: Shape, z: Shape) -> Setting {
     let left = line.left;
     let size = line.size;
+    let width = size.width;
     let class = changed_class(left, class_of(kind), right);
+    let across = width.plus(space_before(p, style, left, class));
+    let arranged = arrange(p, style, kind, x, y, z);
     Setting {
         class,
-        x: size.width.plus(space_before(p, style, left, class)),
-        arranged: arrange(p, style, kind, x, y, z),
+        x: across,
+        arranged,
     }
 }
 
@@ -66,22 +69,27 @@ pub struct Run {
 
 // Moves a field's nodes, at the front of buf, to their place.
 pub fn moved_part(part: Part, x: Sp, place: Place, buf: &mut [u8]) -> Run {
-    let dx = x.plus(place.across);
+    let across = place.across;
+    let dx = x.plus(across);
     let dy = place.up;
-    let count = part.count;
-    move_nodes(buf, count, dx, dy);
+    let alone = part.hull;
+    move_nodes(buf, part.count, dx, dy);
+    let hull = moved(alone, dx, dy);
     Run {
-        count,
-        hull: moved(part.hull, dx, dy),
+        count: part.count,
+        hull,
         large: part.large,
     }
 }
 
 // One run behind another.
 pub fn behind(a: Run, b: Run) -> Run {
+    let before = a.hull;
+    let after = b.hull;
+    let hull = joined(before, after);
     Run {
         count: a.count + b.count,
-        hull: joined(a.hull, b.hull),
+        hull,
         large: a.large || b.large,
     }
 }
@@ -96,11 +104,13 @@ pub fn ruled(rule: Drawn, x: Sp, buf: &mut [u8]) -> Run {
         },
         Drawn::Ruled(r) => {
             let place = r.place;
-            let across = x.plus(place.across);
-            put_rule(buf, across, place.up, r.width, r.thickness);
+            let across = place.across;
+            let dx = x.plus(across);
+            let dy = place.up;
+            put_rule(buf, dx, dy, r.width, r.thickness);
             Run {
                 count: 1,
-                hull: point(across, place.up),
+                hull: point(dx, dy),
                 large: false,
             }
         }
@@ -110,20 +120,25 @@ pub fn ruled(rule: Drawn, x: Sp, buf: &mut [u8]) -> Run {
 // The first field's nodes, at the front of buf, are moved to their place, and the rule goes behind them.
 pub fn front(part: Part, setting: Setting, buf: &mut [u8]) -> Run {
     let arranged = setting.arranged;
+    let rule = arranged.rule;
     let x = setting.x;
     let first = moved_part(part, x, arranged.first, buf);
     let j = room(part.count, buf.len());
-    behind(first, ruled(arranged.rule, x, &mut buf[j..]))
+    let second = ruled(rule, x, &mut buf[j..]);
+    behind(first, second)
 }
 
 // The line with the item behind it.
 pub fn finished(line: Line, setting: Setting, run: Run) -> Line {
+    let class = setting.class;
     let arranged = setting.arranged;
+    let size = arranged.size;
+    let hull = run.hull;
     let item = Item {
-        size: arranged.size,
+        size,
         count: run.count,
-        hull: run.hull,
+        hull,
         large: run.large,
     };
-    extended(line, setting.class, setting.x, item)
+    extended(line, class, setting.x, item)
 }

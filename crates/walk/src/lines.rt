@@ -28,16 +28,16 @@ pub fn start() -> Line {
 }
 
 pub fn kerned(line: Line, n: Sp) -> Line {
-    let size = line.size;
+    let left = line.left;
+    let hull = line.hull;
+    let mut size = line.size;
+    let width = size.width;
+    size.width = width.plus(n);
     Line {
-        left: line.left,
-        size: Size {
-            width: size.width.plus(n),
-            height: size.height,
-            depth: size.depth,
-        },
+        left,
+        size,
         count: line.count,
-        hull: line.hull,
+        hull,
         large: line.large,
     }
 }
@@ -50,19 +50,28 @@ pub struct Item {
     pub large: bool,
 }
 
+// A box of a list with another that stands at x.
+fn beside(a: Size, x: Sp, b: Size) -> Size {
+    let width = b.width;
+    let height = a.height;
+    let depth = a.depth;
+    Size {
+        width: x.plus(width),
+        height: height.max(b.height),
+        depth: depth.max(b.depth),
+    }
+}
+
 // The line with an item of this class behind it, at x.
 pub fn extended(line: Line, class: Class, x: Sp, item: Item) -> Line {
-    let before = line.size;
-    let after = item.size;
+    let size = beside(line.size, x, item.size);
+    let before = line.hull;
+    let own = item.hull;
     Line {
         left: Neighbour::Atom(class),
-        size: Size {
-            width: x.plus(after.width),
-            height: before.height.max(after.height),
-            depth: before.depth.max(after.depth),
-        },
+        size,
         count: line.count + item.count,
-        hull: joined(line.hull, item.hull),
+        hull: joined(before, own),
         large: line.large || item.large,
     }
 }
@@ -72,26 +81,32 @@ pub fn list_fits(line: Line) -> bool {
     if line.large {
         return false;
     }
-    let size = line.size;
+    let hull = line.hull;
+    if !fits(hull) {
+        return false;
+    }
+    size_fits(line.size)
+}
+
+fn size_fits(size: Size) -> bool {
     if !is_within(size.width) {
         return false;
     }
     if !is_within(size.height) {
         return false;
     }
-    if !is_within(size.depth) {
-        return false;
-    }
-    fits(line.hull)
+    is_within(size.depth)
 }
 
 // A whole list as a field. One that does not fit has no shape that matters.
 pub fn list_part(line: Line) -> Part {
     if list_fits(line) {
+        let size = line.size;
+        let hull = line.hull;
         Part {
-            shape: Shape::Box(line.size),
+            shape: Shape::Box(size),
             count: line.count,
-            hull: line.hull,
+            hull,
             large: false,
         }
     } else {

@@ -8,6 +8,7 @@ use nodes::room;
 use rules::Style;
 use rules::arrange::{enlarges, first_style, second_style, third_style};
 use rules::boxes::Shape;
+use rules::classes::Neighbour;
 use rules::parameters::Parameters;
 use crate::items::{Run, Setting, behind, finished, front, moved_part, rule_count, setting_of};
 use crate::lines::{Line, kerned, list_part, start};
@@ -76,7 +77,8 @@ fn set_first(table: &[u8], p: Parameters, style: Style, kind: Kind, s: &[u8], li
 // Sets the fields behind the first one, whose nodes are at the front of buf, and then moves that and puts the rule.
 fn set_behind(table: &[u8], p: Parameters, style: Style, kind: Kind, s: &[u8], at: Places, line: Line, a: Part, buf: &mut [u8]) -> Step {
     let j = room(a.count + rule_count(p, style, kind), buf.len());
-    let last = set_second(table, p, style, kind, s, at, line, a.shape, &mut buf[j..]);
+    let shape = a.shape;
+    let last = set_second(table, p, style, kind, s, at, line, shape, &mut buf[j..]);
     match last {
         LastSet::Whole(setting, run) => {
             let all = behind(front(a, setting, buf), run);
@@ -93,7 +95,8 @@ fn set_second(table: &[u8], p: Parameters, style: Style, kind: Kind, s: &[u8], a
     match y {
         FieldSet::Whole(b) => {
             let j = room(b.count, buf.len());
-            let last = set_third(table, p, style, kind, s, at, line, x, b.shape, &mut buf[j..]);
+            let shape = b.shape;
+            let last = set_third(table, p, style, kind, s, at, line, x, shape, &mut buf[j..]);
             match last {
                 LastSet::Whole(setting, run) => {
                     let arranged = setting.arranged;
@@ -124,8 +127,9 @@ fn set_third(table: &[u8], p: Parameters, style: Style, kind: Kind, s: &[u8], at
 }
 
 // The item is arranged, and its third field, at the front of buf, moved to its place.
-fn arranged_last(p: Parameters, style: Style, kind: Kind, right: rules::classes::Neighbour, line: Line, x: Shape, y: Shape, c: Part, buf: &mut [u8]) -> LastSet {
-    let setting = setting_of(p, style, kind, right, line, x, y, c.shape);
+fn arranged_last(p: Parameters, style: Style, kind: Kind, right: Neighbour, line: Line, x: Shape, y: Shape, c: Part, buf: &mut [u8]) -> LastSet {
+    let shape = c.shape;
+    let setting = setting_of(p, style, kind, right, line, x, y, shape);
     let arranged = setting.arranged;
     LastSet::Whole(setting, moved_part(c, setting.x, arranged.third, buf))
 }

@@ -37,9 +37,10 @@ pub fn symbol_part(table: &[u8], style: Style, enlarge: bool, family: u8, code: 
     let sought = symbol_in(table, size, enlarge, family, code);
     match sought {
         Sought::Present(symbol) => {
+            let metrics = symbol.metrics;
             put_glyph(buf, Sp(0), Sp(0), size, family, symbol.code);
             FieldSet::Whole(Part {
-                shape: Shape::Char(symbol.metrics),
+                shape: Shape::Char(metrics),
                 count: 1,
                 hull: point(Sp(0), Sp(0)),
                 large: false,
