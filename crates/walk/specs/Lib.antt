@@ -2,3 +2,4 @@ pub mod Setting
 pub mod Missing
 pub mod Fitting
 pub mod MissingLaws
+pub mod Walked

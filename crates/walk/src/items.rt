@@ -1,11 +1,11 @@
 // An item whose fields have been set, arranged and put at its place in the list.
 
 use formula::{Bar, Class, Kind};
-use nodes::{Hull, move_nodes, put_rule, room};
-use nodes::hulls::{joined, moved, point};
+use nodes::hull::Hull;
+use nodes::{move_nodes, put_rule, room};
 use rules::Style;
 use rules::arrange::arrange;
-use rules::boxes::{Arranged, Line as Drawn, Place, Shape};
+use rules::boxes::{Arranged, Line as Ruling, Place, Shape};
 use rules::classes::{Neighbour, changed_class, class_of};
 use rules::parameters::{Parameters, RULE_THICKNESS, parameter};
 use rules::spacing::space_before;
@@ -74,7 +74,7 @@ pub fn moved_part(part: Part, x: Sp, place: Place, buf: &mut [u8]) -> Run {
     let dy = place.up;
     let alone = part.hull;
     move_nodes(buf, part.count, dx, dy);
-    let hull = moved(alone, dx, dy);
+    let hull = alone.moved(dx, dy);
     Run {
         count: part.count,
         hull,
@@ -86,7 +86,7 @@ pub fn moved_part(part: Part, x: Sp, place: Place, buf: &mut [u8]) -> Run {
 pub fn behind(a: Run, b: Run) -> Run {
     let before = a.hull;
     let after = b.hull;
-    let hull = joined(before, after);
+    let hull = before.joined(after);
     Run {
         count: a.count + b.count,
         hull,
@@ -95,14 +95,14 @@ pub fn behind(a: Run, b: Run) -> Run {
 }
 
 // The item's own rule, at the front of buf.
-pub fn ruled(rule: Drawn, x: Sp, buf: &mut [u8]) -> Run {
+pub fn ruled(rule: Ruling, x: Sp, buf: &mut [u8]) -> Run {
     match rule {
-        Drawn::Nothing => Run {
+        Ruling::Unruled => Run {
             count: 0,
             hull: Hull::Empty,
             large: false,
         },
-        Drawn::Ruled(r) => {
+        Ruling::Ruled(r) => {
             let place = r.place;
             let across = place.across;
             let dx = x.plus(across);
@@ -110,7 +110,7 @@ pub fn ruled(rule: Drawn, x: Sp, buf: &mut [u8]) -> Run {
             put_rule(buf, dx, dy, r.width, r.thickness);
             Run {
                 count: 1,
-                hull: point(dx, dy),
+                hull: Hull::point(dx, dy),
                 large: false,
             }
         }
@@ -128,13 +128,14 @@ pub fn front(part: Part, setting: Setting, buf: &mut [u8]) -> Run {
     behind(first, second)
 }
 
-// The line with the item behind it.
-pub fn finished(line: Line, setting: Setting, run: Run) -> Line {
+// The line with the item of so many bytes behind it.
+pub fn finished(line: Line, setting: Setting, run: Run, bytes: usize) -> Line {
     let class = setting.class;
     let arranged = setting.arranged;
     let size = arranged.size;
     let hull = run.hull;
     let item = Item {
+        bytes,
         size,
         count: run.count,
         hull,

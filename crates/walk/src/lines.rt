@@ -1,15 +1,16 @@
 // What stands so far of a list.
 
 use formula::Class;
-use nodes::Hull;
-use nodes::hulls::{fits, is_within, joined};
+use nodes::hull::{Hull, within};
 use rules::boxes::{Shape, Size, zero_size};
 use rules::classes::Neighbour;
 use scaled::Sp;
 use crate::parts::Part;
 
-// The class of the last atom, the box so far, and whether a list in it passes the greatest length.
+// How many bytes of the list it takes, the class of the last atom, the box so far, and whether a list in it passes the
+// greatest length.
 pub struct Line {
+    pub bytes: usize,
     pub left: Neighbour,
     pub size: Size,
     pub count: usize,
@@ -19,7 +20,8 @@ pub struct Line {
 
 pub fn start() -> Line {
     Line {
-        left: Neighbour::Nothing,
+        bytes: 0,
+        left: Neighbour::End,
         size: zero_size(),
         count: 0,
         hull: Hull::Empty,
@@ -27,6 +29,7 @@ pub fn start() -> Line {
     }
 }
 
+// A kern has six bytes.
 pub fn kerned(line: Line, n: Sp) -> Line {
     let left = line.left;
     let hull = line.hull;
@@ -34,6 +37,7 @@ pub fn kerned(line: Line, n: Sp) -> Line {
     let width = size.width;
     size.width = width.plus(n);
     Line {
+        bytes: line.bytes + 6,
         left,
         size,
         count: line.count,
@@ -42,8 +46,9 @@ pub fn kerned(line: Line, n: Sp) -> Line {
     }
 }
 
-// An item that has been set: its size, its nodes as the list has them, and how far they reach.
+// An item that has been set: its bytes, its size, its nodes as the list has them, and how far they reach.
 pub struct Item {
+    pub bytes: usize,
     pub size: Size,
     pub count: usize,
     pub hull: Hull,
@@ -68,10 +73,11 @@ pub fn extended(line: Line, class: Class, x: Sp, item: Item) -> Line {
     let before = line.hull;
     let own = item.hull;
     Line {
+        bytes: line.bytes + item.bytes,
         left: Neighbour::Atom(class),
         size,
         count: line.count + item.count,
-        hull: joined(before, own),
+        hull: before.joined(own),
         large: line.large || item.large,
     }
 }
@@ -82,20 +88,20 @@ pub fn list_fits(line: Line) -> bool {
         return false;
     }
     let hull = line.hull;
-    if !fits(hull) {
+    if !hull.fits() {
         return false;
     }
     size_fits(line.size)
 }
 
 fn size_fits(size: Size) -> bool {
-    if !is_within(size.width) {
+    if !within(size.width) {
         return false;
     }
-    if !is_within(size.height) {
+    if !within(size.height) {
         return false;
     }
-    is_within(size.depth)
+    within(size.depth)
 }
 
 // A whole list as a field. One that does not fit has no shape that matters.

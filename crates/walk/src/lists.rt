@@ -21,9 +21,9 @@ pub enum ListSet {
     Missing(usize),
 }
 
-// The line behind an item and how many bytes the item has, or the place of its first missing symbol.
+// The line with an item, or the place of the item's first missing symbol.
 pub enum Step {
-    Next(Line, usize),
+    Next(Line),
     Missing(usize),
 }
 
@@ -36,14 +36,13 @@ pub enum LastSet {
 // Sets a list at its own reference point, into the front of buf.
 pub fn set_list(table: &[u8], p: Parameters, style: Style, s: &[u8], buf: &mut [u8]) -> ListSet {
     let mut line = start();
-    let mut at: usize = 0;
-    while at < s.len() {
+    while line.bytes < s.len() {
+        let at = line.bytes;
         let j = room(line.count, buf.len());
         let step = set_item(table, p, style, &s[at..], line, &mut buf[j..]);
         match step {
-            Step::Next(next, bytes) => {
+            Step::Next(next) => {
                 line = next;
-                at += bytes;
             }
             Step::Missing(place) => {
                 return ListSet::Missing(at + place);
@@ -57,9 +56,9 @@ pub fn set_list(table: &[u8], p: Parameters, style: Style, s: &[u8], buf: &mut [
 fn set_item(table: &[u8], p: Parameters, style: Style, s: &[u8], line: Line, buf: &mut [u8]) -> Step {
     let o = opening(s);
     match o {
-        Opening::NoItem => Step::Next(line, 0),
+        Opening::NoItem => Step::Next(line),
         Opening::Fields(kind) => set_first(table, p, style, kind, s, line, buf),
-        Opening::Kern(n) => Step::Next(kerned(line, n), 6),
+        Opening::Kern(n) => Step::Next(kerned(line, n)),
     }
 }
 
@@ -82,7 +81,7 @@ fn set_behind(table: &[u8], p: Parameters, style: Style, kind: Kind, s: &[u8], a
     match last {
         LastSet::Whole(setting, run) => {
             let all = behind(front(a, setting, buf), run);
-            Step::Next(finished(line, setting, all), at.end)
+            Step::Next(finished(line, setting, all, at.end))
         }
         LastSet::Missing(place) => Step::Missing(place),
     }

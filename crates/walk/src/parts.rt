@@ -1,7 +1,7 @@
 // A field that has been set alone, at its own reference point.
 
-use nodes::{Hull, put_glyph};
-use nodes::hulls::point;
+use nodes::hull::Hull;
+use nodes::put_glyph;
 use rules::Style;
 use rules::boxes::Shape;
 use rules::styles::font_size;
@@ -42,7 +42,7 @@ pub fn symbol_part(table: &[u8], style: Style, enlarge: bool, family: u8, code: 
             FieldSet::Whole(Part {
                 shape: Shape::Char(metrics),
                 count: 1,
-                hull: point(Sp(0), Sp(0)),
+                hull: Hull::point(Sp(0), Sp(0)),
                 large: false,
             })
         }

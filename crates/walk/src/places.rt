@@ -37,7 +37,7 @@ pub fn next_class(s: &[u8]) -> Neighbour {
         let o = opening(&s[at..]);
         match o {
             Opening::NoItem => {
-                return Neighbour::Nothing;
+                return Neighbour::End;
             }
             Opening::Fields(kind) => {
                 return Neighbour::Atom(class_of(kind));
@@ -47,5 +47,5 @@ pub fn next_class(s: &[u8]) -> Neighbour {
             }
         }
     }
-    Neighbour::Nothing
+    Neighbour::End
 }
