@@ -3,3 +3,4 @@ pub mod Heads
 pub mod Reading
 pub mod Verdicts
 pub mod Places
+pub mod ReadingLaws
