@@ -428,3 +428,229 @@ pub read-step : (levels : ℕ) (s : List ℕ) → read levels s ≡ listBy read 
 unfolding read readBy
 read-step levels s =
     list-same (readBy (length s)) read levels s (λ d r l. enough (length s) (suc (length r)) d r l (omega arith))
+
+-- ---- a list that is not empty
+
+pub read-none : (levels : ℕ) (s : List ℕ) → length s ≡ 0 → read levels s ≡ good nil
+unfolding listBy
+read-none levels [] h = read-step levels []
+read-none levels (b ∷ s) h = absurd (omega arith)
+
+pub read-some : (levels : ℕ) (s : List ℕ) → 0 < length s → read levels s ≡ restBy read levels s (itemBy read levels s)
+unfolding listBy
+read-some levels [] h = absurd (omega arith)
+read-some levels (b ∷ s) h = read-step levels (b ∷ s)
+
+-- the items of a list that is not empty: the first, and those of the rest
+pub record ListIs (levels : ℕ) (s : List ℕ) (l : Items) : Type 0 where
+  pub first : Item
+  pub others : Items
+  pub first-is : ItemIs (Below read levels) s (openingOf s) first
+  pub others-are : read levels (drop (itemSize s (openingOf s)) s) ≡ good others
+  pub is : l ≡ cons first others
+
+before-good : (i : Item) (size : ℕ) (x : Read) (l : Items) → before i size x ≡ good l →
+    (r : Items) × (x ≡ good r) × (l ≡ cons i r)
+unfolding before
+before-good i size (good r) l e = (r, refl, (cc))
+before-good i size (fault number place) l e = let z : _≡_ {A = ℕ} 0 1 = cc in absurd (omega arith)
+
+pub list-good : (levels : ℕ) (s : List ℕ) (l : Items) → 0 < length s → read levels s ≡ good l → ListIs levels s l
+unfolding restBy
+list-good levels s l pos e = go (itemBy read levels s) refl (sym (read-some levels s pos) ∙ e)
+  where
+    go : (g : Got Item) → itemBy read levels s ≡ g → restBy read levels s g ≡ good l → ListIs levels s l
+    go (got i size) q e =
+        let is = item-got read levels s i size q in
+        let b = before-good i size (read levels (drop size s)) l e in
+        record {
+          first = i;
+          others = b .0;
+          first-is = is .0;
+          others-are = ap (λ (k : ℕ). read levels (drop k s)) (sym (is .1)) ∙ b .1;
+          is = b .2;
+        }
+    go (stopped number place) q e = let z : _≡_ {A = ℕ} 0 1 = cc in absurd (omega arith)
+
+pub good-list : (levels : ℕ) (s : List ℕ) (l : Items) → 0 < length s → ListIs levels s l → read levels s ≡ good l
+unfolding restBy before
+good-list levels s l pos h =
+    read-some levels s pos
+    ∙ ap (restBy read levels s) (got-item read levels s (h .first) (h .first-is))
+    ∙ ap (before (h .first) (itemSize s (openingOf s))) (h .others-are)
+    ∙ ap good (sym (h .is))
+
+-- ---- the number of levels
+
+Agrees : List ℕ → Type 0
+Agrees s = (d e : ℕ) (l : Items) → read d s ≡ good l → min d (length s) ≤ e → read e s ≡ good l
+
+agree-step : (s : List ℕ) → ((r : List ℕ) → length r < length s → Agrees r) → Agrees s
+unfolding Agrees
+agree-step s ih d e l q h = go (length s) refl
+  where
+    below : (d e : ℕ) → min d (length s) ≤ e → (r : List ℕ) (l : Items) → length r < length s → Below read d r l → Below read e r l
+    below zero e h r l k b = absurd b
+    below (suc d) zero h r l k b = absurd (omega arith)
+    below (suc d) (suc e) h r l k b = ih r k d e l b (omega arith)
+
+    go : (n : ℕ) → length s ≡ n → read e s ≡ good l
+    go zero z = read-none e s z ∙ sym (read-none d s z) ∙ q
+    go (suc n) z =
+        let g = list-good d s l (omega arith) q in
+        let o = openingOf s in
+        let some = size-some (Below read d) s o (g .first) (g .first-is) in
+        let fits = size-fits s in
+        let rest = drop (itemSize s o) s in
+        let k : length rest ≡ length s - itemSize s o = length-drop (itemSize s o) s in
+        good-list e s l (omega arith) (record {
+          first = g .first;
+          others = g .others;
+          first-is = item-map (Below read d) (Below read e) s (below d e h) o (g .first) (g .first-is);
+          others-are = ih rest (omega arith) d e (g .others) (g .others-are) (omega arith);
+          is = g .is;
+        })
+
+pub agree : (s : List ℕ) (d e : ℕ) (l : Items) → read d s ≡ good l → min d (length s) ≤ e → read e s ≡ good l
+unfolding Agrees
+agree = by-length Agrees agree-step
+
+-- ---- a readable list
+
+pub known : (s : List ℕ) → Readable s → read (length s) s ≡ good (treeOf s)
+unfolding Readable treeOf
+known s h = go (read (length s) s) h
+  where
+    go : (x : Read) → IsGood x → x ≡ good (treeIn x)
+    go (good l) h = refl
+    go (fault number place) h = absurd h
+
+own : (s : List ℕ) (d : ℕ) (l : Items) → read d s ≡ good l → read (length s) s ≡ good l
+own s d l e = agree s d (length s) l e (omega arith)
+
+pub readable-of : (s : List ℕ) (d : ℕ) (l : Items) → read d s ≡ good l → Readable s
+unfolding Readable
+readable-of s d l e = subst IsGood (sym (own s d l e)) tt
+
+pub tree-is : (s : List ℕ) (d : ℕ) (l : Items) → read d s ≡ good l → treeOf s ≡ l
+unfolding treeOf
+tree-is s d l e = ap treeIn (own s d l e)
+
+pub tree-none : (s : List ℕ) → length s ≡ 0 → Readable s × (treeOf s ≡ nil)
+tree-none s h = (readable-of s 0 nil (read-none 0 s h), tree-is s 0 nil (read-none 0 s h))
+
+Known : List ℕ → Items → Type 0
+Known r l = Readable r × (treeOf r ≡ l)
+
+field-known : (s : List ℕ) (h : FieldHead) (f : Field) → FieldIs Known s h f → GoodField s h × (f ≡ fieldOf s h)
+unfolding Known
+field-known s NoField f i = absurd i
+field-known s Empty f i = (tt, i)
+field-known s (Symbol family code) f i = (tt, i)
+field-known s (Sublist n) f i = (i .1 .0, i .2 ∙ ap list (sym (i .1 .1)))
+field-known s CutSublist f i = absurd i
+
+third-known : (s : List ℕ) (some : Bool) (at : ℕ) (f : Field) → ThirdIs Known s some at f →
+    GoodThird s some at × (f ≡ thirdIn s some at)
+third-known s true at f i = field-known (drop at s) (headAt s at) f i
+third-known s false at f i = (tt, i)
+
+item-known : (s : List ℕ) (o : Opening) (i : Item) → ItemIs Known s o i → GoodItem s o × (i ≡ itemOf s o)
+item-known s NoItem i h = absurd h
+item-known s (Fields kind) i h =
+    let first = openingBytes kind in
+    let a = field-known (drop first s) (headAt s first) (h .a) (h .a-is) in
+    let b = field-known (drop (second s kind) s) (headAt s (second s kind)) (h .b) (h .b-is) in
+    let c = third-known s (hasThird kind) (third s kind) (h .c) (h .c-is) in
+    ((a .0, b .0, c .0), (cc))
+item-known s (Kern n) i h = (tt, h)
+
+below-known : (d : ℕ) (r : List ℕ) (l : Items) → Below read d r l → Known r l
+unfolding Known
+below-known zero r l h = absurd h
+below-known (suc d) r l h = (readable-of r d l h, tree-is r d l h)
+
+-- what a readable list that opens with o is
+pub record Stepped (s : List ℕ) (o : Opening) : Type 0 where
+  pub some : 0 < itemSize s o
+  pub fits : itemSize s o ≤ length s
+  pub item : GoodItem s o
+  pub rest : Readable (drop (itemSize s o) s)
+  pub tree : treeOf s ≡ cons (itemOf s o) (treeOf (drop (itemSize s o) s))
+
+step-by : (s : List ℕ) → Readable s → 0 < length s → Stepped s (openingOf s)
+step-by s r pos =
+    let d = length s in
+    let o = openingOf s in
+    let rest = drop (itemSize s o) s in
+    let g = list-good d s (treeOf s) pos (known s r) in
+    let i = item-known s o (g .first) (item-map (Below read d) Known s (λ r l k. below-known d r l) o (g .first) (g .first-is)) in
+    record {
+      some = size-some (Below read d) s o (g .first) (g .first-is);
+      fits = size-fits s;
+      item = i .0;
+      rest = readable-of rest d (g .others) (g .others-are);
+      tree = g .is ∙ ap₂ cons (i .1) (sym (tree-is rest d (g .others) (g .others-are)));
+    }
+
+pub step : (s : List ℕ) (o : Opening) → openingOf s ≡ o → Readable s → 0 < length s → Stepped s o
+step s o e r pos = subst (Stepped s) e (step-by s r pos)
+
+-- ---- the bytes that a tree is written in
+
+module _ (s : List ℕ) (ih : (r : List ℕ) → length r < length s → Readable r → itemsBytes (treeOf r) ≡ length r) where
+  field-by-bytes : (at : ℕ) → GoodFieldAt s at → fieldBytes (fieldIn s at) ≡ headBytes (headAt s at)
+  unfolding fieldBytes
+  field-by-bytes at g = go (headAt s at) refl g
+    where
+      go : (h : FieldHead) → headAt s at ≡ h → GoodField (drop at s) h → fieldBytes (fieldOf (drop at s) h) ≡ headBytes h
+      go NoField e g = absurd g
+      go Empty e g = refl
+      go (Symbol family code) e g = refl
+      go (Sublist n) e g =
+          let k = contents-shorter (drop at s) n e in
+          omega (arith, ih (contents n (drop at s)) (omega (arith, length-drop at s)) g)
+      go CutSublist e g = absurd g
+
+  item-by-bytes : (o : Opening) → GoodItem s o → itemBytes (itemOf s o) ≡ itemSize s o
+  unfolding itemBytes fieldBytes
+  item-by-bytes NoItem g = absurd g
+  item-by-bytes (Fields kind) g =
+      let a = field-by-bytes (openingBytes kind) (g .0) in
+      let b = field-by-bytes (second s kind) (g .1) in
+      go kind a b (g .2)
+    where
+      go : (kind : Kind) → fieldBytes (fieldIn s (openingBytes kind)) ≡ headBytes (headAt s (openingBytes kind)) →
+          fieldBytes (fieldIn s (second s kind)) ≡ headBytes (headAt s (second s kind)) →
+          GoodThird s (hasThird kind) (third s kind) → itemBytes (itemOf s (Fields kind)) ≡ itemSize s (Fields kind)
+      go (Atom class limits) a b g = omega (arith, field-by-bytes (third s (Atom class limits)) g)
+      go Over a b g = omega (arith, field-by-bytes (third s Over) g)
+      go Under a b g = omega (arith, field-by-bytes (third s Under) g)
+      go (Fraction bar) a b g = omega arith
+  item-by-bytes (Kern n) g = refl
+
+Written : List ℕ → Type 0
+Written s = Readable s → itemsBytes (treeOf s) ≡ length s
+
+written-step : (s : List ℕ) → ((r : List ℕ) → length r < length s → Written r) → Written s
+unfolding Written itemsBytes
+written-step s ih r = go (length s) refl
+  where
+    go : (n : ℕ) → length s ≡ n → itemsBytes (treeOf s) ≡ length s
+    go zero z = ap itemsBytes (tree-none s z .1) ∙ sym z
+    go (suc n) z =
+        let p = step-by s r (omega arith) in
+        let size = itemSize s (openingOf s) in
+        let k : length (drop size s) ≡ length s - size = length-drop size s in
+        ap itemsBytes (p .tree)
+        ∙ omega (arith, p .some, p .fits, item-by-bytes s ih (openingOf s) (p .item), ih (drop size s) (omega arith) (p .rest))
+
+pub items-bytes : (s : List ℕ) → Readable s → itemsBytes (treeOf s) ≡ length s
+unfolding Written
+items-bytes = by-length Written written-step
+
+pub item-bytes : (s : List ℕ) (o : Opening) → GoodItem s o → itemBytes (itemOf s o) ≡ itemSize s o
+item-bytes s = item-by-bytes s (λ r l. items-bytes r)
+
+pub field-bytes : (s : List ℕ) (at : ℕ) → GoodFieldAt s at → fieldBytes (fieldIn s at) ≡ headBytes (headAt s at)
+field-bytes s = field-by-bytes s (λ r l. items-bytes r)
