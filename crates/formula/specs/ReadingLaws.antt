@@ -82,9 +82,9 @@ head-in (kind ∷ s) =
     either P (eqb kind 1) (λ e. symbol-fits kind s) (λ e.
     either P (eqb kind 2) (λ e. list-fits kind s) (λ e. omega arith)))
 
-pub head-fits : (s : List ℕ) → headBytes (fieldHead s) ≤ length s
+pub head-fits : (s : List ℕ) (h : FieldHead) → fieldHead s ≡ h → headBytes h ≤ length s
 unfolding HeadIn
-head-fits s = head-in s
+head-fits s h e = subst (HeadIn s) e (head-in s)
 
 OpeningIn : List ℕ → Opening → Type 0
 OpeningIn s o = openedBytes o ≤ length s
@@ -122,11 +122,15 @@ opens-in a b KN (c ∷ d ∷ e ∷ f ∷ s) =
     kern-in (a ∷ b ∷ c ∷ d ∷ e ∷ f ∷ s) (signedWord (littleEndian 4 (c ∷ d ∷ e ∷ f ∷ s))) (omega arith)
 opens-in a b Unknown s = omega arith
 
-pub opening-fits : (s : List ℕ) → openedBytes (openingOf s) ≤ length s
+opening-in : (s : List ℕ) → OpeningIn s (openingOf s)
 unfolding openingOf OpeningIn
-opening-fits [] = omega arith
-opening-fits (a ∷ []) = omega arith
-opening-fits (a ∷ b ∷ s) = opens-in a b (markOf a b) s
+opening-in [] = omega arith
+opening-in (a ∷ []) = omega arith
+opening-in (a ∷ b ∷ s) = opens-in a b (markOf a b) s
+
+pub opening-fits : (s : List ℕ) (o : Opening) → openingOf s ≡ o → openedBytes o ≤ length s
+unfolding OpeningIn
+opening-fits s o e = subst (OpeningIn s) e (opening-in s)
 
 -- ---- a field and an item by their heads
 
@@ -170,7 +174,7 @@ head-some P s CutSublist f i = absurd i
 -- a list field's bytes are fewer than those of what holds it
 pub contents-shorter : (s : List ℕ) (n : ℕ) → fieldHead s ≡ Sublist n → (length (contents n s) ≡ n) × (n < length s)
 contents-shorter s n e =
-    let fits : listOpeningBytes + n ≤ length s = subst (λ (h : FieldHead). headBytes h ≤ length s) e (head-fits s) in
+    let fits = head-fits s (Sublist n) e in
     (omega (arith, length-take n (drop listOpeningBytes s), length-drop listOpeningBytes s), omega arith)
 
 module _ (P Q : List ℕ → Items → Type 0) (s : List ℕ) (to : (r : List ℕ) (l : Items) → length r < length s → P r l → Q r l) where
@@ -207,7 +211,7 @@ module _ (P Q : List ℕ → Items → Type 0) (s : List ℕ) (to : (r : List �
 -- ---- an item lies in its list
 
 behind-in : (s : List ℕ) (at : ℕ) → at ≤ length s → behind s at ≤ length s
-behind-in s at h = omega (arith, head-fits (drop at s), length-drop at s)
+behind-in s at h = omega (arith, head-fits (drop at s) (headAt s at) refl, length-drop at s)
 
 third-end-in : (s : List ℕ) (some : Bool) (at : ℕ) → at ≤ length s → thirdEnd s some at ≤ length s
 third-end-in s true at h = behind-in s at h
@@ -220,7 +224,7 @@ size-by s (Fields kind) h =
 size-by s (Kern n) h = h
 
 pub size-fits : (s : List ℕ) → itemSize s (openingOf s) ≤ length s
-size-fits s = size-by s (openingOf s) (opening-fits s)
+size-fits s = size-by s (openingOf s) (opening-fits s (openingOf s) refl)
 
 third-end-some : (s : List ℕ) (some : Bool) (at : ℕ) → 0 < at → 0 < thirdEnd s some at
 third-end-some s true at h = omega arith
