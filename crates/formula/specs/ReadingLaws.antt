@@ -18,10 +18,10 @@ use mathlib.Core.List.{List, [], _∷_}
 use mathlib.Core.Option.{Option, none, some}
 use Prim.Native.Nat.{ℕ, zero, suc, _+_, _-_, _≤_, _<_, min}
 use native.Mathlib.Omega.{arith}
-use lib.Dec.{leb, eqb}
+use lib.Dec.{leb, ltb, eqb}
 use lib.IntN.{ℤ, natAbs}
 use lib.ListN.{length, take, drop, getElem?, length-take, length-drop}
-use borrow.Author.Tests.{leb-true}
+use borrow.Author.Tests.{leb-true, ltb-false}
 use Rattle.scaled.specs.Words.{littleEndian, signedWord}
 use Rattle.formula.specs.declared.Kind.{Kind}
 use Rattle.formula.specs.declared.Kind.the-variants.{Atom, Over, Under, Fraction}
@@ -34,9 +34,11 @@ use Rattle.formula.specs.declared.Opening.{Opening}
 use Rattle.formula.specs.declared.Opening.the-variants.{NoItem, Fields, Kern}
 use Rattle.formula.specs.declared.FieldHead.{FieldHead}
 use Rattle.formula.specs.declared.FieldHead.the-variants.{NoField, Empty, Symbol, Sublist, CutSublist}
+use Rattle.formula.specs.declared.Verdict.the-variants.{Good, Fault}
 use Rattle.formula.specs.Tree.{Items, Item, Field, nil, cons, noad, kern, empty, symbol, list, openingBytes, kernBytes, symbolBytes, listOpeningBytes, itemsBytes, itemBytes, fieldBytes}
 use Rattle.formula.specs.Heads.{markOf, classes, limitKinds, bars, isOp, isDisplayOnly, atomOf, atomOpening, fractionOf, fractionOpening, greatestKern, kernWithin, kernOpening, opens, openingOf, greatestFamily, symbolHead, listHead, fieldHead}
-use Rattle.formula.specs.Reading.{Read, good, fault, Got, got, stopped, unreadable, _thenAt_, listGot, fieldBy, fieldAt, thirdAt, noadAt, openedBy, itemBy, before, restBy, listBy, readBy, read}
+use Rattle.formula.specs.Reading.{formulaLimit, depthLimit, unreadableNumber, Read, good, fault, Got, got, stopped, unreadable, _thenAt_, listGot, fieldBy, fieldAt, thirdAt, noadAt, openedBy, itemBy, before, restBy, listBy, readBy, read, readFormula}
+use Rattle.formula.specs.Verdicts.{told}
 use Rattle.formula.specs.Places.{treeIn, IsGood, Readable, treeOf, headBytes, contents, fieldOf, GoodField, hasThird, openedBytes, headAt, behind, second, third, thirdEnd, end, itemSize, fieldIn, thirdIn, itemOf, GoodFieldAt, GoodThird, GoodItem}
 
 pub by-length : (P : List ℕ → Type 0) → ((s : List ℕ) → ((r : List ℕ) → length r < length s → P r) → P s) →
@@ -658,3 +660,42 @@ item-bytes s = item-by-bytes s (λ r l. items-bytes r)
 
 pub field-bytes : (s : List ℕ) (at : ℕ) → GoodFieldAt s at → fieldBytes (fieldIn s at) ≡ headBytes (headAt s at)
 field-bytes s = field-by-bytes s (λ r l. items-bytes r)
+
+-- ---- a formula
+
+told-good : (x : Read) → told x ≡ Good → (l : Items) × (x ≡ good l)
+unfolding told
+told-good (good l) e = (l, refl)
+told-good (fault number place) e = let z : _≡_ {A = ℕ} 0 1 = cc in absurd (omega arith)
+
+-- the formula is small, readable, and its tree is that of its bytes
+pub record FormulaIs (s : List ℕ) : Type 0 where
+  pub small : length s ≤ formulaLimit
+  pub readable : Readable s
+  pub is : readFormula s ≡ good (treeOf s)
+
+pub formula-good : (s : List ℕ) → told (readFormula s) ≡ Good → FormulaIs s
+unfolding readFormula told
+formula-good s e = go (ltb formulaLimit (length s)) refl e
+  where
+    by : Bool → Read
+    by t = elim t [ true ↦ fault unreadableNumber 0 | false ↦ read (depthLimit - 1) s ]
+
+    go : (t : Bool) → ltb formulaLimit (length s) ≡ t → told (by t) ≡ Good → FormulaIs s
+    go true q e = let z : _≡_ {A = ℕ} 0 1 = cc in absurd (omega arith)
+    go false q e =
+        let l = told-good (read (depthLimit - 1) s) e in
+        record {
+          small = ltb-false formulaLimit (length s) q;
+          readable = readable-of s (depthLimit - 1) (l .0) (l .1);
+          is = ap by q ∙ l .1 ∙ ap good (sym (tree-is s (depthLimit - 1) (l .0) (l .1)));
+        }
+
+pub formula-fault : (s : List ℕ) (number place : ℕ) → told (readFormula s) ≡ Fault number place →
+    readFormula s ≡ fault number place
+unfolding told
+formula-fault s number place e = go (readFormula s) e
+  where
+    go : (x : Read) → told x ≡ Fault number place → x ≡ fault number place
+    go (good l) e = let z : _≡_ {A = ℕ} 0 1 = cc in absurd (omega arith)
+    go (fault n p) e = cc
