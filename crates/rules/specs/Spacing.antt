@@ -15,23 +15,21 @@ use Rattle.rules.specs.Styles.{isLarge, fontSize}
 use Rattle.rules.specs.Classes.{Neighbour}
 use Rattle.rules.specs.Parameters.{Parameters, quad}
 
--- An entry of the chart. In brackets: only in the styles 0 to 3. A star: the two classes can't meet.
+-- An entry of the chart, written as there: 1, 2 and 3 are a thin, a medium and a thick space; in brackets only in the
+-- styles 0 to 3; with a star the two classes can't meet.
 pub data Entry : Type 0 where
-  o : Entry
-  thin ⟨thin⟩ : Entry
-  ⟨med⟩ ⟨thick⟩ : Entry
-  ✶ : Entry
+  ·0· ·1· [1] [2] [3] ·*· : Entry
 
--- left class; the right one goes from Ord to Inner
+-- by the left class; the right one goes from Ord, Op, Bin, Rel, Open, Close, Punct to Inner
 unfoldable pub row : Class → List Entry
-row Ord = o ∷ thin ∷ ⟨med⟩ ∷ ⟨thick⟩ ∷ o ∷ o ∷ o ∷ ⟨thin⟩ ∷ []
-row Op = thin ∷ thin ∷ ✶ ∷ ⟨thick⟩ ∷ o ∷ o ∷ o ∷ ⟨thin⟩ ∷ []
-row Bin = ⟨med⟩ ∷ ⟨med⟩ ∷ ✶ ∷ ✶ ∷ ⟨med⟩ ∷ ✶ ∷ ✶ ∷ ⟨med⟩ ∷ []
-row Rel = ⟨thick⟩ ∷ ⟨thick⟩ ∷ ✶ ∷ o ∷ ⟨thick⟩ ∷ o ∷ o ∷ ⟨thick⟩ ∷ []
-row Open = o ∷ o ∷ ✶ ∷ o ∷ o ∷ o ∷ o ∷ o ∷ []
-row Close = o ∷ thin ∷ ⟨med⟩ ∷ ⟨thick⟩ ∷ o ∷ o ∷ o ∷ ⟨thin⟩ ∷ []
-row Punct = ⟨thin⟩ ∷ ⟨thin⟩ ∷ ✶ ∷ ⟨thin⟩ ∷ ⟨thin⟩ ∷ ⟨thin⟩ ∷ ⟨thin⟩ ∷ ⟨thin⟩ ∷ []
-row Inner = ⟨thin⟩ ∷ thin ∷ ⟨med⟩ ∷ ⟨thick⟩ ∷ ⟨thin⟩ ∷ o ∷ ⟨thin⟩ ∷ ⟨thin⟩ ∷ []
+row Ord = ·0· ∷ ·1· ∷ [2] ∷ [3] ∷ ·0· ∷ ·0· ∷ ·0· ∷ [1] ∷ []
+row Op = ·1· ∷ ·1· ∷ ·*· ∷ [3] ∷ ·0· ∷ ·0· ∷ ·0· ∷ [1] ∷ []
+row Bin = [2] ∷ [2] ∷ ·*· ∷ ·*· ∷ [2] ∷ ·*· ∷ ·*· ∷ [2] ∷ []
+row Rel = [3] ∷ [3] ∷ ·*· ∷ ·0· ∷ [3] ∷ ·0· ∷ ·0· ∷ [3] ∷ []
+row Open = ·0· ∷ ·0· ∷ ·*· ∷ ·0· ∷ ·0· ∷ ·0· ∷ ·0· ∷ ·0· ∷ []
+row Close = ·0· ∷ ·1· ∷ [2] ∷ [3] ∷ ·0· ∷ ·0· ∷ ·0· ∷ [1] ∷ []
+row Punct = [1] ∷ [1] ∷ ·*· ∷ [1] ∷ [1] ∷ [1] ∷ [1] ∷ [1] ∷ []
+row Inner = [1] ∷ ·1· ∷ [2] ∷ [3] ∷ [1] ∷ ·0· ∷ [1] ∷ [1] ∷ []
 
 abbrev pub column : Class → ℕ
 column Ord = 0
@@ -44,7 +42,7 @@ column Punct = 6
 column Inner = 7
 
 unfoldable pub chart : Class → Class → Entry
-chart left right = getD (row left) (column right) ✶
+chart left right = getD (row left) (column right) ·*·
 
 -- thin, medium and thick spaces, in math units
 abbrev pub thinUnits : ℕ
@@ -61,12 +59,12 @@ ifLarge true units = units
 ifLarge false units = 0
 
 abbrev pub units : Bool → Entry → ℕ
-units large o = 0
-units large thin = thinUnits
-units large ⟨thin⟩ = ifLarge large thinUnits
-units large ⟨med⟩ = ifLarge large medUnits
-units large ⟨thick⟩ = ifLarge large thickUnits
-units large ✶ = 0
+units large ·0· = 0
+units large ·1· = thinUnits
+units large [1] = ifLarge large thinUnits
+units large [2] = ifLarge large medUnits
+units large [3] = ifLarge large thickUnits
+units large ·*· = 0
 
 -- the space before an atom of class right, in scaled points: none before the first
 unfoldable pub spaceBefore : Parameters → Style → Neighbour → Class → ℤ

@@ -1,1 +1,2 @@
+-- What the proofs of several methods use. Assumes nothing.
 mod Stored

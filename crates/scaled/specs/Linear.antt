@@ -1,14 +1,16 @@
 -- `omega` for ℤ. `Exp` is an expression over ℤ, and of an expression e
 --     den e          is its value
 --     hi e, lo e     are naturals over the parts of its numbers, with den e = hi e − lo e (`sound`)
---     Ok e           is that what is read back from bits fits, and that no divisor is 0
--- So `omega` proves a fact on values from `hi` and `lo`. With `omega arith` as the last argument:
---     fits-by        the value fits 64 bits: an overflow need
---     eq-by, le-by, lt-by, within-by     an equation, an order, a bound
+--     Ok e           is that what is stored as bits fits, and that no divisor is 0
+-- So `omega` proves a fact on values from `hi` and `lo`, as the last argument of
+--     fits-by                 the value fits 64 bits, as overflow needs ask
+--     within-by               the value is within a bound
+--     natural-by, natural-is  the value, not negative, is cast to an unsigned width: that it fits, and what it is there
+--     eq-by, le-by, lt-by     an equation, an order
 --     test-yes, test-no       what `ltZ` answers
---     natural-by     the value is not negative and fits an unsigned width: a cast to that width
--- and the other way, a fact in hand as one that `omega` reads:
---     eq-held        an equation, and `lt-held`, `lt-failed`, what a test with `<` said
+-- and reads a fact in hand by
+--     eq-held                 an equation
+--     lt-held, lt-failed      what a test with `<` said
 -- Assumes nothing.
 use mathlib.Core.Path.{_≡_, sym, _∙_}
 use mathlib.Core.Bool.{true, false}
@@ -22,7 +24,9 @@ use mir.Val.{Fits, SFits, bits, toZ, ofZ}
 use mir.ValLaws.{toZ-pos, toZ-ofZ}
 use borrow.Author.Tests.{ltb-true, ltb-false, lt-ltb, le-ltb}
 use Rattle.scaled.specs.Length.{maxℤ, minℤ, half, unitsInQuad, atQuad}
-use Rattle.scaled.specs.Signed.{above, below, Within, Parts, own, lt-test, parts-is, parts-same, parts-le, parts-lt, parts-add, parts-sub, parts-neg, parts-times, parts-product, parts-max, parts-min, parts-half, parts-floor, parts-units, fits-parts, quot-floor, natural-parts}
+use Rattle.scaled.specs.Signed.{above, below, Within, Parts, own, lt-test, parts-is, parts-same, parts-le, parts-lt}
+use Rattle.scaled.specs.Signed.{parts-add, parts-sub, parts-neg, parts-times, parts-product, parts-max, parts-min}
+use Rattle.scaled.specs.Signed.{parts-half, parts-floor, parts-units, fits-parts, quot-floor, natural-parts}
 
 infixl 6 _⊕_ _⊖_
 pub data Exp : Type 0 where
@@ -33,11 +37,16 @@ pub data Exp : Type 0 where
   product : Exp → Exp → Exp
   greatest least : Exp → Exp → Exp
   halved : Exp → Exp
-  floor : Exp → ℕ → Exp           -- divided by a number, rounded down
-  quot : Exp → ℕ → Exp            -- toward zero, of what is not negative
-  units : Exp → Exp → Exp         -- math units at a quad
-  word : ℕ → Exp                  -- an unsigned number, cast to 64 bits
-  stored : Exp → Exp              -- written as 64 bits, and read back
+  -- divided by a number, rounded down
+  floor : Exp → ℕ → Exp
+  -- divided as the code divides, toward zero: of what is not negative
+  quot : Exp → ℕ → Exp
+  -- math units at a quad
+  units : Exp → Exp → Exp
+  -- an unsigned number that is cast to 64 bits
+  word : ℕ → Exp
+  -- written to 64 bits, and read back
+  stored : Exp → Exp
 
 abbrev pub den : Exp → ℤ
 den (# z) = z
@@ -88,6 +97,7 @@ abbrev mutual
   lo (word n) = 0
   lo (stored e) = lo e
 
+-- the value fits 64 bits
 abbrev pub Fit : Exp → Type 0
 Fit e = (hi e < lo e + 2 ^ 63) × (lo e ≤ hi e + 2 ^ 63)
 
@@ -167,3 +177,7 @@ module _ (e f : Exp) where
 
   pub lt-failed : Ok e × Ok f → ltZ (den e) (den f) ≡ false → hi f + lo e ≤ hi e + lo f
   lt-failed o t = ltb-false _ _ (sym (lt-test (sound e (o .0)) (sound f (o .1))) ∙ t)
+
+-- for example
+max-moved : (a b d : ℤ) → maxℤ (a +ℤ d) (b +ℤ d) ≡ maxℤ a b +ℤ d
+max-moved a b d = eq-by (greatest (# a ⊕ # d) (# b ⊕ # d)) (greatest (# a) (# b) ⊕ # d) (omega arith)

@@ -1,11 +1,11 @@
 -- What the operations on lengths promise.
 --     reach         how far from zero a length may lie that is added, subtracted, halved or multiplied
---     Made e r      r is the value of the expression e: `is` in ℤ, and `parts` over ℕ, which `omega` and `search needs` read unaided
+--     Made e r      r is the value of the expression e: `is` in ℤ, and `parts` over ℕ, which `omega` and `search needs` read unaided;
+--                   made from its equation by `made`, from its parts by `made-parts`
 --     Sum, Difference, Negation, Multiple, Half, Floor, Greatest, Least     `Made` of one operation
 --     FromWord      a table's word as a length
---     AtQuad        math units as a length, and that it is at most the quad
---     Less          a test, and what it says by the parts
--- Each stands with the lemma that makes it from its equation; `made-parts` makes a `Made` from its parts.
+--     AtQuad        math units as a length that is at most the quad; `at-quad` makes it
+--     Less          a test, and what it says by the parts; `less` makes it
 --     pick-yes, pick-no     a choice whose test is known
 -- Assumes nothing.
 use mathlib.Core.Path.{_≡_}
@@ -20,6 +20,7 @@ use Rattle.scaled.specs.Length.{pick, atQuad, unitsInQuad}
 use Rattle.scaled.specs.Signed.{above, below, Within, NotNegative, own, lt-test, parts-is, parts-same, within-times}
 use Rattle.scaled.specs.Linear.{Exp, #, _⊕_, _⊖_, neg, times, greatest, least, halved, floor, units, den, hi, lo, Ok, sound}
 
+-- 255 times that fits 64 bits, and the sum of 131,072 lengths of 2 ^ 33 each is within it
 abbrev pub reach : ℕ
 reach = 2 ^ 55
 
@@ -60,16 +61,17 @@ Greatest a b r = Made (greatest (# a) (# b)) r
 abbrev pub Least : ℤ → ℤ → ℤ → Type 0
 Least a b r = Made (least (# a) (# b)) r
 
+-- by the parts, 0 ≤ r < 2 ^ 32
 abbrev pub FromWord : ℕ → ℤ → Type 0
 FromWord w r = Made (# (pos w)) r × (w < 2 ^ 32)
 
--- r is a units at the quad, and −quad ≤ r ≤ quad
+-- −quad ≤ r ≤ quad, by the parts
 pub record AtQuad (a quad r : ℤ) : Type 0 where
   pub at : Made (units (# a) (# quad)) r
   pub over : above r + below quad ≤ above quad + below r
   pub under : below r + below quad ≤ above quad + above r
 
--- at most a quad's units are at most a quad
+-- at most eighteen units are at most the quad
 pub at-quad : {a quad r : ℤ} → Within unitsInQuad a → NotNegative quad → r ≡ atQuad a quad → AtQuad a quad r
 unfolding atQuad
 at-quad {quad = pos q} {r} few up is =

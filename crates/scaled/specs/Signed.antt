@@ -46,10 +46,12 @@ pub record Parts (z : ℤ) (p n : ℕ) : Type 0 where
 pub own : (z : ℤ) → Parts z (above z) (below z)
 own z = record { parts = refl }
 
+-- one of the two is 0
 pub apart : (z : ℤ) → (above z ≡ 0) ⊎ (below z ≡ 0)
 apart (pos n) = inr refl
 apart (negsuc n) = inl refl
 
+-- by cases on a test, with its outcome
 by-test : (Q : Bool → Type 0) (t : Bool) → (t ≡ true → Q true) → (t ≡ false → Q false) → Q t
 by-test Q true f g = f refl
 by-test Q false f g = g refl
@@ -107,6 +109,7 @@ floor-suc (negsuc m) p n j h =
 
 -- ---- tests
 
+-- a test of x − y is one of u − v
 leb-moved : (x y u v : ℕ) → x + v ≡ u + y → leb x y ≡ leb u v
 leb-moved x y u v e =
     by-test (λ (t : Bool). t ≡ leb u v) (leb x y)
@@ -209,7 +212,7 @@ fits-parts {z = negsuc a} h over under = omega arith
 pub fits-within : {k : ℕ} {z : ℤ} → Within k z → k < 2 ^ 63 → SFits w64 z
 fits-within {z} h l = fits-parts (own z) (omega arith) (omega arith)
 
--- a number of the code fits: `mag z < 2 ^ 63`
+-- that z fits is `mag z < 2 ^ 63`
 pub mag-parts : (z : ℤ) → (above z ≤ mag z) × (below z ≤ mag z + 1)
 mag-parts (pos n) = omega arith
 mag-parts (negsuc n) = omega arith

@@ -1,7 +1,10 @@
-ghost use Rattle.scaled.specs.Signed.{Within, NotNegative};
-ghost use Rattle.scaled.specs.Made.{reach, Sum, Difference, Negation, Greatest, Least, Half, Multiple, Floor, AtQuad, Less, FromWord};
-ghost use Rattle.scaled.specs.Length.{unitsInQuad};
+// Lengths in scaled points and in math units, and the arithmetic that the rules do with them.
+// What a method asks is that its numbers are not too far from zero, and not negative where they are divided.
+// What it gives is a record of specs/Made.antt: the number in ℤ, and the same over ℕ for `omega`.
 ghost use Prim.Native.Nat.{_<_};
+ghost use Rattle.scaled.specs.Length.{unitsInQuad};
+ghost use Rattle.scaled.specs.Signed.{Within, NotNegative};
+ghost use Rattle.scaled.specs.Made.{reach, Sum, Difference, Negation, Multiple, Half, Floor, Greatest, Least, FromWord, AtQuad, Less};
 
 // Scaled points, 65,536 to the point.
 pub struct Sp(pub i64);
@@ -10,7 +13,7 @@ pub struct Sp(pub i64);
 pub struct Mu(pub i64);
 
 impl Sp {
-    // A word of a table.
+    // A length from a table's word.
     pub fn of_word(w: u32) -> Sp
         ensures { λ r. ⌜ FromWord w (r .0) ⌝ }
     {
@@ -45,7 +48,7 @@ impl Sp {
         Sp(self.0 * (k as i64))
     }
 
-    // Half, rounded up: of 3 it is 2, of -3 it is -1.
+    // A half, rounded up: of 3 it is 2, of -3 it is -1.
     pub fn half(self) -> Sp
         requires { ⌜ Within reach (self .0) ⌝ }
         ensures { λ r. ⌜ Half (self .0) (r .0) ⌝ }
@@ -96,7 +99,7 @@ impl Sp {
 }
 
 impl Mu {
-    // Units at a quad: a unit is the quad's eighteenth, rounded down before it is multiplied.
+    // The length of at most a quad's units: a unit is the quad's eighteenth, rounded down before it is multiplied.
     pub fn at(self, quad: Sp) -> Sp
         requires { ⌜ Within unitsInQuad (self .0) × NotNegative (quad .0) ⌝ }
         ensures { λ r. ⌜ AtQuad (self .0) (quad .0) (r .0) ⌝ }

@@ -1,0 +1,26 @@
+-- The definitions that the worked examples compute with. A proof that says `unfolding definitions` has them all open.
+-- Assumes nothing.
+use Rattle.scaled.specs.Length.{pick, maxℤ, minℤ, half, atQuad}
+use Rattle.scaled.specs.Words.{littleEndian, signedWord, wordOf, fourBytes}
+use Rattle.font.specs.Table.{pieces, characterCount, parameterRecords, characterRecords, words, marked, parameterWords, metricWords, every, goodParameters, goodCharacter, before, rising, goodLength, goodTable}
+use Rattle.font.specs.Font.{successorOf, metricsOf, isOf, lookup, fontOf}
+use Rattle.formula.specs.Tree.{itemsBytes, itemBytes, fieldBytes}
+use Rattle.formula.specs.Heads.{markOf, atomOf, atomOpening, fractionOf, fractionOpening, kernWithin, kernOpening, opens, openingOf, symbolHead, listHead, fieldHead}
+use Rattle.formula.specs.Reading.{listGot, fieldBy, fieldAt, thirdAt, noadAt, openedBy, itemBy, before as beforeReading, restBy, listBy, readBy, read, readFormula}
+use Rattle.rules.specs.Styles.{styleOf}
+use Rattle.rules.specs.Classes.{changedClass}
+use Rattle.rules.specs.Spacing.{row, chart, spaceBefore}
+use Rattle.rules.specs.Boxes.{greatest}
+use Rattle.rules.specs.Limits.{limited}
+use Rattle.rules.specs.Scripts.{dropUp, dropDown, subscriptDown, leastUp, superscriptUp, pairDown, gapDown, ψOf, lifted, spread, pairShifts, scripted}
+use Rattle.rules.specs.Fractions.{fractionShifts, parted, shiftsWithoutBar, cleared, shiftsWithBar, fraction}
+use Rattle.rules.specs.Arrange.{arrange}
+use Rattle.layout.specs.Nodes.{moved, signedBytes, nodeBytes, bytesOf}
+use Rattle.layout.specs.Setting.{found, successor, enlarged, symbolIn, symbolPart, ruleNodes, itemNodes, itemBox, placed, nextClass, setItems, setItem, setField, setList}
+use Rattle.layout.specs.Missing.{absentAt, missingItems, missingItem, missingField}
+use Rattle.layout.specs.Fitting.{nodesFit, boxFits, itemsFit, itemFits, fieldFits, listFits}
+use Rattle.layout.specs.Answers.{ifFits, ifPresent, ifRead, ifGood, ifStyle, resultOf, measuredBy, measured, hasRoom, setBy, setting, bufferBy, bufferAfter}
+
+unfoldable pub definitions : Unit {0}
+unfolding pick maxℤ minℤ half atQuad littleEndian signedWord wordOf fourBytes pieces characterCount parameterRecords characterRecords words marked parameterWords metricWords every goodParameters goodCharacter before rising goodLength goodTable successorOf metricsOf isOf lookup fontOf itemsBytes itemBytes fieldBytes markOf atomOf atomOpening fractionOf fractionOpening kernWithin kernOpening opens openingOf symbolHead listHead fieldHead listGot fieldBy fieldAt thirdAt noadAt openedBy itemBy beforeReading restBy listBy readBy read readFormula styleOf changedClass row chart spaceBefore greatest limited dropUp dropDown subscriptDown leastUp superscriptUp pairDown gapDown ψOf lifted spread pairShifts scripted fractionShifts parted shiftsWithoutBar cleared shiftsWithBar fraction arrange moved signedBytes nodeBytes bytesOf found successor enlarged symbolIn symbolPart ruleNodes itemNodes itemBox placed nextClass setItems setItem setField setList absentAt missingItems missingItem missingField nodesFit boxFits itemsFit itemFits fieldFits listFits ifFits ifPresent ifRead ifGood ifStyle resultOf measuredBy measured hasRoom setBy setting bufferBy bufferAfter
+definitions = tt

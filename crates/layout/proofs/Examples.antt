@@ -1,0 +1,176 @@
+-- The worked examples of document 01, computed by the definition from bytes: P1 to P12 as one table under one statement,
+-- `examples-hold`, and the underlined a with the 36 bytes of its two nodes, `underlined-answer` and `underlined-buffer`.
+-- Assumes nothing.
+use mathlib.Core.Path.{_≡_, refl}
+use mathlib.Core.List.{List, [], _∷_, _++_, map}
+use Prim.Native.Nat.{ℕ}
+use lib.IntN.{ℤ, pos, negℤ}
+use Rattle.rules.specs.Boxes.{Size}
+use Rattle.layout.specs.Nodes.{Node, glyph, rule}
+use Rattle.layout.specs.Setting.{Box}
+use Rattle.layout.specs.Answers.{Result, boxed, resultOf, Answered, measured, setting, bufferAfter}
+use Rattle.layout.proofs.BenchTable.{benchTable}
+use Rattle.layout.proofs.Definitions.{definitions}
+
+-- ---- formulas as bytes
+
+-- a field: empty, or a symbol with its family and code
+abbrev empty : List ℕ
+empty = 0 ∷ []
+
+abbrev symbol : ℕ → ℕ → List ℕ
+symbol family code = 1 ∷ family ∷ code ∷ []
+
+abbrev a : List ℕ
+a = symbol 1 97
+
+abbrev f : List ℕ
+f = symbol 1 102
+
+-- an item: A, T with class and limits, or F, R with the bar
+abbrev atom : ℕ → List ℕ → List ℕ → List ℕ → List ℕ
+atom class nucleus superscript subscript = 65 ∷ 84 ∷ class ∷ 0 ∷ (nucleus ++ superscript ++ subscript)
+
+abbrev alone : ℕ → List ℕ → List ℕ
+alone class nucleus = atom class nucleus empty empty
+
+abbrev fraction : ℕ → List ℕ
+fraction bar = 70 ∷ 82 ∷ bar ∷ (a ++ a)
+
+abbrev ord : ℕ
+ord = 0
+
+abbrev op : ℕ
+op = 1
+
+abbrev plus : List ℕ
+plus = alone 2 (symbol 2 43)
+
+abbrev equals : List ℕ
+equals = alone 3 (symbol 2 61)
+
+-- ---- the table
+
+record Example : Type 0 where
+  formula : List ℕ
+  style : ℕ
+  box : Box
+
+abbrev example : List ℕ → ℕ → ℤ → ℤ → ℤ → List Node → Example
+example formula style width height depth nodes =
+    record {
+      formula = formula;
+      style = style;
+      box = record { size = record { width = width; height = height; depth = depth }; nodes = nodes };
+    }
+
+abbrev minus : ℕ → ℤ
+minus n = negℤ (pos n)
+
+-- the numbers of the styles
+abbrev D : ℕ
+D = 0
+
+abbrev T : ℕ
+T = 2
+
+abbrev T′ : ℕ
+T′ = 3
+
+abbrev S : ℕ
+S = 4
+
+-- formula, style, width, height, depth, nodes
+examples : List Example
+examples =
+    -- P1
+    example [] T (pos 0) (pos 0) (pos 0) []
+    -- P2
+    ∷ example (alone ord f) T (pos 600) (pos 700) (pos 200) (glyph (pos 0) (pos 0) 0 1 102 ∷ [])
+    -- P3
+    ∷ example (alone ord a ++ plus ++ alone ord a) T (pos 2220) (pos 580) (pos 80)
+    (glyph (pos 0) (pos 0) 0 1 97 ∷ glyph (pos 720) (pos 0) 0 2 43 ∷ glyph (pos 1720) (pos 0) 0 1 97 ∷ [])
+    -- P4
+    ∷ example (alone ord a ++ plus ++ alone ord a) S (pos 1780) (pos 580) (pos 80)
+    (glyph (pos 0) (pos 0) 1 1 97 ∷ glyph (pos 500) (pos 0) 1 2 43 ∷ glyph (pos 1280) (pos 0) 1 1 97 ∷ [])
+    -- P5
+    ∷ example (plus ++ alone ord a) T (pos 1280) (pos 580) (pos 80)
+    (glyph (pos 0) (pos 0) 0 2 43 ∷ glyph (pos 780) (pos 0) 0 1 97 ∷ [])
+    -- P6
+    ∷ example (alone ord a ++ plus ++ equals ++ alone ord a) T (pos 3110) (pos 580) (pos 80)
+    (glyph (pos 0) (pos 0) 0 1 97
+    ∷ glyph (pos 500) (pos 0) 0 2 43
+    ∷ glyph (pos 1555) (pos 0) 0 2 61
+    ∷ glyph (pos 2610) (pos 0) 0 1 97
+    ∷ [])
+    -- P7, twice
+    ∷ example (atom ord a a empty) T (pos 33768) (pos 800) (pos 0)
+    (glyph (pos 0) (pos 0) 0 1 97 ∷ glyph (pos 500) (pos 370) 1 1 97 ∷ [])
+    ∷ example (atom ord a a empty) T′ (pos 33768) (pos 720) (pos 0)
+    (glyph (pos 0) (pos 0) 0 1 97 ∷ glyph (pos 500) (pos 290) 1 1 97 ∷ [])
+    -- P8
+    ∷ example (atom ord f a a) T (pos 33868) (pos 800) (pos 250)
+    (glyph (pos 0) (pos 0) 0 1 102 ∷ glyph (pos 600) (pos 370) 1 1 97 ∷ glyph (pos 490) (minus 250) 1 1 97 ∷ [])
+    -- P9
+    ∷ example (atom ord f a a) T′ (pos 33868) (pos 774) (pos 246)
+    (glyph (pos 0) (pos 0) 0 1 102 ∷ glyph (pos 600) (pos 344) 1 1 97 ∷ glyph (pos 490) (minus 246) 1 1 97 ∷ [])
+    -- P10
+    ∷ example (fraction 0) T (pos 500) (pos 830) (pos 350)
+    (glyph (pos 0) (pos 400) 1 1 97
+    ∷ rule (pos 0) (pos 230) (pos 500) (pos 40)
+    ∷ glyph (pos 0) (minus 350) 1 1 97
+    ∷ [])
+    -- P11
+    ∷ example (fraction 1) T (pos 500) (pos 880) (pos 350)
+    (glyph (pos 0) (pos 450) 1 1 97 ∷ glyph (pos 0) (minus 350) 1 1 97 ∷ [])
+    -- P12
+    ∷ example (atom op (symbol 3 80) empty a) D (pos 1400) (pos 950) (pos 1150)
+    (glyph (pos 0) (pos 950) 0 3 88 ∷ glyph (pos 450) (minus 1050) 1 1 97 ∷ [])
+    ∷ []
+
+computed : Example → Result
+computed e = resultOf (e .style) benchTable (e .formula)
+
+stated : Example → Result
+stated e = boxed (e .box)
+
+examples-hold : map computed examples ≡ map stated examples
+unfolding definitions benchTable examples computed stated
+examples-hold = refl
+
+-- ---- the underlined a, in T, with a buffer that has two bytes more than its nodes need
+
+underlined : List ℕ
+underlined = 85 ∷ 78 ∷ (a ++ empty ++ empty)
+
+buffer : List ℕ
+buffer =
+    9 ∷ 9 ∷ 9 ∷ 9 ∷ 9 ∷ 9 ∷ 9 ∷ 9 ∷ 9 ∷ 9 ∷ 9 ∷ 9 ∷ 9 ∷ 9 ∷ 9 ∷ 9 ∷ 9 ∷ 9 ∷ 9
+    ∷ 9 ∷ 9 ∷ 9 ∷ 9 ∷ 9 ∷ 9 ∷ 9 ∷ 9 ∷ 9 ∷ 9 ∷ 9 ∷ 9 ∷ 9 ∷ 9 ∷ 9 ∷ 9 ∷ 9 ∷ 9 ∷ 9 ∷ []
+
+underlinedAnswer : Answered
+underlinedAnswer =
+    record {
+      number = 0;
+      place = 0;
+      size = record { width = pos 500; height = pos 430; depth = pos 200 };
+      count = 2;
+    }
+
+underlined-measured : measured T benchTable underlined ≡ underlinedAnswer
+unfolding definitions benchTable underlined underlinedAnswer
+underlined-measured = refl
+
+underlined-set : setting T benchTable underlined 38 ≡ underlinedAnswer
+unfolding definitions benchTable underlined underlinedAnswer
+underlined-set = refl
+
+underlined-buffer :
+    bufferAfter T benchTable underlined buffer
+    ≡ 0x47 ∷ 0x4c ∷ 0x00 ∷ 0x00 ∷ 0x00 ∷ 0x00 ∷ 0x00 ∷ 0x00 ∷ 0x00
+    ∷ 0x00 ∷ 0x00 ∷ 0x01 ∷ 0x61 ∷ 0x00 ∷ 0x00 ∷ 0x00 ∷ 0x00 ∷ 0x00
+    ∷ 0x52 ∷ 0x55 ∷ 0x00 ∷ 0x00 ∷ 0x00 ∷ 0x00 ∷ 0x60 ∷ 0xff ∷ 0xff
+    ∷ 0xff ∷ 0xf4 ∷ 0x01 ∷ 0x00 ∷ 0x00 ∷ 0x28 ∷ 0x00 ∷ 0x00 ∷ 0x00
+    ∷ 9 ∷ 9 ∷ []
+unfolding definitions benchTable underlined buffer
+underlined-buffer = refl

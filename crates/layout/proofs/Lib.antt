@@ -1,0 +1,3 @@
+mod BenchTable
+mod Definitions
+mod Examples
