@@ -1,2 +1,3 @@
-pub mod FirstBytes
-pub mod VerdictLaws
+-- What the proofs of several functions use. Assumes nothing.
+mod FirstBytes
+mod VerdictLaws

@@ -1,6 +1,7 @@
 -- What the reader says of a reading, by the reading's own steps.
 --     later, verdict-step     a list: what its first item says, and then what the rest says
---     StepIn, Placed          places lie in the list, and a part that is read ends behind its start: `field-in`, `item-in`, `placed`
+--     StepIn, Placed          a fault's place lies in the list, and a part that is read ends in it, behind its start:
+--                             `field-in`, `item-in`, `placed`
 --     field-step ..           a field, by its head; `noad-stop` .. an item, by its fields
 --     list-next ..            a turn of the loop over a list's items
 -- Assumes nothing.
@@ -45,7 +46,8 @@ unfolding told before
 told-before i size (good l) = refl
 told-before i size (fault number place) = refl
 
-verdict-step : (levels : ℕ) (s : List ℕ) → 0 < length s → told (read levels s) ≡ goOn levels s (stepOf (itemBy read levels s))
+verdict-step : (levels : ℕ) (s : List ℕ) → 0 < length s →
+    told (read levels s) ≡ goOn levels s (stepOf (itemBy read levels s))
 unfolding told stepOf restBy
 verdict-step levels s pos = ap told (read-some levels s pos) ∙ go (itemBy read levels s)
   where
@@ -70,7 +72,10 @@ unfolding stepOf
 then-in lo hi (got a m) k h f = f a m (h .0) (h .1)
 then-in lo hi (stopped number place) k h f = h
 
-module _ (s : List ℕ) (ih : (r : List ℕ) → length r < length s → (levels : ℕ) → Placed (length r) (told (read levels r))) where
+abbrev AllPlaced : List ℕ → Type 0
+AllPlaced s = (levels : ℕ) → Placed (length s) (told (read levels s))
+
+module _ (s : List ℕ) (ih : (r : List ℕ) → length r < length s → AllPlaced r) where
   field-by-in : (levels at : ℕ) → at ≤ length s → StepIn at (length s) (stepOf (fieldAt read levels s at))
   unfolding fieldAt fieldBy listGot stepOf told
   field-by-in levels at l = go levels (headAt s at) refl
@@ -80,7 +85,8 @@ module _ (s : List ℕ) (ih : (r : List ℕ) → length r < length s → (levels
       inside at n (good l) h p = omega arith
       inside at n (fault number place) h p = omega arith
 
-      go : (levels : ℕ) (h : FieldHead) → headAt s at ≡ h → StepIn at (length s) (stepOf (fieldBy read levels at (drop at s) h))
+      go : (levels : ℕ) (h : FieldHead) → headAt s at ≡ h →
+          StepIn at (length s) (stepOf (fieldBy read levels at (drop at s) h))
       go levels NoField e = omega arith
       go levels Empty e = omega (arith, length-drop at s, head-fits (drop at s) Empty e)
       go levels (Symbol family code) e = omega (arith, length-drop at s, head-fits (drop at s) (Symbol family code) e)
@@ -94,7 +100,8 @@ module _ (s : List ℕ) (ih : (r : List ℕ) → length r < length s → (levels
       go zero CutSublist e = l
       go (suc levels) CutSublist e = omega arith
 
-  third-in : (levels : ℕ) (kind : Kind) (at : ℕ) → 0 < at → at ≤ length s → StepIn 0 (length s) (stepOf (thirdAt read levels s kind at))
+  third-in : (levels : ℕ) (kind : Kind) (at : ℕ) → 0 < at → at ≤ length s →
+      StepIn 0 (length s) (stepOf (thirdAt read levels s kind at))
   unfolding thirdAt stepOf
   third-in levels kind at pos l = go kind
     where
@@ -118,9 +125,11 @@ module _ (s : List ℕ) (ih : (r : List ℕ) → length r < length s → (levels
       go : (o : Opening) → openedBytes o ≤ length s → StepIn 0 (length s) (stepOf (openedBy read levels s o))
       go NoItem h = omega arith
       go (Fields kind) h =
-          then-in (openingBytes kind) (length s) (fieldAt read levels s (openingBytes kind)) _ (field-by-in levels (openingBytes kind) h) (λ a m p q.
-          then-in m (length s) (fieldAt read levels s m) _ (field-by-in levels m q) (λ b m p q.
-          then-in 0 (length s) (thirdAt read levels s kind m) _ (third-in levels kind m (omega arith) q) (λ c m p q. (p, q))))
+          let n = length s in
+          let first = openingBytes kind in
+          then-in first n (fieldAt read levels s first) _ (field-by-in levels first h) (λ a m p q.
+          then-in m n (fieldAt read levels s m) _ (field-by-in levels m q) (λ b m p q.
+          then-in 0 n (thirdAt read levels s kind m) _ (third-in levels kind m (omega arith) q) (λ c m p q. (p, q))))
       go (Kern n) h = omega arith
 
   placed-by : (levels : ℕ) → Placed (length s) (told (read levels s))
@@ -130,7 +139,8 @@ module _ (s : List ℕ) (ih : (r : List ℕ) → length r < length s → (levels
       rest : (x : Step) → StepIn 0 (length s) x → Placed (length s) (goOn levels s x)
       rest (Next k) h =
           let l : length (drop k s) ≡ length s - k = length-drop k s in
-          on k (told (read levels (drop k s))) (h .1) (subst (λ (m : ℕ). Placed m (told (read levels (drop k s)))) l (ih (drop k s) (omega arith) levels))
+          let v = told (read levels (drop k s)) in
+          on k v (h .1) (subst (λ (m : ℕ). Placed m v) l (ih (drop k s) (omega arith) levels))
         where
           on : (k : ℕ) (v : Verdict) → k ≤ length s → Placed (length s - k) v → Placed (length s) (later k v)
           on k Good h p = tt
@@ -142,7 +152,7 @@ module _ (s : List ℕ) (ih : (r : List ℕ) → length r < length s → (levels
       go (suc n) z = rw (verdict-step levels s (omega arith)) (rest (stepOf (itemBy read levels s)) (item-by-in levels))
 
 pub placed : (s : List ℕ) (levels : ℕ) → Placed (length s) (told (read levels s))
-placed = by-length (λ s. (levels : ℕ) → Placed (length s) (told (read levels s))) placed-by
+placed = by-length AllPlaced placed-by
 
 pub field-in : (s : List ℕ) (levels at : ℕ) → at ≤ length s → StepIn at (length s) (stepOf (fieldAt read levels s at))
 field-in s = field-by-in s (λ r l. placed r)
@@ -178,7 +188,8 @@ module _ (levels at : ℕ) (s : List ℕ) where
   pub field-step : (h : FieldHead) → fieldHead rest ≡ h →
       stepOf (fieldAt read levels s at) ≡ stepOf (fieldBy read levels at (drop at s) h)
   unfolding fieldAt
-  field-step h e = ap (λ (h : FieldHead). stepOf (fieldBy read levels at (drop at s) h)) (ap fieldHead (sym (tail-part s at)) ∙ e)
+  field-step h e =
+      ap (λ (h : FieldHead). stepOf (fieldBy read levels at (drop at s) h)) (ap fieldHead (sym (tail-part s at)) ∙ e)
 
   pub field-fits : (h : FieldHead) → fieldHead rest ≡ h → at ≤ length s → at + headBytes h ≤ length s
   field-fits h e l = omega (arith, head-fits (drop at s) h (ap fieldHead (sym (tail-part s at)) ∙ e), length-drop at s)
@@ -208,7 +219,8 @@ module _ (levels at : ℕ) (s : List ℕ) where
 
   pub field-list : (n : ℕ) (v : Verdict) → fieldHead rest ≡ Sublist n → 0 < levels →
       let start = at + listOpeningBytes in
-      told (read (levels - 1) (take (start + n - start) (drop start s))) ≡ v → stepOf (fieldAt read levels s at) ≡ inside start n v
+      told (read (levels - 1) (take (start + n - start) (drop start s))) ≡ v →
+      stepOf (fieldAt read levels s at) ≡ inside start n v
   unfolding fieldBy stepOf
   field-list n v e pos h = field-step (Sublist n) e ∙ go levels pos (rw (part-is n) at h)
     where
@@ -249,7 +261,8 @@ module _ (levels : ℕ) (s : List ℕ) (kind : Kind) where
         stepOf (noadAt read levels s kind) ≡ Stop number place
     unfolding noadAt
     noad-second number place e =
-        then-next (fieldAt read levels s (openingBytes kind)) _ m _ first (λ a. then-stop (fieldAt read levels s m) _ number place e)
+        then-next (fieldAt read levels s (openingBytes kind)) _ m _ first (λ a.
+        then-stop (fieldAt read levels s m) _ number place e)
 
     noad-third : (e : ℕ) → stepOf (fieldAt read levels s m) ≡ Next e →
         stepOf (noadAt read levels s kind) ≡ stepOf (thirdAt read levels s kind e)
@@ -313,13 +326,12 @@ module _ (levels : ℕ) (s : List ℕ) (at : ℕ) (low : at < length s)
       (0 < k) × (at + k ≤ length s) × (told (read levels s) ≡ later (at + k) (told (read levels (drop (at + k) s))))
   list-next k e =
       let b : StepIn 0 (length (drop at s)) (Next k) = subst (StepIn 0 (length (drop at s))) e item-bounds in
-      let l : length (drop at s) ≡ length s - at = length-drop at s in
-      (
+      let l : length (drop at s) ≡ length s - at = length-drop at s in (
         b .0,
         omega arith,
         list-said ∙ ap (λ (x : Step). later at (goOn levels (drop at s) x)) e
-        ∙ later-later at k (told (read levels (drop k (drop at s))))
-        ∙ ap (λ (r : List ℕ). later (at + k) (told (read levels r))) (drop-drop k at s),
+            ∙ later-later at k (told (read levels (drop k (drop at s))))
+            ∙ ap (λ (r : List ℕ). later (at + k) (told (read levels r))) (drop-drop k at s),
       )
 
   pub list-stop : (number place : ℕ) → x ≡ Stop number place →
@@ -332,4 +344,6 @@ module _ (levels : ℕ) (s : List ℕ) (at : ℕ) (low : at < length s)
 pub list-done : (levels : ℕ) (s : List ℕ) (at : ℕ) → length s ≤ at →
     told (read levels s) ≡ later at (told (read levels (drop at s))) → told (read levels s) ≡ Good
 unfolding told
-list-done levels s at h inv = inv ∙ ap (λ (x : Read). later at (told x)) (read-none levels (drop at s) (omega (arith, length-drop at s)))
+list-done levels s at h inv =
+    let none = read-none levels (drop at s) (omega (arith, length-drop at s)) in
+    inv ∙ ap (λ (x : Read). later at (told x)) none

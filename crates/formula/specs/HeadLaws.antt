@@ -51,7 +51,8 @@ list-fits kind [] = omega arith
 list-fits kind (low ∷ []) = omega arith
 list-fits kind (low ∷ high ∷ s) =
     let n = littleEndian 2 (low ∷ high ∷ []) in
-    either (HeadIn (kind ∷ low ∷ high ∷ s)) (leb n (length s)) (λ e. omega (arith, leb-true n (length s) e)) (λ e. omega arith)
+    either (HeadIn (kind ∷ low ∷ high ∷ s)) (leb n (length s))
+    (λ e. omega (arith, leb-true n (length s) e)) (λ e. omega arith)
 
 head-in : (s : List ℕ) → HeadIn s (fieldHead s)
 unfolding fieldHead HeadIn
@@ -81,7 +82,8 @@ atom-in : (s : List ℕ) (class : Option Class) (limits : Option Limits) → 4 �
 unfolding atomOf OpeningIn
 atom-in s none limits h = omega arith
 atom-in s (some class) none h = omega arith
-atom-in s (some class) (some limits) h = either (OpeningIn s) (isOp class || isDisplayOnly limits) (λ e. h) (λ e. omega arith)
+atom-in s (some class) (some limits) h =
+    either (OpeningIn s) (isOp class || isDisplayOnly limits) (λ e. h) (λ e. omega arith)
 
 fraction-in : (s : List ℕ) (bar : Option Bar) → 3 ≤ length s → OpeningIn s (fractionOf bar)
 unfolding fractionOf OpeningIn

@@ -19,7 +19,7 @@ use Rattle.formula.specs.declared.Opening.the-variants.{NoItem, Fields, 
 use Rattle.formula.specs.declared.FieldHead.{FieldHead}
 use Rattle.formula.specs.declared.FieldHead.the-variants.{NoField, Empty, Symbol, Sublist, CutSublist}
 use Rattle.formula.specs.Tree.{Items, Item, Field, nil, noad, kern, empty, symbol, list, openingBytes, kernBytes, symbolBytes, listOpeningBytes}
-use Rattle.formula.specs.Heads.{openingOf, fieldHead}
+use Rattle.formula.specs.Heads.{fieldHead}
 use Rattle.formula.specs.Reading.{Read, good, fault, read}
 
 -- ---- a list
@@ -116,7 +116,8 @@ module _ (s : List ℕ) where
 
   abbrev pub itemOf : Opening → Item
   itemOf NoItem = kern (pos 0)
-  itemOf (Fields kind) = noad kind (fieldIn (openingBytes kind)) (fieldIn (second kind)) (thirdIn (hasThird kind) (third kind))
+  itemOf (Fields kind) =
+      noad kind (fieldIn (openingBytes kind)) (fieldIn (second kind)) (thirdIn (hasThird kind) (third kind))
   itemOf (Kern n) = kern (n .0)
 
   abbrev pub GoodFieldAt : ℕ → Type 0

@@ -97,7 +97,8 @@ step-by s r pos =
     let o = openingOf s in
     let rest = drop (itemSize s o) s in
     let g = list-good d s (treeOf s) pos (known s r) in
-    let i = item-known s o (g .first) (item-map (Below read d) Known s (λ r l k. below-known d r l) o (g .first) (g .first-is)) in
+    let is = item-map (Below read d) Known s (λ r l k. below-known d r l) o (g .first) (g .first-is) in
+    let i = item-known s o (g .first) is in
     record {
       some = size-some (Below read d) s o (g .first) (g .first-is);
       fits = size-fits s;
@@ -155,8 +156,9 @@ written-step s ih r = go (length s) refl
         let p = step-by s r (omega arith) in
         let size = itemSize s (openingOf s) in
         let k : length (drop size s) ≡ length s - size = length-drop size s in
-        ap itemsBytes (p .tree)
-        ∙ omega (arith, p .some, p .fits, item-by-bytes s ih (openingOf s) (p .item), ih (drop size s) (omega arith) (p .rest))
+        let first = item-by-bytes s ih (openingOf s) (p .item) in
+        let others = ih (drop size s) (omega arith) (p .rest) in
+        ap itemsBytes (p .tree) ∙ omega arith
 
 pub items-bytes : (s : List ℕ) → Readable s → itemsBytes (treeOf s) ≡ length s
 unfolding Written

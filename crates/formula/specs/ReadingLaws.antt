@@ -5,8 +5,8 @@
 --     item-got, got-item   `itemBy` gives an item exactly where `ItemIs` holds, and the place behind it is `itemSize`
 --     read-step            the equation of `read` with no number of steps in it, from `enough`
 --     list-good, good-list a list that is not empty reads exactly where its first item and the rest do
---     agree                a list that reads with some number of levels reads to the same tree with any number that is not less,
---                          or not less than the list is long
+--     agree                a list that reads with some number of levels reads to the same tree with any number that is
+--                          not less, or not less than the list is long
 -- Assumes nothing.
 use mathlib.Core.Path.{_≡_, refl, sym, ap, ap₂, _∙_}
 use mathlib.Core.Bool.{Bool, true, false}
@@ -36,14 +36,18 @@ by-length P step s = go (suc (length s)) s (omega arith)
 
 -- ---- a field and an item by their heads
 
-abbrev pub FieldIs : (List ℕ → Items → Type 0) → List ℕ → FieldHead → Field → Type 0
+-- what may be said of a list of bytes and of items
+abbrev pub Says : Type 1
+Says = List ℕ → Items → Type 0
+
+abbrev pub FieldIs : Says → List ℕ → FieldHead → Field → Type 0
 FieldIs P s NoField f = ⊥
 FieldIs P s Empty f = f ≡ empty
 FieldIs P s (Symbol family code) f = f ≡ symbol family code
 FieldIs P s (Sublist n) f = (l : Items) × P (contents n s) l × (f ≡ list l)
 FieldIs P s CutSublist f = ⊥
 
-module _ (P : List ℕ → Items → Type 0) (s : List ℕ) where
+module _ (P : Says) (s : List ℕ) where
   abbrev pub FieldAtIs : ℕ → Field → Type 0
   FieldAtIs at f = FieldIs P (drop at s) (headAt s at) f
 
@@ -66,14 +70,15 @@ module _ (P : List ℕ → Items → Type 0) (s : List ℕ) where
   ItemIs (Kern n) i = i ≡ kern (n .0)
 
 -- a field is at least one byte long
-pub head-some : (P : List ℕ → Items → Type 0) (s : List ℕ) (h : FieldHead) (f : Field) → FieldIs P s h f → 0 < headBytes h
+pub head-some : (P : Says) (s : List ℕ) (h : FieldHead) (f : Field) → FieldIs P s h f → 0 < headBytes h
 head-some P s NoField f i = absurd i
 head-some P s Empty f i = omega arith
 head-some P s (Symbol family code) f i = omega arith
 head-some P s (Sublist n) f i = omega arith
 head-some P s CutSublist f i = absurd i
 
-module _ (P Q : List ℕ → Items → Type 0) (s : List ℕ) (to : (r : List ℕ) (l : Items) → length r < length s → P r l → Q r l) where
+module _ (P Q : Says) (s : List ℕ)
+    (to : (r : List ℕ) (l : Items) → length r < length s → P r l → Q r l) where
   field-map : (at : ℕ) (f : Field) → FieldAtIs P s at f → FieldAtIs Q s at f
   field-map at f i = go (headAt s at) refl i
     where
@@ -126,7 +131,7 @@ third-end-some : (s : List ℕ) (has : Bool) (at : ℕ) → 0 < at → 0 < third
 third-end-some s true at h = omega arith
 third-end-some s false at h = h
 
-pub size-some : (P : List ℕ → Items → Type 0) (s : List ℕ) (o : Opening) (i : Item) → ItemIs P s o i → 0 < itemSize s o
+pub size-some : (P : Says) (s : List ℕ) (o : Opening) (i : Item) → ItemIs P s o i → 0 < itemSize s o
 size-some P s NoItem i h = absurd h
 size-some P s (Fields kind) i h =
     third-end-some s (hasThird kind) (third s kind)
@@ -135,8 +140,11 @@ size-some P s (Kern n) i h = omega arith
 
 -- ---- `itemBy` gives an item exactly where `ItemIs` holds
 
+abbrev pub Reader : Type 0
+Reader = ℕ → List ℕ → Read
+
 -- read by R on the level below
-abbrev pub Below : (ℕ → List ℕ → Read) → ℕ → List ℕ → Items → Type 0
+abbrev pub Below : Reader → ℕ → List ℕ → Items → Type 0
 Below R zero r l = ⊥
 Below R (suc levels) r l = R levels r ≡ good l
 
@@ -157,7 +165,7 @@ unfolding listGot
 list-got at n (good l) f e q = (l, refl, (cc), (cc))
 list-got at n (fault number place) f e q = stopped-got q
 
-module _ (R : ℕ → List ℕ → Read) where
+module _ (R : Reader) where
   field-by-got : (levels at : ℕ) (s : List ℕ) (h : FieldHead) (f : Field) (e : ℕ) → fieldBy R levels at s h ≡ got f e →
       FieldIs (Below R levels) s h f × (e ≡ at + headBytes h)
   unfolding fieldBy
@@ -218,8 +226,7 @@ module _ (R : ℕ → List ℕ → Read) where
         let g₂ = then-got (fieldAt R levels s (g₁ .1)) _ i e (g₁ .3) in
         let f₂ = field-got (second s kind) (g₂ .0) (g₂ .1) (ap (fieldAt R levels s) (sym (f₁ .1)) ∙ g₂ .2) in
         let g₃ = then-got (thirdAt R levels s kind (g₂ .1)) _ i e (g₂ .3) in
-        let f₃ = third-got kind (third s kind) (g₃ .0) (g₃ .1) (ap (thirdAt R levels s kind) (sym (f₂ .1)) ∙ g₃ .2) in
-        (
+        let f₃ = third-got kind (third s kind) (g₃ .0) (g₃ .1) (ap (thirdAt R levels s kind) (sym (f₂ .1)) ∙ g₃ .2) in (
           record {
             a = g₁ .0;
             b = g₂ .0;
@@ -235,7 +242,10 @@ module _ (R : ℕ → List ℕ → Read) where
     got-noad : (kind : Kind) (i : Item) → NoadIs (Below R levels) s kind i → noadAt R levels s kind ≡ got i (end s kind)
     unfolding noadAt
     got-noad kind i h =
-        rw (got-field (openingBytes kind) (h .a) (h .a-is), got-field (second s kind) (h .b) (h .b-is), got-third kind (third s kind) (h .c) (h .c-is), h .is)
+        let a = got-field (openingBytes kind) (h .a) (h .a-is) in
+        let b = got-field (second s kind) (h .b) (h .b-is) in
+        let c = got-third kind (third s kind) (h .c) (h .c-is) in
+        rw (a, b, c, h .is)
 
     pub item-got : (i : Item) (e : ℕ) → itemBy R levels s ≡ got i e →
         ItemIs (Below R levels) s (openingOf s) i × (e ≡ itemSize s (openingOf s))
@@ -247,7 +257,8 @@ module _ (R : ℕ → List ℕ → Read) where
         go (Fields kind) q = noad-got kind i e q
         go (Kern n) q = ((cc), (cc))
 
-    pub got-item : (i : Item) → ItemIs (Below R levels) s (openingOf s) i → itemBy R levels s ≡ got i (itemSize s (openingOf s))
+    pub got-item : (i : Item) → ItemIs (Below R levels) s (openingOf s) i →
+        itemBy R levels s ≡ got i (itemSize s (openingOf s))
     unfolding itemBy openedBy
     got-item i h = go (openingOf s) h
       where
@@ -267,7 +278,8 @@ then-same : {A B : Type 0} (g g′ : Got A) (k k′ : A → ℕ → Got B) → g
     (g thenAt k) ≡ (g′ thenAt k′)
 then-same g g′ k k′ e h = rw e (then-after g′ k k′ h)
 
-module _ (R R′ : ℕ → List ℕ → Read) (levels : ℕ) (s : List ℕ) (same : (d : ℕ) (r : List ℕ) → length r < length s → R d r ≡ R′ d r) where
+module _ (R R′ : Reader) (levels : ℕ) (s : List ℕ)
+    (same : (d : ℕ) (r : List ℕ) → length r < length s → R d r ≡ R′ d r) where
   field-same : (at : ℕ) → fieldAt R levels s at ≡ fieldAt R′ levels s at
   unfolding fieldAt fieldBy
   field-same at = go levels (headAt s at) refl
@@ -315,7 +327,7 @@ module _ (R R′ : ℕ → List ℕ → Read) (levels : ℕ) (s : List ℕ) (sam
       ap (before i size) (same levels (drop size s) (omega (arith, length-drop size s, is .1, size-fits s)))
   rest-same (stopped number place) e = refl
 
-list-same : (R R′ : ℕ → List ℕ → Read) (levels : ℕ) (s : List ℕ) →
+list-same : (R R′ : Reader) (levels : ℕ) (s : List ℕ) →
     ((d : ℕ) (r : List ℕ) → length r < length s → R d r ≡ R′ d r) → listBy R levels s ≡ listBy R′ levels s
 unfolding listBy
 list-same R R′ levels [] same = refl
@@ -395,7 +407,8 @@ agree-step : (s : List ℕ) → ((r : List ℕ) → length r < length s → Agre
 unfolding Agrees
 agree-step s ih d e l q h = go (length s) refl
   where
-    below : (d e : ℕ) → min d (length s) ≤ e → (r : List ℕ) (l : Items) → length r < length s → Below read d r l → Below read e r l
+    below : (d e : ℕ) → min d (length s) ≤ e →
+        (r : List ℕ) (l : Items) → length r < length s → Below read d r l → Below read e r l
     below zero e h r l k b = absurd b
     below (suc d) zero h r l k b = absurd (omega arith)
     below (suc d) (suc e) h r l k b = ih r k d e l b (omega arith)

@@ -1,4 +1,4 @@
-// What stands at the head of an item and of a field. Each function is total: any bytes may come.
+// What stands at the head of an item and of a field, with nothing within a list looked at. Any bytes may come.
 
 ghost use mathlib.Core.Path.{_≡_};
 ghost use mathlib.Core.Bool.{_&&_};
@@ -10,10 +10,19 @@ ghost use Rattle.scaled.specs.Words.{signedWord};
 ghost use Rattle.formula.specs.Tree.{openingBytes};
 ghost use Rattle.formula.specs.Heads.{markOf, classes, limitKinds, isOp, isDisplayOnly, atomOf, atomOpening, fractionOpening, kernWithin, kernOpening, opens, openingOf, symbolHead, listHead, fieldHead};
 ghost use Rattle.formula.specs.Places.{headBytes, hasThird};
+use crate::Bar;
+use crate::Class;
+use crate::FieldHead;
+use crate::Kind;
+use crate::Limits;
+use crate::Mark;
+use crate::Opening;
 use scaled::Sp;
-use crate::{Class, Limits, Bar, Kind, Mark, Opening, FieldHead};
+
+const LEAST_KERN: i64 = -8_388_607;
 
 const GREATEST_KERN: i64 = 8_388_607;
+
 const GREATEST_FAMILY: u8 = 15;
 
 // What opens with the first byte of s.
@@ -201,7 +210,7 @@ fn kern_opening(s: &[u8]) -> Opening
 fn kern(n: Sp) -> Opening
     ensures { λ r. ⌜ r ≡ kernWithin (n .0) ⌝ }
 {
-    if n.less(Sp(-GREATEST_KERN)) {
+    if n.less(Sp(LEAST_KERN)) {
         return Opening::NoItem;
     }
     if Sp(GREATEST_KERN).less(n) {
@@ -221,7 +230,7 @@ fn signed(w: u32) -> Sp
     }
 }
 
-// The number of four bytes, and of two.
+// The number that four bytes make, the least significant first; `short`, that of two.
 fn word(a: u8, b: u8, c: u8, d: u8) -> u32
     ensures { λ r. ⌜ r ≡ a + 256 * (b + 256 * (c + 256 * d)) ⌝ }
 {

@@ -1,4 +1,5 @@
--- `atom` meets its contract: the two numbers stand in their lists or past them, and `is_op` and `is_display_only` decide the rest.
+-- `atom` meets its contract: the two numbers stand in their lists or past them, and `is_op` and `is_display_only`
+-- decide the rest.
 -- Assumes nothing.
 use mathlib.Core.Path.{sym, _∙_}
 use lib.ListN.{getElem?}
@@ -40,7 +41,12 @@ returns-4 c =
     let op = c .before .before in
     let limits = op .before .before in
     let class = limits .before in
-    simp (class .class-of .ensures, limits .limits-of .ensures, sym (op .before .is-op .ensures) ∙ op .if3 .left, sym (c .before .is-display-only .ensures) ∙ c .if4 .taken)
+    simp (
+      class .class-of .ensures,
+      limits .limits-of .ensures,
+      sym (op .before .is-op .ensures) ∙ op .if3 .left,
+      sym (c .before .is-display-only .ensures) ∙ c .if4 .taken,
+    )
 
 returns-5 : tie.Need-returns-5
 unfolding atomOf
@@ -48,7 +54,12 @@ returns-5 c =
     let op = c .before .before in
     let limits = op .before .before in
     let class = limits .before in
-    simp (class .class-of .ensures, limits .limits-of .ensures, sym (op .before .is-op .ensures) ∙ op .if3 .left, sym (c .before .is-display-only .ensures) ∙ c .if4 .left)
+    simp (
+      class .class-of .ensures,
+      limits .limits-of .ensures,
+      sym (op .before .is-op .ensures) ∙ op .if3 .left,
+      sym (c .before .is-display-only .ensures) ∙ c .if4 .left,
+    )
 
 pub atom-spec : {M : Type 1} → statement M
 atom-spec =

@@ -11,7 +11,9 @@ use Rattle.formula.proofs.heads.atom_opening.Tie as tie
 
 returns : tie.Need-returns
 unfolding atomOpening
-returns c = sym (short-two atomOpening NoItem refl (λ a. refl) (c .before .before .args .s .now) (c .if1 .taken))
+returns c =
+    let s = c .before .before .args .s .now in
+    sym (short-two atomOpening NoItem refl (λ a. refl) s (c .if1 .taken))
 
 shared-slice-read-atom : tie.Need-shared-slice-read-atom
 shared-slice-read-atom c = search needs
@@ -24,7 +26,9 @@ atom-requires c κs = search needs
 
 returns-2 : tie.Need-returns-2
 unfolding atomOpening
-returns-2 c = c .atom .ensures ∙ sym (ap atomOpening (two (c .before .before .before .before .before .args .s .now) (omega arith)))
+returns-2 c =
+    let s = c .before .before .before .before .before .args .s .now in
+    c .atom .ensures ∙ sym (ap atomOpening (two s (omega arith)))
 
 pub atom-opening-spec : {M : Type 1} → statement M
 atom-opening-spec =

@@ -35,7 +35,7 @@ returns-8 : tie.Need-returns-8
 returns-8 c =
     let not = c .match .rest in
     let from-four : 4 ≤ c .before .args .n =
-        up (up (up (up (omega arith) (not .0 .0 .0 .0 .0 .0 .1)) (not .0 .0 .0 .0 .0 .1)) (not .0 .0 .0 .0 .1)) (not .0 .0 .0 .1)
+    up (up (up (up (omega arith) (not .0 .0 .0 .0 .0 .0 .1)) (not .0 .0 .0 .0 .0 .1)) (not .0 .0 .0 .0 .1)) (not .0 .0 .0 .1)
     in
     let from-seven : 7 ≤ c .before .args .n = up (up (up from-four (not .0 .0 .1)) (not .0 .1)) (not .1) in
     ap (getElem? classes) (last (search needs) from-seven)

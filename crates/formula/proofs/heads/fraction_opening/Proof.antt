@@ -12,18 +12,24 @@ use Rattle.formula.proofs.heads.fraction_opening.Tie as tie
 
 returns : tie.Need-returns
 unfolding fractionOpening
-returns c = sym (short-one fractionOpening NoItem refl (c .before .args .s .now) (c .if1 .taken))
+returns c =
+    let s = c .before .args .s .now in
+    sym (short-one fractionOpening NoItem refl s (c .if1 .taken))
 
 shared-slice-read-bar : tie.Need-shared-slice-read-bar
 shared-slice-read-bar c = search needs
 
 returns-2 : tie.Need-returns-2
 unfolding fractionOpening fractionOf
-returns-2 c = sym (ap fractionOpening (one (c .before .before .before .args .s .now) (omega arith)) ∙ simp (c .if2 .taken))
+returns-2 c =
+    let s = c .before .before .before .args .s .now in
+    sym (ap fractionOpening (one s (omega arith)) ∙ simp (c .if2 .taken))
 
 returns-3 : tie.Need-returns-3
 unfolding fractionOpening fractionOf
-returns-3 c = sym (ap fractionOpening (one (c .before .before .before .before .args .s .now) (omega arith)) ∙ simp (c .if3 .taken))
+returns-3 c =
+    let s = c .before .before .before .before .args .s .now in
+    sym (ap fractionOpening (one s (omega arith)) ∙ simp (c .if3 .taken))
 
 returns-4 : tie.Need-returns-4
 unfolding fractionOpening fractionOf

@@ -7,9 +7,6 @@ use Rattle.formula.proofs.FirstBytes.{kern-in, kern-over, kern-under}
 use Rattle.formula.proofs.heads.kern.Statement.{statement}
 use Rattle.formula.proofs.heads.kern.Tie as tie
 
-sub-t3 : tie.Need-sub-t3
-sub-t3 c = search needs
-
 less-requires : tie.Need-less-requires
 less-requires c κs = search needs
 
@@ -33,4 +30,4 @@ returns-3 c =
     sym (kern-in n (omega arith) (omega arith))
 
 pub kern-spec : {M : Type 1} → statement M
-kern-spec = tie.close (tie.spec sub-t3 less-requires returns less-requires-2 returns-2 returns-3)
+kern-spec = tie.close (tie.spec less-requires returns less-requires-2 returns-2 returns-3)

@@ -20,7 +20,11 @@ returns-2 : tie.Need-returns-2
 unfolding markOf
 returns-2 c =
     let first = c .before .before in
-    simp (markOf, sym (first .before .both .ensures) ∙ first .if1 .left, sym (c .before .both2 .ensures) ∙ c .if2 .taken)
+    simp (
+      markOf,
+      sym (first .before .both .ensures) ∙ first .if1 .left,
+      sym (c .before .both2 .ensures) ∙ c .if2 .taken,
+    )
 
 both-requires-3 : tie.Need-both-requires-3
 both-requires-3 c κs = search needs
@@ -30,7 +34,12 @@ unfolding markOf
 returns-3 c =
     let second = c .before .before in
     let first = second .before .before in
-    simp (markOf, sym (first .before .both .ensures) ∙ first .if1 .left, sym (second .before .both2 .ensures) ∙ second .if2 .left, sym (c .before .both3 .ensures) ∙ c .if3 .taken)
+    simp (
+      markOf,
+      sym (first .before .both .ensures) ∙ first .if1 .left,
+      sym (second .before .both2 .ensures) ∙ second .if2 .left,
+      sym (c .before .both3 .ensures) ∙ c .if3 .taken,
+    )
 
 both-requires-4 : tie.Need-both-requires-4
 both-requires-4 c κs = search needs
@@ -41,7 +50,13 @@ returns-4 c =
     let third = c .before .before in
     let second = third .before .before in
     let first = second .before .before in
-    simp (markOf, sym (first .before .both .ensures) ∙ first .if1 .left, sym (second .before .both2 .ensures) ∙ second .if2 .left, sym (third .before .both3 .ensures) ∙ third .if3 .left, sym (c .before .both4 .ensures) ∙ c .if4 .taken)
+    simp (
+      markOf,
+      sym (first .before .both .ensures) ∙ first .if1 .left,
+      sym (second .before .both2 .ensures) ∙ second .if2 .left,
+      sym (third .before .both3 .ensures) ∙ third .if3 .left,
+      sym (c .before .both4 .ensures) ∙ c .if4 .taken,
+    )
 
 both-requires-5 : tie.Need-both-requires-5
 both-requires-5 c κs = search needs
@@ -53,7 +68,14 @@ returns-5 c =
     let third = fourth .before .before in
     let second = third .before .before in
     let first = second .before .before in
-    simp (markOf, sym (first .before .both .ensures) ∙ first .if1 .left, sym (second .before .both2 .ensures) ∙ second .if2 .left, sym (third .before .both3 .ensures) ∙ third .if3 .left, sym (fourth .before .both4 .ensures) ∙ fourth .if4 .left, sym (c .before .both5 .ensures) ∙ c .if5 .taken)
+    simp (
+      markOf,
+      sym (first .before .both .ensures) ∙ first .if1 .left,
+      sym (second .before .both2 .ensures) ∙ second .if2 .left,
+      sym (third .before .both3 .ensures) ∙ third .if3 .left,
+      sym (fourth .before .both4 .ensures) ∙ fourth .if4 .left,
+      sym (c .before .both5 .ensures) ∙ c .if5 .taken,
+    )
 
 returns-6 : tie.Need-returns-6
 unfolding markOf
@@ -62,7 +84,14 @@ returns-6 c =
     let third = fourth .before .before in
     let second = third .before .before in
     let first = second .before .before in
-    simp (markOf, sym (first .before .both .ensures) ∙ first .if1 .left, sym (second .before .both2 .ensures) ∙ second .if2 .left, sym (third .before .both3 .ensures) ∙ third .if3 .left, sym (fourth .before .both4 .ensures) ∙ fourth .if4 .left, sym (c .before .both5 .ensures) ∙ c .if5 .left)
+    simp (
+      markOf,
+      sym (first .before .both .ensures) ∙ first .if1 .left,
+      sym (second .before .both2 .ensures) ∙ second .if2 .left,
+      sym (third .before .both3 .ensures) ∙ third .if3 .left,
+      sym (fourth .before .both4 .ensures) ∙ fourth .if4 .left,
+      sym (c .before .both5 .ensures) ∙ c .if5 .left,
+    )
 
 pub mark-spec : {M : Type 1} → statement M
 mark-spec =

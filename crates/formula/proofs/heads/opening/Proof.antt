@@ -38,7 +38,8 @@ returns-2 : tie.Need-returns-2
 unfolding openingOf
 returns-2 c =
     let s = c .before .before .before .before .before .before .before .args .s .now in
-    c .opened .ensures ∙ ap₂ opens (c .before .before .mark .ensures) (tail-part s 2) ∙ sym (ap openingOf (two s (omega arith)))
+    c .opened .ensures ∙ ap₂ opens (c .before .before .mark .ensures) (tail-part s 2)
+    ∙ sym (ap openingOf (two s (omega arith)))
 
 pub opening-spec : {M : Type 1} → statement M
 opening-spec =

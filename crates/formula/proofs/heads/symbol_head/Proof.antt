@@ -12,21 +12,27 @@ use Rattle.formula.proofs.heads.symbol_head.Tie as tie
 
 returns : tie.Need-returns
 unfolding symbolHead
-returns c = sym (short-two symbolHead NoField refl (λ a. refl) (c .before .args .s .now) (c .if1 .taken))
+returns c =
+    let s = c .before .args .s .now in
+    sym (short-two symbolHead NoField refl (λ a. refl) s (c .if1 .taken))
 
 shared-slice-read-family : tie.Need-shared-slice-read-family
 shared-slice-read-family c = search needs
 
 returns-2 : tie.Need-returns-2
 unfolding symbolHead
-returns-2 c = sym (ap symbolHead (two (c .before .before .before .args .s .now) (omega arith)) ∙ simp (symbolHead, lt-leb _ _ (c .if2 .taken)))
+returns-2 c =
+    let s = c .before .before .before .args .s .now in
+    sym (ap symbolHead (two s (omega arith)) ∙ simp (symbolHead, lt-leb _ _ (c .if2 .taken)))
 
 shared-slice-read-t6 : tie.Need-shared-slice-read-t6
 shared-slice-read-t6 c = search needs
 
 returns-3 : tie.Need-returns-3
 unfolding symbolHead
-returns-3 c = sym (ap symbolHead (two (c .before .before .before .before .args .s .now) (omega arith)) ∙ simp (symbolHead, le-leb _ _ (c .before .if2 .left)))
+returns-3 c =
+    let s = c .before .before .before .before .args .s .now in
+    sym (ap symbolHead (two s (omega arith)) ∙ simp (symbolHead, le-leb _ _ (c .before .if2 .left)))
 
 pub symbol-head-spec : {M : Type 1} → statement M
 symbol-head-spec =

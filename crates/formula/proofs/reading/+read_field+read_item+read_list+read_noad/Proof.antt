@@ -1,3 +1,8 @@
+-- The reading cycle meets its contracts: `read_list` calls `read_item`, that `read_noad`, that `read_field`, and that
+-- `read_list` on a shorter list. The measure is four times the length of what is read, and one more for each of them upward.
+-- Each need follows from what its calls say by a law of `VerdictLaws`. The loop's invariant: what the list says is what its
+-- rest from `at` on says, `at` later.
+-- Assumes nothing.
 use mathlib.Core.Path.{_≡_, sym, ap, _∙_}
 use Prim.Native.Nat.{ℕ, _+_, _-_, _*_, _≤_, _<_}
 use native.Mathlib.Omega.{arith}
@@ -8,6 +13,7 @@ use borrow.Fn.PlainCycle.{Measures, is, falls, and}
 use Rattle.formula.specs.declared.Opening.the-variants.{NoItem, Fields, Kern}
 use Rattle.formula.specs.declared.FieldHead.the-variants.{NoField, Empty, Symbol, Sublist}
 use Rattle.formula.specs.declared.Verdict.the-variants.{Good, Fault}
+use Rattle.formula.specs.declared.Step.the-variants.{Next}
 use Rattle.formula.specs.Tree.{openingBytes}
 use Rattle.formula.specs.Heads.{fieldHead}
 use Rattle.formula.specs.Reading.{fieldBy, fieldAt, openedBy, read}
@@ -98,8 +104,9 @@ rf-fits : (t : ℕ) (c : read-field-lts.After-h (read-field-claims t) (read-fiel
     let a = c .before .before .before .before .before .args in
     a .at + (3 + c .h .given .0 .0) ≤ length (a .s .now)
 rf-fits t c =
-    let a = c .before .before .before .before .before .args in
-    field-fits (a .levels) (a .at) (a .s .now) (Sublist (c .h .given .0 .0)) (rf-head t c) (c .before .before .before .before .before .pre .1)
+    let start = c .before .before .before .before .before in
+    let a = start .args in
+    field-fits (a .levels) (a .at) (a .s .now) (Sublist (c .h .given .0 .0)) (rf-head t c) (start .pre .1)
 
 read-field-sub-field-head : (t : ℕ) → read-field-lts.Need-sub-field-head (read-field-claims t) (read-field-at t) read-field.Post
 read-field-sub-field-head t c = search needs
@@ -120,22 +127,30 @@ read-field-enum-told-2 : (t : ℕ) → read-field-lts.Need-enum-told-2 (read-fie
 read-field-enum-told-2 t c = search needs
 
 read-field-add-t16 : (t : ℕ) → read-field-lts.Need-add-t16 (read-field-claims t) (read-field-at t) read-field.Post
-read-field-add-t16 t c = let a = c .before .before .before .before .before .args in
-    omega (arith, field-fits (a .levels) (a .at) (a .s .now) Empty (sym (c .before .before .field-head .ensures) ∙ c .enum-told2 .given .1) (c .before .before .before .before .before .pre .1))
+read-field-add-t16 t c =
+    let start = c .before .before .before .before .before in
+    let a = start .args in
+    let is = sym (c .before .before .field-head .ensures) ∙ c .enum-told2 .given .1 in
+    omega (arith, field-fits (a .levels) (a .at) (a .s .now) Empty is (start .pre .1))
 
 read-field-enum-told-3 : (t : ℕ) → read-field-lts.Need-enum-told-3 (read-field-claims t) (read-field-at t) read-field.Post
 read-field-enum-told-3 t c = search needs
 
 read-field-add-t17 : (t : ℕ) → read-field-lts.Need-add-t17 (read-field-claims t) (read-field-at t) read-field.Post
-read-field-add-t17 t c = let a = c .before .before .before .before .before .args in
-    omega (arith, field-fits (a .levels) (a .at) (a .s .now) (Symbol (c .enum-told3 .given .0 .0) (c .enum-told3 .given .0 .1 .0)) (sym (c .before .before .field-head .ensures) ∙ c .enum-told3 .given .1) (c .before .before .before .before .before .pre .1))
+read-field-add-t17 t c =
+    let start = c .before .before .before .before .before in
+    let a = start .args in
+    let is = sym (c .before .before .field-head .ensures) ∙ c .enum-told3 .given .1 in
+    omega (arith, field-fits (a .levels) (a .at) (a .s .now) (Symbol (c .enum-told3 .given .0 .0) (c .enum-told3 .given .0 .1 .0)) is (start .pre .1))
 
 read-field-enum-known-h : (t : ℕ) → read-field-lts.Need-enum-known-h (read-field-claims t) (read-field-at t) read-field.Post
 read-field-enum-known-h t c = search needs
 
 read-field-returns : (t : ℕ) → read-field-lts.Need-returns (read-field-claims t) (read-field-at t) read-field.Post
-read-field-returns t c = let a = c .before .before .before .before .before .before .before .args in
-    sym (field-deep (a .levels) (a .at) (a .s .now) _ (rf-head t (c .before .before)) (c .if1 .taken))
+read-field-returns t c =
+    let list = c .before .before in
+    let a = list .before .before .before .before .before .args in
+    sym (field-deep (a .levels) (a .at) (a .s .now) _ (rf-head t list) (c .if1 .taken))
 
 read-field-add-start : (t : ℕ) → read-field-lts.Need-add-start (read-field-claims t) (read-field-at t) read-field.Post
 read-field-add-start t c = omega (arith, rf-fits t (c .before .before))
@@ -144,10 +159,10 @@ read-field-add-end : (t : ℕ) → read-field-lts.Need-add-end (read-field-claim
 read-field-add-end t c = omega (arith, rf-fits t (c .before .before))
 
 read-field-sub-read-list : (t : ℕ) → read-field-lts.Need-sub-read-list (read-field-claims t) (read-field-at t) read-field.Post
-read-field-sub-read-list t c = search needs
+read-field-sub-read-list t c = omega (arith, rf-fits t (c .before .before))
 
 read-field-part-read-list-start : (t : ℕ) → read-field-lts.Need-part-read-list-start (read-field-claims t) (read-field-at t) read-field.Post
-read-field-part-read-list-start t c = search needs
+read-field-part-read-list-start t c = omega (arith, rf-fits t (c .before .before))
 
 read-field-part-read-list-end : (t : ℕ) → read-field-lts.Need-part-read-list-end (read-field-claims t) (read-field-at t) read-field.Post
 read-field-part-read-list-end t c = omega (arith, rf-fits t (c .before .before))
@@ -165,41 +180,69 @@ read-field-enum-known-v : (t : ℕ) → read-field-lts.Need-enum-known-v (read-f
 read-field-enum-known-v t c = search needs
 
 read-field-add-t25 : (t : ℕ) → read-field-lts.Need-add-t25 (read-field-claims t) (read-field-at t) read-field.Post
-read-field-add-t25 t c = omega (arith, fault-in _ _ _ _ (sym (c .before .before .before .read-list .ensures) ∙ c .before .v .given .1), c .before .before .before .before .read-list-arg .given .2, rf-fits t (c .before .before .before .before .before .before .before))
+read-field-add-t25 t c =
+    let call = c .before .before .before in
+    let list = call .before .before .before .before in
+    let says = fault-in _ _ _ _ (sym (call .read-list .ensures) ∙ c .before .v .given .1) in
+    omega (arith, says, call .before .read-list-arg .given .2, rf-fits t list)
 
 read-field-enum-told-5 : (t : ℕ) → read-field-lts.Need-enum-told-5 (read-field-claims t) (read-field-at t) read-field.Post
 read-field-enum-told-5 t c = search needs
 
 read-field-returns-2 : (t : ℕ) → read-field-lts.Need-returns-2 (read-field-claims t) (read-field-at t) read-field.Post
-read-field-returns-2 t c = let a = c .before .before .before .before .before .before .args in
-    sym (cut-deep (a .levels) (a .at) (a .s .now) (sym (c .before .before .before .field-head .ensures) ∙ c .before .enum-told5 .given .1) (c .if2 .taken))
+read-field-returns-2 t c =
+    let start = c .before .before .before .before .before .before in
+    let a = start .args in
+    let is = sym (c .before .before .before .field-head .ensures) ∙ c .before .enum-told5 .given .1 in
+    sym (cut-deep (a .levels) (a .at) (a .s .now) is (c .if2 .taken))
 
 read-field-returns-3 : (t : ℕ) → read-field-lts.Need-returns-3 (read-field-claims t) (read-field-at t) read-field.Post
 unfolding fieldBy stepOf
-read-field-returns-3 t c = let a = c .before .before .before .before .before .args in
-    sym (field-step (a .levels) (a .at) (a .s .now) NoField (sym (c .before .before .field-head .ensures) ∙ c .enum-told .given .1))
+read-field-returns-3 t c =
+    let start = c .before .before .before .before .before in
+    let a = start .args in
+    let is = sym (c .before .before .field-head .ensures) ∙ c .enum-told .given .1 in
+    sym (field-step (a .levels) (a .at) (a .s .now) NoField is)
 
 read-field-returns-4 : (t : ℕ) → read-field-lts.Need-returns-4 (read-field-claims t) (read-field-at t) read-field.Post
 unfolding fieldBy stepOf
-read-field-returns-4 t c = let a = c .before .before .before .before .before .args in
-    sym (field-step (a .levels) (a .at) (a .s .now) Empty (sym (c .before .before .field-head .ensures) ∙ c .enum-told2 .given .1))
+read-field-returns-4 t c =
+    let start = c .before .before .before .before .before in
+    let a = start .args in
+    let is = sym (c .before .before .field-head .ensures) ∙ c .enum-told2 .given .1 in
+    sym (field-step (a .levels) (a .at) (a .s .now) Empty is)
 
 read-field-returns-5 : (t : ℕ) → read-field-lts.Need-returns-5 (read-field-claims t) (read-field-at t) read-field.Post
 unfolding fieldBy stepOf
-read-field-returns-5 t c = let a = c .before .before .before .before .before .args in
-    sym (field-step (a .levels) (a .at) (a .s .now) (Symbol (c .enum-told3 .given .0 .0) (c .enum-told3 .given .0 .1 .0)) (sym (c .before .before .field-head .ensures) ∙ c .enum-told3 .given .1))
+read-field-returns-5 t c =
+    let start = c .before .before .before .before .before in
+    let a = start .args in
+    let is = sym (c .before .before .field-head .ensures) ∙ c .enum-told3 .given .1 in
+    sym (field-step (a .levels) (a .at) (a .s .now) (Symbol (c .enum-told3 .given .0 .0) (c .enum-told3 .given .0 .1 .0)) is)
 
 read-field-returns-6 : (t : ℕ) → read-field-lts.Need-returns-6 (read-field-claims t) (read-field-at t) read-field.Post
-read-field-returns-6 t c = let a = c .before .before .before .before .before .before .before .before .before .before .before .args in
-    sym (field-list (a .levels) (a .at) (a .s .now) _ Good (rf-head t (c .before .before .before .before .before .before)) (omega arith) (sym (c .before .before .read-list .ensures) ∙ c .enum-told4 .given .1))
+read-field-returns-6 t c =
+    let call = c .before .before in
+    let list = call .before .before .before .before in
+    let a = list .before .before .before .before .before .args in
+    let says = sym (call .read-list .ensures) ∙ c .enum-told4 .given .1 in
+    sym (field-list (a .levels) (a .at) (a .s .now) _ Good (rf-head t list) (omega arith) says)
 
 read-field-returns-7 : (t : ℕ) → read-field-lts.Need-returns-7 (read-field-claims t) (read-field-at t) read-field.Post
-read-field-returns-7 t c = let a = c .before .before .before .before .before .before .before .before .before .before .before .before .args in
-    sym (field-list (a .levels) (a .at) (a .s .now) _ (Fault (c .before .v .given .0 .0) (c .before .v .given .0 .1 .0)) (rf-head t (c .before .before .before .before .before .before .before)) (omega arith) (sym (c .before .before .before .read-list .ensures) ∙ c .before .v .given .1))
+read-field-returns-7 t c =
+    let call = c .before .before .before in
+    let list = call .before .before .before .before in
+    let a = list .before .before .before .before .before .args in
+    let v = c .before .v .given in
+    let says = sym (call .read-list .ensures) ∙ v .1 in
+    sym (field-list (a .levels) (a .at) (a .s .now) _ (Fault (v .0 .0) (v .0 .1 .0)) (rf-head t list) (omega arith) says)
 
 read-field-returns-8 : (t : ℕ) → read-field-lts.Need-returns-8 (read-field-claims t) (read-field-at t) read-field.Post
-read-field-returns-8 t c = let a = c .before .before .before .before .before .before .args in
-    sym (cut-short (a .levels) (a .at) (a .s .now) (sym (c .before .before .before .field-head .ensures) ∙ c .before .enum-told5 .given .1) (omega arith))
+read-field-returns-8 t c =
+    let start = c .before .before .before .before .before .before in
+    let a = start .args in
+    let is = sym (c .before .before .before .field-head .ensures) ∙ c .before .enum-told5 .given .1 in
+    sym (cut-short (a .levels) (a .at) (a .s .now) is (omega arith))
 
 -- ---- read_item
 
@@ -220,18 +263,24 @@ read-item-enum-told-2 t c = search needs
 
 read-item-returns : (t : ℕ) → read-item-lts.Need-returns (read-item-claims t) (read-item-at t) read-item.Post
 unfolding openedBy stepOf
-read-item-returns t c = let a = c .before .before .before .before .args in
+read-item-returns t c =
+    let a = c .before .before .before .before .args in
     sym (item-step (a .levels) (a .s .now) NoItem (sym (c .before .before .opening .ensures) ∙ c .enum-told .given .1))
 
 read-item-returns-2 : (t : ℕ) → read-item-lts.Need-returns-2 (read-item-claims t) (read-item-at t) read-item.Post
 unfolding openedBy
-read-item-returns-2 t c = let a = c .before .before .before .before .before .before .args in
-    c .read-noad .ensures ∙ sym (item-step (a .levels) (a .s .now) (Fields (c .before .before .o .given .0 .0)) (sym (c .before .before .before .before .opening .ensures) ∙ c .before .before .o .given .1))
+read-item-returns-2 t c =
+    let noad = c .before .before in
+    let a = noad .before .before .before .before .args in
+    let is = sym (noad .before .before .opening .ensures) ∙ noad .o .given .1 in
+    c .read-noad .ensures ∙ sym (item-step (a .levels) (a .s .now) (Fields (noad .o .given .0 .0)) is)
 
 read-item-returns-3 : (t : ℕ) → read-item-lts.Need-returns-3 (read-item-claims t) (read-item-at t) read-item.Post
 unfolding openedBy stepOf
-read-item-returns-3 t c = let a = c .before .before .before .before .args in
-    sym (item-step (a .levels) (a .s .now) (Kern (c .enum-told2 .given .0 .0)) (sym (c .before .before .opening .ensures) ∙ c .enum-told2 .given .1))
+read-item-returns-3 t c =
+    let a = c .before .before .before .before .args in
+    let is = sym (c .before .before .opening .ensures) ∙ c .enum-told2 .given .1 in
+    sym (item-step (a .levels) (a .s .now) (Kern (c .enum-told2 .given .0 .0)) is)
 
 -- ---- read_list
 
@@ -241,24 +290,29 @@ read-list-Inv-loop s levels at₀ at = (at ≤ length s) × (told (read levels s
 abbrev read-list-μ-loop : read-list-lts.MeasureT-loop
 read-list-μ-loop s levels at₀ at = length s - at
 
--- a turn of the loop
-
+-- a turn of the loop: after an item of `size` bytes, and at a fault
 rl-next : (t : ℕ) (c : read-list-lts.After-r (read-list-claims t) (read-list-at t) read-list.Post read-list-Inv-loop read-list-μ-loop) →
-    let k = c .r .given .0 .0 in
-    let at = c .before .before .before .before .before .loop .at in
-    let a = c .before .before .before .before .before .before .before .args in
-    (0 < k) × (at + k ≤ length (a .s .now))
-    × (told (read (a .levels) (a .s .now)) ≡ later (at + k) (told (read (a .levels) (drop (at + k) (a .s .now)))))
+    let size = c .r .given .0 .0 in
+    let turn = c .before .before .before .before .before in
+    let at = turn .loop .at in
+    let a = turn .before .before .args in
+    (0 < size) × (at + size ≤ length (a .s .now))
+    × (told (read (a .levels) (a .s .now)) ≡ later (at + size) (told (read (a .levels) (drop (at + size) (a .s .now)))))
 rl-next t c =
-    list-next _ _ _ (c .before .before .before .before .loop-test .taken) (c .before .before .before .before .before .loop .inv .1) _ (c .before .before .read-item .ensures) _ (c .r .given .1)
+    let call = c .before .before in
+    let inside = call .before .before in
+    list-next _ _ _ (inside .loop-test .taken) (inside .before .loop .inv .1) _ (call .read-item .ensures) _ (c .r .given .1)
 
 rl-stop : (t : ℕ) (c : read-list-lts.After-r2 (read-list-claims t) (read-list-at t) read-list.Post read-list-Inv-loop read-list-μ-loop) →
     let place = c .r2 .given .0 .1 .0 in
-    let at = c .before .before .before .before .before .loop .at in
-    let a = c .before .before .before .before .before .before .before .args in
+    let turn = c .before .before .before .before .before in
+    let at = turn .loop .at in
+    let a = turn .before .before .args in
     (at + place ≤ length (a .s .now)) × (told (read (a .levels) (a .s .now)) ≡ Fault (c .r2 .given .0 .0) (at + place))
 rl-stop t c =
-    list-stop _ _ _ (c .before .before .before .before .loop-test .taken) (c .before .before .before .before .before .loop .inv .1) _ (c .before .before .read-item .ensures) _ _ (c .r2 .given .1)
+    let call = c .before .before in
+    let inside = call .before .before in
+    list-stop _ _ _ (inside .loop-test .taken) (inside .before .loop .inv .1) _ (call .read-item .ensures) _ _ (c .r2 .given .1)
 
 read-list-loop-holds : (t : ℕ) → read-list-lts.Need-loop-holds (read-list-claims t) (read-list-at t) read-list.Post read-list-Inv-loop read-list-μ-loop
 read-list-loop-holds t c = (omega arith, sym (later-zero _))
@@ -302,23 +356,41 @@ read-list-returns-2 t c = sym (list-done _ _ _ (c .loop-test .left) (c .before .
 -- ---- read_noad
 
 -- the opening lies in the list
-rn-fits : (t : ℕ) (c : read-noad-lts.After-opening-bytes (read-noad-claims t) (read-noad-at t) read-noad.Post) → c .opening-bytes .result ≤ length (c .before .before .args .s .now)
-rn-fits t c = omega (arith, opening-fits (c .before .before .args .s .now) (Fields (c .before .before .args .kind)) (c .before .before .pre .1), c .opening-bytes .ensures)
+rn-fits : (t : ℕ) (c : read-noad-lts.After-opening-bytes (read-noad-claims t) (read-noad-at t) read-noad.Post) →
+    c .opening-bytes .result ≤ length (c .before .before .args .s .now)
+rn-fits t c =
+    let start = c .before .before in
+    let fits = opening-fits (start .args .s .now) (Fields (start .args .kind)) (start .pre .1) in
+    omega (arith, fits, c .opening-bytes .ensures)
 
 -- what the first field says
 rn-first : (t : ℕ) (c : read-noad-lts.After-read-field (read-noad-claims t) (read-noad-at t) read-noad.Post) →
     let a = c .before .before .before .args in
-    c .read-field .result ≡ stepOf (fieldAt read (a .levels) (a .s .now) (openingBytes (a .kind)))
+    stepOf (fieldAt read (a .levels) (a .s .now) (openingBytes (a .kind))) ≡ c .read-field .result
 rn-first t c =
     let a = c .before .before .before .args in
-    c .read-field .ensures ∙ ap (λ (k : ℕ). stepOf (fieldAt read (a .levels) (a .s .now) k)) (c .before .opening-bytes .ensures)
+    let same = ap (λ (at : ℕ). stepOf (fieldAt read (a .levels) (a .s .now) at)) (c .before .opening-bytes .ensures) in
+    sym (c .read-field .ensures ∙ same)
 
--- behind the first field stands the second, and behind that a third may
-rn-second : (t : ℕ) (c : read-noad-lts.After-a (read-noad-claims t) (read-noad-at t) read-noad.Post) → c .a .given .0 .0 ≤ length (c .before .before .before .before .before .args .s .now)
-rn-second t c = next-in _ _ _ _ (rn-fits t (c .before .before .before)) (sym (c .before .before .read-field .ensures) ∙ c .a .given .1)
+-- after the first field, and after the second
+rn-a : (t : ℕ) (c : read-noad-lts.After-a (read-noad-claims t) (read-noad-at t) read-noad.Post) →
+    let a = c .before .before .before .before .before .args in
+    (stepOf (fieldAt read (a .levels) (a .s .now) (openingBytes (a .kind))) ≡ Next (c .a .given .0 .0))
+    × (c .a .given .0 .0 ≤ length (a .s .now))
+rn-a t c =
+    let call = c .before .before in (
+      rn-first t call ∙ c .a .given .1,
+      next-in _ _ _ _ (rn-fits t (call .before)) (sym (call .read-field .ensures) ∙ c .a .given .1),
+    )
 
-rn-third : (t : ℕ) (c : read-noad-lts.After-b (read-noad-claims t) (read-noad-at t) read-noad.Post) → c .b .given .0 .0 ≤ length (c .before .before .before .before .before .before .before .before .before .args .s .now)
-rn-third t c = next-in _ _ _ _ (rn-second t (c .before .before .before .before)) (sym (c .before .before .read-field2 .ensures) ∙ c .b .given .1)
+rn-b : (t : ℕ) (c : read-noad-lts.After-b (read-noad-claims t) (read-noad-at t) read-noad.Post) →
+    let first = c .before .before .before .before in
+    let a = first .before .before .before .before .before .args in
+    (stepOf (fieldAt read (a .levels) (a .s .now) (first .a .given .0 .0)) ≡ Next (c .b .given .0 .0))
+    × (c .b .given .0 .0 ≤ length (a .s .now))
+rn-b t c =
+    let says = sym (c .before .before .read-field2 .ensures) ∙ c .b .given .1 in
+    (says, next-in _ _ _ _ (rn-a t (c .before .before .before .before) .1) says)
 
 read-noad-opening-bytes-requires : (t : ℕ) → read-noad-lts.Need-opening-bytes-requires (read-noad-claims t) (read-noad-at t) read-noad.Post
 read-noad-opening-bytes-requires t c κs = search needs
@@ -333,11 +405,13 @@ read-noad-enum-told : (t : ℕ) → read-noad-lts.Need-enum-told (read-noad-clai
 read-noad-enum-told t c = search needs
 
 read-noad-returns : (t : ℕ) → read-noad-lts.Need-returns (read-noad-claims t) (read-noad-at t) read-noad.Post
-read-noad-returns t c = let a = c .before .before .before .before .before .args in
-    c .enum-told .given .1 ∙ sym (noad-first (a .levels) (a .s .now) (a .kind) _ _ (sym (rn-first t (c .before .before)) ∙ c .enum-told .given .1))
+read-noad-returns t c =
+    let a = c .before .before .before .before .before .args in
+    let says = c .enum-told .given .1 in
+    says ∙ sym (noad-first (a .levels) (a .s .now) (a .kind) _ _ (rn-first t (c .before .before) ∙ says))
 
 read-noad-read-field-requires-2 : (t : ℕ) → read-noad-lts.Need-read-field-requires-2 (read-noad-claims t) (read-noad-at t) read-noad.Post
-read-noad-read-field-requires-2 t c κs = (omega arith, rn-second t (c .before))
+read-noad-read-field-requires-2 t c κs = (omega arith, rn-a t (c .before) .1)
 
 read-noad-enum-known-b : (t : ℕ) → read-noad-lts.Need-enum-known-b (read-noad-claims t) (read-noad-at t) read-noad.Post
 read-noad-enum-known-b t c = search needs
@@ -346,24 +420,33 @@ read-noad-enum-told-2 : (t : ℕ) → read-noad-lts.Need-enum-told-2 (read-noad-
 read-noad-enum-told-2 t c = search needs
 
 read-noad-returns-2 : (t : ℕ) → read-noad-lts.Need-returns-2 (read-noad-claims t) (read-noad-at t) read-noad.Post
-read-noad-returns-2 t c = let a = c .before .before .before .before .before .before .before .before .before .args in
-    c .enum-told2 .given .1
-    ∙ sym (noad-second (a .levels) (a .s .now) (a .kind) _ (sym (rn-first t (c .before .before .before .before .before .before)) ∙ c .before .before .before .before .a .given .1) _ _ (sym (c .before .before .read-field2 .ensures) ∙ c .enum-told2 .given .1))
+read-noad-returns-2 t c =
+    let first = c .before .before .before .before in
+    let a = first .before .before .before .before .before .args in
+    let says = c .enum-told2 .given .1 in
+    says ∙ sym (noad-second (a .levels) (a .s .now) (a .kind) _ (rn-a t first .0) _ _ (sym (c .before .before .read-field2 .ensures) ∙ says))
 
 read-noad-has-third-requires : (t : ℕ) → read-noad-lts.Need-has-third-requires (read-noad-claims t) (read-noad-at t) read-noad.Post
 read-noad-has-third-requires t c κs = search needs
 
 read-noad-read-field-requires-3 : (t : ℕ) → read-noad-lts.Need-read-field-requires-3 (read-noad-claims t) (read-noad-at t) read-noad.Post
-read-noad-read-field-requires-3 t c κs = (omega arith, rn-third t (c .before .before .before))
+read-noad-read-field-requires-3 t c κs = (omega arith, rn-b t (c .before .before .before) .1)
 
 read-noad-returns-3 : (t : ℕ) → read-noad-lts.Need-returns-3 (read-noad-claims t) (read-noad-at t) read-noad.Post
-read-noad-returns-3 t c = let a = c .before .before .before .before .before .before .before .before .before .before .before .before .before .args in
-    c .read-field3 .ensures
-    ∙ sym (noad-three (a .levels) (a .s .now) (a .kind) _ (sym (rn-first t (c .before .before .before .before .before .before .before .before .before .before)) ∙ c .before .before .before .before .before .before .before .before .a .given .1) _ (sym (c .before .before .before .before .before .before .read-field2 .ensures) ∙ c .before .before .before .before .b .given .1) (sym (c .before .before .has-third .ensures) ∙ c .before .if1 .taken))
+read-noad-returns-3 t c =
+    let second = c .before .before .before .before in
+    let first = second .before .before .before .before in
+    let a = first .before .before .before .before .before .args in
+    let three = sym (c .before .before .has-third .ensures) ∙ c .before .if1 .taken in
+    c .read-field3 .ensures ∙ sym (noad-three (a .levels) (a .s .now) (a .kind) _ (rn-a t first .0) _ (rn-b t second .0) three)
 
 read-noad-returns-4 : (t : ℕ) → read-noad-lts.Need-returns-4 (read-noad-claims t) (read-noad-at t) read-noad.Post
-read-noad-returns-4 t c = let a = c .before .before .before .before .before .before .before .before .before .before .before .before .args in
-    sym (noad-two (a .levels) (a .s .now) (a .kind) _ (sym (rn-first t (c .before .before .before .before .before .before .before .before .before)) ∙ c .before .before .before .before .before .before .before .a .given .1) _ (sym (c .before .before .before .before .before .read-field2 .ensures) ∙ c .before .before .before .b .given .1) (sym (c .before .has-third .ensures) ∙ c .if1 .left))
+read-noad-returns-4 t c =
+    let second = c .before .before .before in
+    let first = second .before .before .before .before in
+    let a = first .before .before .before .before .before .args in
+    let two = sym (c .before .has-third .ensures) ∙ c .if1 .left in
+    sym (noad-two (a .levels) (a .s .now) (a .kind) _ (rn-a t first .0) _ (rn-b t second .0) two)
 
 pub +read-field+read-item+read-list+read-noad-spec : {M : Type 1} → statement M
 +read-field+read-item+read-list+read-noad-spec =
