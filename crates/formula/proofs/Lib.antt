@@ -1,1 +1,3 @@
-pub mod HeadLaws
+-- What the proofs of several functions use. Assumes nothing.
+mod FirstBytes
+mod VerdictLaws

@@ -19,7 +19,7 @@ use Rattle.formula.specs.declared.Opening.the-variants.{NoItem, Fields, 
 use Rattle.formula.specs.declared.FieldHead.{FieldHead}
 use Rattle.formula.specs.declared.FieldHead.the-variants.{NoField, Empty, Symbol, Sublist, CutSublist}
 use Rattle.formula.specs.Tree.{Items, Item, Field, nil, noad, kern, empty, symbol, list, openingBytes, kernBytes, symbolBytes, listOpeningBytes}
-use Rattle.formula.specs.Heads.{openingOf, fieldHead}
+use Rattle.formula.specs.Heads.{fieldHead}
 use Rattle.formula.specs.Reading.{Read, good, fault, read}
 
 -- ---- a list
@@ -74,6 +74,12 @@ hasThird Over = true
 hasThird Under = true
 hasThird (Fraction bar) = false
 
+-- the bytes before the fields
+abbrev pub openedBytes : Opening → ℕ
+openedBytes NoItem = 0
+openedBytes (Fields kind) = openingBytes kind
+openedBytes (Kern n) = kernBytes
+
 module _ (s : List ℕ) where
   abbrev pub headAt : ℕ → FieldHead
   headAt at = fieldHead (drop at s)
@@ -88,8 +94,13 @@ module _ (s : List ℕ) where
   abbrev pub third : Kind → ℕ
   third kind = behind (second kind)
 
+  -- the place behind a third field, if there is one
+  abbrev pub thirdEnd : Bool → ℕ → ℕ
+  thirdEnd true at = behind at
+  thirdEnd false at = at
+
   abbrev pub end : Kind → ℕ
-  end kind = elim (hasThird kind) [ true ↦ behind (third kind) | false ↦ third kind ]
+  end kind = thirdEnd (hasThird kind) (third kind)
 
   abbrev pub itemSize : Opening → ℕ
   itemSize NoItem = 0
@@ -99,12 +110,14 @@ module _ (s : List ℕ) where
   abbrev pub fieldIn : ℕ → Field
   fieldIn at = fieldOf (drop at s) (headAt at)
 
-  abbrev pub thirdIn : Kind → Field
-  thirdIn kind = elim (hasThird kind) [ true ↦ fieldIn (third kind) | false ↦ empty ]
+  abbrev pub thirdIn : Bool → ℕ → Field
+  thirdIn true at = fieldIn at
+  thirdIn false at = empty
 
   abbrev pub itemOf : Opening → Item
   itemOf NoItem = kern (pos 0)
-  itemOf (Fields kind) = noad kind (fieldIn (openingBytes kind)) (fieldIn (second kind)) (thirdIn kind)
+  itemOf (Fields kind) =
+      noad kind (fieldIn (openingBytes kind)) (fieldIn (second kind)) (thirdIn (hasThird kind) (third kind))
   itemOf (Kern n) = kern (n .0)
 
   abbrev pub GoodFieldAt : ℕ → Type 0

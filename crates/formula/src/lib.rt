@@ -1,4 +1,5 @@
-// The formula's bytes. What they mean, and where they break a rule, is defined in specs/Tree.antt, specs/Heads.antt and specs/Reading.antt.
+// The formula's bytes. What they mean, and where they break a rule, is defined in specs/Tree.antt, specs/Heads.antt and
+// specs/Reading.antt; specs/Places.antt and the laws beside it are for a walk over a formula that reads.
 
 use scaled::Sp;
 

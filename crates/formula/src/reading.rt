@@ -7,12 +7,22 @@ ghost use Rattle.formula.specs.declared.Opening.the-variants.{Fields};
 ghost use Rattle.formula.specs.Heads.{openingOf};
 ghost use Rattle.formula.specs.Reading.{fieldAt, noadAt, itemBy, read, readFormula};
 ghost use Rattle.formula.specs.Verdicts.{told, stepOf};
-use crate::{Kind, Opening, FieldHead, Verdict, Step};
-use crate::heads::{opening, opening_bytes, has_third, field_head};
+use crate::FieldHead;
+use crate::Kind;
+use crate::Opening;
+use crate::Step;
+use crate::Verdict;
+use crate::heads::field_head;
+use crate::heads::has_third;
+use crate::heads::opening;
+use crate::heads::opening_bytes;
 
 const FORMULA_LIMIT: usize = 4_096;
+
 const DEPTH_LIMIT: usize = 16;
+
 const UNREADABLE: u8 = 3;
+
 const TOO_DEEP: u8 = 4;
 
 // The formula itself is the first level.
@@ -56,7 +66,7 @@ fn read_item(s: &[u8], levels: usize) -> Step
     }
 }
 
-// Reads the fields of such an item, in order.
+// Reads the fields of an item of a kind, in order.
 fn read_noad(s: &[u8], kind: Kind, levels: usize) -> Step
     requires { ⌜ openingOf (now s) ≡ Fields kind ⌝ }
     ensures { λ r. ⌜ r ≡ stepOf (noadAt read levels (now (s .entry)) kind) ⌝ }
