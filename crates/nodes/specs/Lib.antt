@@ -2,3 +2,4 @@ pub mod Nodes
 pub mod Bounds
 pub mod Buffer
 pub mod NodeLaws
+pub mod BufferLaws

@@ -1,0 +1,63 @@
+-- Laws of a buffer of nodes.
+-- Assumes nothing.
+use mathlib.Core.Path.{_≡_, refl, sym, ap, ap₂, _∙_}
+use mathlib.Core.List.{List, [], _∷_, _++_, append-assoc, append-nil}
+use Prim.Native.Nat.{ℕ, zero, suc, _+_, _-_, _*_, _≤_, _<_}
+use native.Mathlib.Omega.{arith}
+use lib.IntN.{ℤ, _+ℤ_}
+use lib.ListN.{length, take, drop, length-append, length-take, length-drop, take-append-drop}
+use lib.Seq.{sets, length-sets, length-take-le, take-at, drop-at}
+use borrow.Author.Tests.{le-leb, lt-leb}
+use Rattle.scaled.specs.Words.{littleEndian, wordOf, fourBytes}
+use Rattle.nodes.specs.Nodes.{Node, glyph, rule, movedNode, moved, bytesInNode, signedBytes, nodeBytes, bytesOf}
+use Rattle.nodes.specs.Buffer.{written, addedAt, movedHead, movedBytes, movedFront}
+use Rattle.nodes.specs.NodeLaws.{signed-sum, length-node-bytes, length-bytes}
+
+-- ---- put
+
+module _ (s b : List ℕ) where
+  pub written-room : bytesInNode ≤ length b → written s b ≡ s ++ drop bytesInNode b
+  unfolding written
+  written-room l = rw (le-leb _ _ l)
+
+  pub written-full : length b < bytesInNode → written s b ≡ b
+  unfolding written
+  written-full l = rw (lt-leb _ _ l)
+
+-- ---- moving
+
+-- the bytes of a node by its mark, its place and what follows
+abbrev placed : ℕ → ℕ → ℤ → ℤ → List ℕ → List ℕ
+placed m m′ x y r = m ∷ m′ ∷ (signedBytes x ++ signedBytes y) ++ r
+
+moved-placed : (dx dy : ℤ) (m m′ : ℕ) (x y : ℤ) (r : List ℕ) →
+    movedHead (wordOf dx) (wordOf dy) (placed m m′ x y r) ≡ placed m m′ (x +ℤ dx) (y +ℤ dy) r
+unfolding movedHead addedAt signedBytes fourBytes
+moved-placed dx dy m m′ x y r =
+    ap₂ (λ (p q : List ℕ). m ∷ m′ ∷ (p ++ q) ++ r) (signed-sum x dx (signedBytes y ++ r)) (signed-sum y dy r)
+
+moved-node : (dx dy : ℤ) (n : Node) (r : List ℕ) →
+    movedHead (wordOf dx) (wordOf dy) (nodeBytes n ++ r) ≡ nodeBytes (movedNode dx dy n) ++ r
+unfolding nodeBytes signedBytes fourBytes
+moved-node dx dy (glyph x y size family code) r = moved-placed dx dy 71 76 x y _
+moved-node dx dy (rule x y width thickness) r = moved-placed dx dy 82 85 x y _
+
+-- a run of nodes, whatever follows it
+pub moved-bytes : (dx dy : ℤ) (ns : List Node) (r : List ℕ) →
+    movedBytes (wordOf dx) (wordOf dy) (length ns) (bytesOf ns ++ r) ≡ bytesOf (moved dx dy ns) ++ r
+unfolding movedBytes bytesOf moved
+moved-bytes dx dy [] r = refl
+moved-bytes dx dy (n ∷ ns) r =
+    let m = nodeBytes (movedNode dx dy n) in
+    let rest = bytesOf ns ++ r in
+    let head : movedHead (wordOf dx) (wordOf dy) (nodeBytes n ++ bytesOf ns ++ r) ≡ m ++ rest =
+        rw append-assoc (moved-node dx dy n rest) in
+    rw (head, take-at m rest bytesInNode (length-node-bytes _), drop-at m rest bytesInNode (length-node-bytes _))
+    (rw (moved-bytes dx dy ns r) (sym (append-assoc m (bytesOf (moved dx dy ns)) r)))
+
+pub moved-front : (dx dy : ℤ) (ns : List Node) (r : List ℕ) →
+    movedFront dx dy (length ns) (bytesOf ns ++ r) ≡ bytesOf (moved dx dy ns) ++ r
+unfolding movedFront
+moved-front dx dy ns r =
+    let l : bytesInNode * length ns ≤ length (bytesOf ns ++ r) = omega (arith, length-append (bytesOf ns) r, length-bytes ns) in
+    rw (le-leb _ _ l) (moved-bytes dx dy ns r)
