@@ -51,13 +51,21 @@ moved-bytes dx dy (n ∷ ns) r =
     let m = nodeBytes (movedNode dx dy n) in
     let rest = bytesOf ns ++ r in
     let head : movedHead (wordOf dx) (wordOf dy) (nodeBytes n ++ bytesOf ns ++ r) ≡ m ++ rest =
-        rw append-assoc (moved-node dx dy n rest) in
+    rw append-assoc (moved-node dx dy n rest) in
     rw (head, take-at m rest bytesInNode (length-node-bytes _), drop-at m rest bytesInNode (length-node-bytes _))
     (rw (moved-bytes dx dy ns r) (sym (append-assoc m (bytesOf (moved dx dy ns)) r)))
 
+module _ (dx dy : ℤ) (k : ℕ) (b : List ℕ) where
+  pub moved-room : bytesInNode * k ≤ length b → movedFront dx dy k b ≡ movedBytes (wordOf dx) (wordOf dy) k b
+  unfolding movedFront
+  moved-room l = rw (le-leb _ _ l)
+
+  pub moved-full : length b < bytesInNode * k → movedFront dx dy k b ≡ b
+  unfolding movedFront
+  moved-full l = rw (lt-leb _ _ l)
+
 pub moved-front : (dx dy : ℤ) (ns : List Node) (r : List ℕ) →
     movedFront dx dy (length ns) (bytesOf ns ++ r) ≡ bytesOf (moved dx dy ns) ++ r
-unfolding movedFront
 moved-front dx dy ns r =
-    let l : bytesInNode * length ns ≤ length (bytesOf ns ++ r) = omega (arith, length-append (bytesOf ns) r, length-bytes ns) in
-    rw (le-leb _ _ l) (moved-bytes dx dy ns r)
+    moved-room dx dy (length ns) (bytesOf ns ++ r) (omega (arith, length-append (bytesOf ns) r, length-bytes ns))
+    ∙ moved-bytes dx dy ns r

@@ -39,7 +39,7 @@ word-sum x d =
     let v = word-parts d in
     let s = word-parts (x +ℤ d) in
     let together : Alike (wordOf x + wordOf d) (wordOf (x +ℤ d)) =
-        record { p = u .p + v .p + s .q; q = u .q + v .q + s .p; alike = omega (arith, parts-add (own x) (own d)) } in
+    record { p = u .p + v .p + s .q; q = u .q + v .q + s .p; alike = omega (arith, parts-add (own x) (own d)) } in
     rest-is together (word-below (x +ℤ d))
 
 four : (x q₁ q₂ q₃ q₄ r₀ r₁ r₂ r₃ : ℕ) → x ≡ 256 * q₁ + r₀ → q₁ ≡ 256 * q₂ + r₁ → q₂ ≡ 256 * q₃ + r₂ → q₃ ≡ 256 * q₄ + r₃ →

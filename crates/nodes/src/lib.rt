@@ -22,7 +22,15 @@ pub fn put_rule(buf: &mut [u8], x: Sp, y: Sp, width: Sp, thickness: Sp)
     ensures { λ _. ⌜ now (buf .exit) ≡ put (rule (x .0) (y .0) (width .0) (thickness .0)) (now (buf .entry)) ⌝ }
 {
     let width = Sp(0).max(width);
-    put_node(buf, b'R', b'U', x, y, words::word_of(width), words::word_of(thickness));
+    put_node(
+        buf,
+        b'R',
+        b'U',
+        x,
+        y,
+        words::word_of(width),
+        words::word_of(thickness),
+    );
 }
 
 // Writes a node by its mark, its place and its last two words.

@@ -1,33 +1,32 @@
+-- `move_node` meets its contract, by `head-behind`.
+-- Assumes nothing.
+use native.Mathlib.Omega.{arith}
 use borrow.Author.Needs.{needs}
+use Rattle.nodes.proofs.Stores.{head-behind}
 use Rattle.nodes.proofs.move_node.Statement.{statement}
 use Rattle.nodes.proofs.move_node.Tie as tie
-use Rattle.nodes.proofs.move_node.Reads as reads
-use Rattle.nodes.proofs.move_node.Lts as lts
-use Rattle.nodes.proofs.words.add.Reads as add-reads
 
--- src/lib.rt:67:21
 add-add : tie.Need-add-add
 add-add c = search needs
 
--- src/lib.rt:67:5
 add-requires : tie.Need-add-requires
 add-requires c κs = search needs
 
--- src/lib.rt:68:21
 add-add-2 : tie.Need-add-add-2
 add-add-2 c = search needs
 
--- src/lib.rt:68:5
 add-requires-2 : tie.Need-add-requires-2
 add-requires-2 c κs = search needs
 
--- src/lib.rt:63:1
 same-length : tie.Need-same-length
 same-length c = search needs
 
--- src/lib.rt:63:1
 returns : tie.Need-returns
-returns c = ?
+returns c =
+    let second = c .before .before in
+    let first = second .before .before .before .before in
+    let args = first .before .before .before .args in
+    head-behind (args .at) (args .right) (args .up) (args .buf .now) (omega arith) (first .add .ensures) (second .add2 .ensures)
 
 pub move-node-spec : {M : Type 1} → statement M
 move-node-spec =

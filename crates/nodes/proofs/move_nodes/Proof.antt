@@ -1,59 +1,63 @@
+-- `move_nodes` meets its contract: the loop's invariant is `Moving`, and a turn moves the next node.
+-- Assumes nothing.
+use mathlib.Core.Path.{sym, _∙_}
+use Prim.Native.Nat.{_-_}
+use native.Mathlib.Omega.{arith}
+use borrow.Author.Needs.{needs}
+use Rattle.nodes.specs.BufferLaws.{moved-room, moved-full}
+use Rattle.nodes.proofs.Stores.{Moving, started, turn, finished}
 use Rattle.nodes.proofs.move_nodes.Statement.{statement}
 use Rattle.nodes.proofs.move_nodes.Tie as tie
-use Rattle.nodes.proofs.move_nodes.Reads as reads
-use Rattle.nodes.proofs.move_nodes.Lts as lts
-use Rattle.nodes.proofs.move_node.Reads as move-node-reads
-use Rattle.nodes.proofs.words.word_of.Reads as word-of-reads
 
 abbrev Inv-loop : tie.InvT-loop
-Inv-loop buf₀ count right up i₀ buf i = ?
+Inv-loop buf₀ count right up i₀ buf i = Moving right up count buf₀ buf i
 
 abbrev μ-loop : tie.MeasureT-loop
-μ-loop buf₀ count right up i₀ buf i = ?
+μ-loop buf₀ count right up i₀ buf i = count - i
 
--- src/lib.rt:53:9
 returns : tie.Need-returns Inv-loop μ-loop
-returns c = ?
+returns c = sym (moved-full _ _ _ (c .before .before .args .buf .now) (omega arith))
 
--- src/lib.rt:55:9
 word-of-requires : tie.Need-word-of-requires Inv-loop μ-loop
-word-of-requires c κs = ?
+word-of-requires c κs = search needs
 
--- src/lib.rt:56:9
 word-of-requires-2 : tie.Need-word-of-requires-2 Inv-loop μ-loop
-word-of-requires-2 c κs = ?
+word-of-requires-2 c κs = search needs
 
--- src/lib.rt:57:5
 loop-holds : tie.Need-loop-holds Inv-loop μ-loop
-loop-holds c = ?
+loop-holds c = started _ _ _ _
 
--- src/lib.rt:58:24
 mul-move-node : tie.Need-mul-move-node Inv-loop μ-loop
-mul-move-node c = ?
+mul-move-node c = omega arith
 
--- src/lib.rt:58:9
 move-node-requires : tie.Need-move-node-requires Inv-loop μ-loop
-move-node-requires c κs = ?
+move-node-requires c κs = omega arith
 
--- src/lib.rt:57:9
 add-i : tie.Need-add-i Inv-loop μ-loop
-add-i c = ?
+add-i c = omega arith
 
--- src/lib.rt:57:5
 loop-less : tie.Need-loop-less Inv-loop μ-loop
-loop-less c = ?
+loop-less c = omega arith
 
--- src/lib.rt:57:5
 loop-again : tie.Need-loop-again Inv-loop μ-loop
-loop-again c = ?
+loop-again c =
+    let moved = c .before .before in
+    let test = moved .before .before in
+    let loop = test .before in
+    turn (loop .loop .inv) (omega arith) (test .loop-test .taken) (moved .move-node .kept .0) (moved .move-node .ensures)
 
--- src/lib.rt:49:1
 same-length : tie.Need-same-length Inv-loop μ-loop
-same-length c = ?
+same-length c = c .before .loop .inv .same
 
--- src/lib.rt:49:1
 returns-2 : tie.Need-returns-2 Inv-loop μ-loop
-returns-2 c = ?
+returns-2 c =
+    let loop = c .before in
+    let up = loop .before in
+    let right = up .before in
+    let args = right .before .before .before .args in
+    sym (finished (loop .loop .inv) (c .loop-test .left))
+    ∙ rw (right .word-of .ensures, up .word-of2 .ensures)
+    (sym (moved-room (args .dx .0) (args .dy .0) (args .count) (args .buf .now) (omega arith)))
 
 pub move-nodes-spec : {M : Type 1} → statement M
 move-nodes-spec =

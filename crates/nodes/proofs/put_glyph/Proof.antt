@@ -1,37 +1,39 @@
+-- `put_glyph` meets its contract: the symbol's word is its three bytes and a 0.
+-- Assumes nothing.
+use mathlib.Core.Path.{ap, _∙_}
+use mathlib.Core.List.{List}
+use Prim.Native.Nat.{ℕ}
 use borrow.Author.Needs.{needs}
+use Rattle.nodes.specs.Buffer.{written}
+use Rattle.nodes.proofs.Stores.{glyph-bytes}
 use Rattle.nodes.proofs.put_glyph.Statement.{statement}
 use Rattle.nodes.proofs.put_glyph.Tie as tie
-use Rattle.nodes.proofs.put_glyph.Reads as reads
-use Rattle.nodes.proofs.put_glyph.Lts as lts
-use Rattle.nodes.proofs.put_node.Reads as put-node-reads
 
--- src/lib.rt:14:32
 mul-symbol : tie.Need-mul-symbol
 mul-symbol c = search needs
 
--- src/lib.rt:14:18
 add-symbol : tie.Need-add-symbol
 add-symbol c = search needs
 
--- src/lib.rt:14:54
 mul-symbol-2 : tie.Need-mul-symbol-2
 mul-symbol-2 c = search needs
 
--- src/lib.rt:14:18
 add-symbol-2 : tie.Need-add-symbol-2
 add-symbol-2 c = search needs
 
--- src/lib.rt:15:5
 put-node-requires : tie.Need-put-node-requires
 put-node-requires c κs = search needs
 
--- src/lib.rt:11:1
 same-length : tie.Need-same-length
 same-length c = search needs
 
--- src/lib.rt:11:1
 returns : tie.Need-returns
-returns c = ?
+returns c =
+    let start = c .before .before .before .before .before in
+    let args = start .args in
+    let fits = start .fits in
+    c .before .before .put-node .ensures
+    ∙ ap (λ (s : List ℕ). written s (args .buf .now)) (glyph-bytes (args .x .0) (args .y .0) (fits .size) (fits .family) (fits .code))
 
 pub put-glyph-spec : {M : Type 1} → statement M
 put-glyph-spec =

@@ -1,46 +1,51 @@
+-- `put_node` meets its contract, by `node-stores`.
+-- Assumes nothing.
+use mathlib.Core.Path.{sym, _∙_}
+use native.Mathlib.Omega.{arith}
 use borrow.Author.Needs.{needs}
+use lib.ListN.{length-set}
+use Rattle.nodes.specs.BufferLaws.{written-full}
+use Rattle.nodes.proofs.Stores.{node-stores}
 use Rattle.nodes.proofs.put_node.Statement.{statement}
 use Rattle.nodes.proofs.put_node.Tie as tie
-use Rattle.nodes.proofs.put_node.Reads as reads
-use Rattle.nodes.proofs.put_node.Lts as lts
-use Rattle.nodes.proofs.words.store_pair.Reads as store-pair-reads
-use Rattle.nodes.proofs.words.word_of.Reads as word-of-reads
 
--- src/lib.rt:33:9
 returns : tie.Need-returns
-returns c = ?
+returns c = sym (written-full _ (c .before .before .args .buf .now) (c .if1 .taken))
 
--- src/lib.rt:35:5
 slice-write-buf : tie.Need-slice-write-buf
 slice-write-buf c = search needs
 
--- src/lib.rt:36:5
 slice-write-buf-2 : tie.Need-slice-write-buf-2
-slice-write-buf-2 c = ?
+slice-write-buf-2 c = simp length-set (omega arith)
 
--- src/lib.rt:37:31
 word-of-requires : tie.Need-word-of-requires
 word-of-requires c κs = search needs
 
--- src/lib.rt:37:50
 word-of-requires-2 : tie.Need-word-of-requires-2
 word-of-requires-2 c κs = search needs
 
--- src/lib.rt:37:5
 store-pair-requires : tie.Need-store-pair-requires
-store-pair-requires c κs = ?
+store-pair-requires c κs = simp length-set (omega arith)
 
--- src/lib.rt:38:5
 store-pair-requires-2 : tie.Need-store-pair-requires-2
-store-pair-requires-2 c κs = ?
+store-pair-requires-2 c κs = omega (arith, simp length-set at (c .before .before .before .store-pair .kept .0))
 
--- src/lib.rt:29:1
 same-length : tie.Need-same-length
-same-length c = ?
+same-length c =
+    let second = c .before .before in
+    let first = second .before .before .before .before in
+    second .store-pair2 .kept .0 ∙ first .store-pair .kept .0 ∙ simp length-set
 
--- src/lib.rt:29:1
 returns-2 : tie.Need-returns-2
-returns-2 c = ?
+returns-2 c =
+    let second = c .before .before in
+    let first = second .before .before .before .before in
+    let y = first .before in
+    let x = y .before in
+    let test = x .before .before in
+    let args = test .before .before .args in
+    node-stores (args .buf .now) (args .m) (args .n) (args .x .0) (args .y .0) (args .p) (args .q) (test .if1 .left) (x .word-of .ensures)
+    (y .word-of2 .ensures) (first .store-pair .ensures) (second .store-pair2 .ensures)
 
 pub put-node-spec : {M : Type 1} → statement M
 put-node-spec =

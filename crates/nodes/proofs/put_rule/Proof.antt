@@ -1,35 +1,39 @@
+-- `put_rule` meets its contract: the words that it writes are those of the rule's width, at least 0, and of its thickness.
+-- Assumes nothing.
+use mathlib.Core.Path.{ap, _∙_}
+use mathlib.Core.List.{List}
+use Prim.Native.Nat.{ℕ}
 use borrow.Author.Needs.{needs}
+use Rattle.nodes.specs.Buffer.{written}
+use Rattle.nodes.proofs.Stores.{rule-bytes}
 use Rattle.nodes.proofs.put_rule.Statement.{statement}
 use Rattle.nodes.proofs.put_rule.Tie as tie
-use Rattle.nodes.proofs.put_rule.Reads as reads
-use Rattle.nodes.proofs.put_rule.Lts as lts
-use Rattle.nodes.proofs.put_node.Reads as put-node-reads
-use Rattle.nodes.proofs.words.word_of.Reads as word-of-reads
-use Rattle.scaled.proofs.Sp.max.Reads as max-reads
 
--- src/lib.rt:22:9
 max-requires : tie.Need-max-requires
 max-requires c κs = search needs
 
--- src/lib.rt:23:37
 word-of-requires : tie.Need-word-of-requires
 word-of-requires c κs = search needs
 
--- src/lib.rt:23:60
 word-of-requires-2 : tie.Need-word-of-requires-2
 word-of-requires-2 c κs = search needs
 
--- src/lib.rt:23:5
 put-node-requires : tie.Need-put-node-requires
 put-node-requires c κs = search needs
 
--- src/lib.rt:19:1
 same-length : tie.Need-same-length
 same-length c = search needs
 
--- src/lib.rt:19:1
 returns : tie.Need-returns
-returns c = ?
+returns c =
+    let put = c .before .before in
+    let thickness = put .before in
+    let width = thickness .before in
+    let greatest = width .before .before in
+    let args = greatest .before .before .args in
+    put .put-node .ensures
+    ∙ ap (λ (s : List ℕ). written s (args .buf .now))
+    (rule-bytes (args .x .0) (args .y .0) (args .width .0) (args .thickness .0) (greatest .max .ensures .is) (width .word-of .ensures) (thickness .word-of2 .ensures))
 
 pub put-rule-spec : {M : Type 1} → statement M
 put-rule-spec =
