@@ -1,4 +1,5 @@
 // Nodes in a buffer of bytes. What a node is, and its bytes, is defined in specs/Nodes.antt.
+pub mod hull;
 mod words;
 
 ghost use mathlib.Core.Path.{_≡_};
