@@ -1,21 +1,23 @@
 -- Laws of hulls.
 --     join-none, join-assoc      joining, with `none` as its unit
---     hull-append, hull-moved    the hull of two runs of nodes, and of a moved run
+--     hull-node, hull-append     the hull of one node, and of two runs of nodes
+--     hull-moved                 the hull of a moved run
 --     fits-hull                  nodes are within the greatest length where their hull is
 --     within-true, true-within   the test `within`, as a fact that `omega` reads
---     join-within, moved-within  how far the ends of a hull can lie
+--     within-tests               the test `within` as the code makes it
+--     fits-within, join-within, moved-within, within-more     how far the ends of a hull can lie
 -- Assumes nothing.
-use mathlib.Core.Path.{_≡_, refl, sym, ap, ap₂, _∙_}
+use mathlib.Core.Path.{_≡_, refl, sym, _∙_}
 use mathlib.Core.Bool.{Bool, true, false, not, _&&_, and-eq-true-iff, and-assoc, and-true, and-false}
 use mathlib.Core.List.{List, [], _∷_, _++_}
-use Prim.Native.Nat.{ℕ, suc, _+_, _≤_, _<_}
+use Prim.Native.Nat.{ℕ, suc, _+_, _≤_}
 use native.Mathlib.Omega.{arith}
 use lib.IntN.{ℤ, pos, negsuc, _+ℤ_}
 use lib.Signed.{ltZ, _≤ℤ_}
 use lib.Dec.{leb, ltb, leb·suc-suc}
 use borrow.Author.Tests.{ltb-false, leb-true, le-ltb, le-leb, not-true}
 use Rattle.scaled.specs.Length.{maxℤ, minℤ}
-use Rattle.scaled.specs.Signed.{Within, own, le-parts, parts-add, parts-max, parts-min}
+use Rattle.scaled.specs.Signed.{Within, own, le-parts, parts-max, parts-min}
 use Rattle.scaled.specs.Linear.{#, _⊕_, greatest, least, eq-by, le-by, within-by}
 use Rattle.nodes.specs.Nodes.{Node, glyph, rule, movedNode, moved}
 use Rattle.nodes.specs.Bounds.{greatestLength, within, nodeFits, nodesFit}
@@ -48,6 +50,10 @@ join-assoc (around a b c d) none h = refl
 join-assoc (around a b c d) (around a′ b′ c′ d′) none = refl
 join-assoc (around a b c d) (around a′ b′ c′ d′) (around a″ b″ c″ d″) =
     rw (min-assoc a a′ a″, max-assoc b b′ b″, min-assoc c c′ c″, max-assoc d d′ d″)
+
+pub hull-node : (n : Node) → hull (n ∷ []) ≡ nodeHull n
+unfolding hull
+hull-node n = join-none (nodeHull n)
 
 pub hull-append : (ms ns : List Node) → hull (ms ++ ns) ≡ joined (hull ms) (hull ns)
 unfolding hull joined

@@ -1,16 +1,19 @@
 -- Laws of nodes and of their bytes.
+--     word-below, four-back, four-rest        a word's size, and its four bytes
+--     signed-sum                              a length is added to the bytes of another, modulo 2 ^ 32
+--     length-node-bytes, length-bytes, bytes-append     how many bytes nodes have, and those of two runs
+--     length-moved, moved-append, moved-moved, moved-zero     moved runs of nodes
 -- Assumes nothing.
-use mathlib.Core.Path.{_≡_, refl, sym, ap, ap₂, _∙_}
+use mathlib.Core.Path.{_≡_, refl, sym, ap, _∙_}
 use mathlib.Core.List.{List, [], _∷_, _++_, append-assoc}
-use Prim.Native.Nat.{ℕ, zero, suc, _+_, _-_, _*_, _/_, _%_, _≤_, _<_}
+use Prim.Native.Nat.{ℕ, suc, _+_, _-_, _*_, _/_, _%_, _<_}
 use native.Mathlib.Omega.{arith}
 use lib.IntN.{ℤ, pos, negsuc, _+ℤ_}
-use lib.ListN.{length, take, drop, length-append}
+use lib.ListN.{length, length-append}
 use Rattle.scaled.specs.Words.{littleEndian, wordRange, wordOf, fourBytes}
 use Rattle.scaled.specs.Signed.{above, below, own, parts-add}
 use Rattle.scaled.specs.Linear.{#, _⊕_, eq-by}
 use Rattle.nodes.specs.Nodes.{Node, glyph, rule, movedNode, moved, bytesInNode, signedBytes, nodeBytes, bytesOf}
-use Rattle.nodes.specs.Buffer.{put, addedAt, movedHead, movedBytes, movedFront}
 
 -- ---- four-byte words
 

@@ -2,7 +2,7 @@
 -- Assumes nothing.
 use native.Mathlib.Omega.{arith}
 use borrow.Author.Needs.{needs}
-use Rattle.nodes.proofs.Stores.{head-behind}
+use Rattle.nodes.proofs.Moves.{head-behind}
 use Rattle.nodes.proofs.move_node.Statement.{statement}
 use Rattle.nodes.proofs.move_node.Tie as tie
 

@@ -5,7 +5,7 @@ use Prim.Native.Nat.{_-_}
 use native.Mathlib.Omega.{arith}
 use borrow.Author.Needs.{needs}
 use Rattle.nodes.specs.BufferLaws.{moved-room, moved-full}
-use Rattle.nodes.proofs.Stores.{Moving, started, turn, finished}
+use Rattle.nodes.proofs.Moves.{Moving, started, turn, finished}
 use Rattle.nodes.proofs.move_nodes.Statement.{statement}
 use Rattle.nodes.proofs.move_nodes.Tie as tie
 

@@ -1,10 +1,6 @@
 -- `put_glyph` meets its contract: the symbol's word is its three bytes and a 0.
 -- Assumes nothing.
-use mathlib.Core.Path.{ap, _∙_}
-use mathlib.Core.List.{List}
-use Prim.Native.Nat.{ℕ}
 use borrow.Author.Needs.{needs}
-use Rattle.nodes.specs.Buffer.{written}
 use Rattle.nodes.proofs.Stores.{glyph-bytes}
 use Rattle.nodes.proofs.put_glyph.Statement.{statement}
 use Rattle.nodes.proofs.put_glyph.Tie as tie
@@ -30,10 +26,9 @@ same-length c = search needs
 returns : tie.Need-returns
 returns c =
     let start = c .before .before .before .before .before in
-    let args = start .args in
     let fits = start .fits in
-    c .before .before .put-node .ensures
-    ∙ ap (λ (s : List ℕ). written s (args .buf .now)) (glyph-bytes (args .x .0) (args .y .0) (fits .size) (fits .family) (fits .code))
+    rw (glyph-bytes (start .args .x .0) (start .args .y .0) (fits .size) (fits .family) (fits .code)) at
+    (c .before .before .put-node .ensures)
 
 pub put-glyph-spec : {M : Type 1} → statement M
 put-glyph-spec =

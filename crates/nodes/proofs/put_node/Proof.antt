@@ -10,7 +10,7 @@ use Rattle.nodes.proofs.put_node.Statement.{statement}
 use Rattle.nodes.proofs.put_node.Tie as tie
 
 returns : tie.Need-returns
-returns c = sym (written-full _ (c .before .before .args .buf .now) (c .if1 .taken))
+returns c = sym (written-full _ (c .before .before .args .buf .now) (omega arith))
 
 slice-write-buf : tie.Need-slice-write-buf
 slice-write-buf c = search needs
@@ -44,7 +44,7 @@ returns-2 c =
     let x = y .before in
     let test = x .before .before in
     let args = test .before .before .args in
-    node-stores (args .buf .now) (args .m) (args .n) (args .x .0) (args .y .0) (args .p) (args .q) (test .if1 .left) (x .word-of .ensures)
+    node-stores (args .buf .now) (args .m) (args .n) (args .x .0) (args .y .0) (args .p) (args .q) (omega arith) (x .word-of .ensures)
     (y .word-of2 .ensures) (first .store-pair .ensures) (second .store-pair2 .ensures)
 
 pub put-node-spec : {M : Type 1} → statement M

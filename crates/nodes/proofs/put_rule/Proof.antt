@@ -1,10 +1,6 @@
 -- `put_rule` meets its contract: the words that it writes are those of the rule's width, at least 0, and of its thickness.
 -- Assumes nothing.
-use mathlib.Core.Path.{ap, _∙_}
-use mathlib.Core.List.{List}
-use Prim.Native.Nat.{ℕ}
 use borrow.Author.Needs.{needs}
-use Rattle.nodes.specs.Buffer.{written}
 use Rattle.nodes.proofs.Stores.{rule-bytes}
 use Rattle.nodes.proofs.put_rule.Statement.{statement}
 use Rattle.nodes.proofs.put_rule.Tie as tie
@@ -31,9 +27,10 @@ returns c =
     let width = thickness .before in
     let greatest = width .before .before in
     let args = greatest .before .before .args in
-    put .put-node .ensures
-    ∙ ap (λ (s : List ℕ). written s (args .buf .now))
-    (rule-bytes (args .x .0) (args .y .0) (args .width .0) (args .thickness .0) (greatest .max .ensures .is) (width .word-of .ensures) (thickness .word-of2 .ensures))
+    let bytes =
+    rule-bytes (args .x .0) (args .y .0) (args .width .0) (args .thickness .0) (greatest .max .ensures .is)
+    (width .word-of .ensures) (thickness .word-of2 .ensures) in
+    rw bytes at (put .put-node .ensures)
 
 pub put-rule-spec : {M : Type 1} → statement M
 put-rule-spec =

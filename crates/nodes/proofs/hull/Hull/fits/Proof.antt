@@ -31,7 +31,9 @@ returns-2 : tie.Need-returns-2
 unfolding hullFits
 returns-2 c =
     let self = c .before .before .before .before .before .self .given in
-    rw (self .1, c .before .before .before .within .ensures, c .before .before .within2 .ensures, c .before .within3 .ensures, c .within4 .ensures)
+    let left = c .before .before .before .within .ensures in
+    let right = c .before .before .within2 .ensures in
+    rw (self .1, left, right, c .before .within3 .ensures, c .within4 .ensures)
 
 pub fits-spec : {M : Type 1} → statement M
 fits-spec =

@@ -42,7 +42,9 @@ unfolding joined
 returns-3 c =
     let o = c .before .before .before .before .before in
     let self = o .before .before .before in
-    rw (self .self .given .1, o .o .given .1, c .before .before .before .min .ensures .is, c .before .before .max .ensures .is, c .before .min2 .ensures .is, c .max2 .ensures .is)
+    let left = c .before .before .before .min .ensures .is in
+    let right = c .before .before .max .ensures .is in
+    rw (self .self .given .1, o .o .given .1, left, right, c .before .min2 .ensures .is, c .max2 .ensures .is)
 
 pub joined-spec : {M : Type 1} → statement M
 joined-spec =
