@@ -24,25 +24,25 @@ plus-requires : tie.Need-plus-requires
 plus-requires c κs =
     let self = c .before in
     let start = self .before .before in
-    (within-ends (self .self .given .1) (start .pre .0) .0, start .pre .1)
+    (within-ends (self .self .given .1) (start .pre .0) .0, search needs)
 
 plus-requires-2 : tie.Need-plus-requires-2
 plus-requires-2 c κs =
     let self = c .before .before in
     let start = self .before .before in
-    (within-ends (self .self .given .1) (start .pre .0) .1, start .pre .1)
+    (within-ends (self .self .given .1) (start .pre .0) .1, search needs)
 
 plus-requires-3 : tie.Need-plus-requires-3
 plus-requires-3 c κs =
     let self = c .before .before .before in
     let start = self .before .before in
-    (within-ends (self .self .given .1) (start .pre .0) .2, start .pre .2)
+    (within-ends (self .self .given .1) (start .pre .0) .2, search needs)
 
 plus-requires-4 : tie.Need-plus-requires-4
 plus-requires-4 c κs =
     let self = c .before .before .before .before in
     let start = self .before .before in
-    (within-ends (self .self .given .1) (start .pre .0) .3, start .pre .2)
+    (within-ends (self .self .given .1) (start .pre .0) .3, search needs)
 
 returns : tie.Need-returns
 unfolding movedHull
