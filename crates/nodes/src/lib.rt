@@ -1,27 +1,78 @@
+// Nodes in a buffer of bytes. What a node is, and its bytes, is defined in specs/Nodes.antt.
+pub mod hull;
+mod words;
+
+ghost use mathlib.Core.Path.{_≡_};
+ghost use mathlib.Core.List.{_++_};
+ghost use Prim.Native.Nat.{_+_, _*_, _≤_};
+ghost use lib.ListN.{length, take, drop};
+ghost use Rattle.nodes.specs.Nodes.{glyph, rule};
+ghost use Rattle.nodes.specs.Buffer.{written, put, nodeOf, movedHead, movedFront};
 use scaled::Sp;
-pub mod hulls;
-pub struct Extents { pub left: Sp, pub right: Sp, pub bottom: Sp, pub top: Sp }
-pub enum Hull { Empty, Around(Extents) }
-fn word_of(z: Sp) -> u32 { let n = z.0; if n < 0 { (4294967295 - ((-(n + 1)) % 4294967296)) as u32 } else { (n % 4294967296) as u32 } }
-fn store(b: &mut [u8], at: usize, w: u32) { b[at] = (w % 256) as u8; b[at+1] = (w / 256 % 256) as u8; b[at+2] = (w / 65536 % 256) as u8; b[at+3] = (w / 16777216 % 256) as u8; }
-fn load(b: &[u8], at: usize) -> u32 { (b[at] as u32) + (b[at+1] as u32) * 256 + (b[at+2] as u32) * 65536 + (b[at+3] as u32) * 16777216 }
-pub fn put_glyph(buf: &mut [u8], x: Sp, y: Sp, size: u8, family: u8, code: u8) {
-    if 18 <= buf.len() {
-        buf[0] = 71; buf[1] = 76; store(buf, 2, word_of(x)); store(buf, 6, word_of(y)); buf[10] = size; buf[11] = family; buf[12] = code;
-        buf[13] = 0; buf[14] = 0; buf[15] = 0; buf[16] = 0; buf[17] = 0;
+
+// Writes a glyph's node at the front, if there is room.
+pub fn put_glyph(buf: &mut [u8], x: Sp, y: Sp, size: u8, family: u8, code: u8)
+    ensures { λ _. ⌜ now (buf .exit) ≡ put (glyph (x .0) (y .0) size family code) (now (buf .entry)) ⌝ }
+{
+    let symbol = size as u32 + family as u32 * 256 + code as u32 * 65536;
+    put_node(buf, b'G', b'L', x, y, symbol, 0);
+}
+
+// Writes a rule's node at the front, if there is room.
+pub fn put_rule(buf: &mut [u8], x: Sp, y: Sp, width: Sp, thickness: Sp)
+    ensures { λ _. ⌜ now (buf .exit) ≡ put (rule (x .0) (y .0) (width .0) (thickness .0)) (now (buf .entry)) ⌝ }
+{
+    let width = Sp(0).max(width);
+    put_node(
+        buf,
+        b'R',
+        b'U',
+        x,
+        y,
+        words::word_of(width),
+        words::word_of(thickness),
+    );
+}
+
+// Writes a node by its mark, its place and its last two words.
+fn put_node(buf: &mut [u8], m: u8, n: u8, x: Sp, y: Sp, p: u32, q: u32)
+    ensures { λ _. ⌜ now (buf .exit) ≡ written (nodeOf m n (x .0) (y .0) p q) (now (buf .entry)) ⌝ }
+{
+    if buf.len() < 18 {
+        return;
+    }
+    buf[0] = m;
+    buf[1] = n;
+    words::store_pair(buf, 2, words::word_of(x), words::word_of(y));
+    words::store_pair(buf, 10, p, q);
+}
+
+// Where the node number `count` starts in a buffer of len bytes: len if it has no room up to there.
+pub fn room(count: usize, len: usize) -> usize
+    ensures { λ r. ⌜ (r ≤ len) × ((18 * count ≤ len → r ≡ 18 * count)) ⌝ }
+{
+    if count <= len / 18 { 18 * count } else { len }
+}
+
+// Moves the first `count` nodes right by dx and up by dy, if they are all there.
+pub fn move_nodes(buf: &mut [u8], count: usize, dx: Sp, dy: Sp)
+    ensures { λ _. ⌜ now (buf .exit) ≡ movedFront (dx .0) (dy .0) count (now (buf .entry)) ⌝ }
+{
+    if buf.len() / 18 < count {
+        return;
+    }
+    let right = words::word_of(dx);
+    let up = words::word_of(dy);
+    for i in 0..count {
+        move_node(buf, 18 * i, right, up);
     }
 }
-pub fn put_rule(buf: &mut [u8], x: Sp, y: Sp, width: Sp, thickness: Sp) {
-    if 18 <= buf.len() { buf[0] = 82; buf[1] = 85; store(buf, 2, word_of(x)); store(buf, 6, word_of(y)); store(buf, 10, word_of(width.max(Sp(0)))); store(buf, 14, word_of(thickness)); }
-}
-pub fn room(count: usize, len: usize) -> usize { if count <= len / 18 { 18 * count } else { len } }
-pub fn move_nodes(buf: &mut [u8], count: usize, dx: Sp, dy: Sp) {
-    let end = room(count, buf.len());
-    let wx = word_of(dx) as u64; let wy = word_of(dy) as u64;
-    let mut at: usize = 0;
-    while at + 18 <= end {
-        let x = load(buf, at + 2) as u64; store(buf, at + 2, ((x + wx) % 4294967296) as u32);
-        let y = load(buf, at + 6) as u64; store(buf, at + 6, ((y + wy) % 4294967296) as u32);
-        at += 18;
-    }
+
+// Adds two words to the x and the y of the node at `at`.
+fn move_node(buf: &mut [u8], at: usize, right: u32, up: u32)
+    requires { ⌜ at + 18 ≤ length (now buf) ⌝ }
+    ensures { λ _. ⌜ now (buf .exit) ≡ take at (now (buf .entry)) ++ movedHead right up (drop at (now (buf .entry))) ⌝ }
+{
+    words::add(buf, at + 2, right);
+    words::add(buf, at + 6, up);
 }
