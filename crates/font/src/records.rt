@@ -115,11 +115,15 @@ fn is_before(r: &[u8], q: &[u8]) -> bool
     requires { ⌜ (23 ≤ length (now r)) × (23 ≤ length (now q)) ⌝ }
     ensures { λ answer. ⌜ answer ≡ before (now (r .entry)) (now (q .entry)) ⌝ }
 {
-    if r[2] != q[2] {
-        return r[2] < q[2];
+    let size = r[2];
+    let other_size = q[2];
+    if size != other_size {
+        return size < other_size;
     }
-    if r[3] != q[3] {
-        return r[3] < q[3];
+    let family = r[3];
+    let other_family = q[3];
+    if family != other_family {
+        return family < other_family;
     }
     r[4] < q[4]
 }

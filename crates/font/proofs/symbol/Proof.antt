@@ -1,0 +1,91 @@
+-- `symbol` tries one record after the other: those that are left have the answer (`lookup-hit`, `lookup-miss`).
+use Rattle.font.proofs.RecordLaws.{lookup-start, lookup-hit, lookup-miss, lookup-done}
+use Rattle.font.specs.Table.{pieces}
+use Rattle.font.specs.Font.{fontOf, lookup}
+use lib.ListN.{length, drop}
+use Prim.Native.Nat.{_≤_, _+_, _-_, _/_}
+use mathlib.Core.Path.{_≡_, sym, _∙_}
+use native.Mathlib.Omega.{arith}
+use Rattle.font.proofs.symbol.Statement.{statement}
+use Rattle.font.proofs.symbol.Tie as tie
+use Rattle.font.proofs.symbol.Reads as reads
+use Rattle.font.proofs.symbol.Lts as lts
+use Rattle.font.proofs.is_of.Reads as is-of-reads
+use Rattle.font.proofs.metrics_of.Reads as metrics-of-reads
+
+abbrev Inv-loop : tie.InvT-loop
+Inv-loop table size family code at₀ at = (at ≤ length table) × (fontOf table .symbol size family code ≡ lookup size family code (pieces 23 ((length table - at) / 23) (drop at table)))
+
+abbrev μ-loop : tie.MeasureT-loop
+μ-loop table size family code at₀ at = length table - at
+
+returns : tie.Need-returns Inv-loop μ-loop
+returns c = ?
+
+loop-holds : tie.Need-loop-holds Inv-loop μ-loop
+loop-holds c = (omega arith, lookup-start _ _ _ _)
+
+sub-loop : tie.Need-sub-loop Inv-loop μ-loop
+sub-loop c = omega arith
+
+add-next : tie.Need-add-next Inv-loop μ-loop
+add-next c = omega arith
+
+sub-is-of : tie.Need-sub-is-of Inv-loop μ-loop
+sub-is-of c = omega arith
+
+part-is-of-start : tie.Need-part-is-of-start Inv-loop μ-loop
+part-is-of-start c = omega arith
+
+part-is-of-end : tie.Need-part-is-of-end Inv-loop μ-loop
+part-is-of-end c = omega arith
+
+is-of-requires : tie.Need-is-of-requires Inv-loop μ-loop
+is-of-requires c κs = ?
+
+sub-metrics-of : tie.Need-sub-metrics-of Inv-loop μ-loop
+sub-metrics-of c = omega arith
+
+part-metrics-of-start : tie.Need-part-metrics-of-start Inv-loop μ-loop
+part-metrics-of-start c = omega arith
+
+part-metrics-of-end : tie.Need-part-metrics-of-end Inv-loop μ-loop
+part-metrics-of-end c = omega arith
+
+metrics-of-requires : tie.Need-metrics-of-requires Inv-loop μ-loop
+metrics-of-requires c κs = ?
+
+returns-2 : tie.Need-returns-2 Inv-loop μ-loop
+returns-2 c = ?
+
+loop-less : tie.Need-loop-less Inv-loop μ-loop
+loop-less c = omega arith
+
+loop-again : tie.Need-loop-again Inv-loop μ-loop
+loop-again c = ?
+
+returns-3 : tie.Need-returns-3 Inv-loop μ-loop
+returns-3 c = ?
+
+pub symbol-spec : {M : Type 1} → statement M
+symbol-spec =
+    tie.close
+    (tie.spec
+    Inv-loop
+    μ-loop
+    returns
+    loop-holds
+    sub-loop
+    add-next
+    sub-is-of
+    part-is-of-start
+    part-is-of-end
+    is-of-requires
+    sub-metrics-of
+    part-metrics-of-start
+    part-metrics-of-end
+    metrics-of-requires
+    returns-2
+    loop-less
+    loop-again
+    returns-3)
