@@ -17,7 +17,7 @@ use lib.Dec.{ltb, leb, eqb}
 use lib.ListN.{length, take, drop, length-drop}
 use lib.Seq.{drop-drop}
 use Rattle.scaled.specs.Words.{littleEndian}
-use Rattle.font.specs.Table.{pieces, words, characterRecords, characterCount, every, marked, goodWord, goodParameters, goodCharacter, metricWords, sizeByte, familyByte, codeByte, flagByte, successorByte, before, rising}
+use Rattle.font.specs.Table.{pieces, words, parameterRecords, characterRecords, characterCount, goodLength, goodTable, every, marked, goodWord, goodParameters, goodCharacter, metricWords, sizeByte, familyByte, codeByte, flagByte, successorByte, before, rising}
 use Rattle.font.specs.Font.{Metrics, isOf, lookup, metricsOf, successorOf, fontOf}
 use Rattle.font.specs.Answers.{soundCharacters, soundFront}
 use Rattle.font.proofs.WordLaws.{words-turn, pieces-turn, pieces-done}
@@ -54,12 +54,58 @@ sound-turn u (suc m) h =
     let long : ltb (length u) 46 ≡ false = le-ltb (length u) 46 (omega arith) in
     rw long (regroup (goodCharacter (take 23 u)) _ _ _)
 
+pub characters-done : soundCharacters [] ≡ true
+unfolding soundCharacters every rising
+characters-done = refl
+
 pub characters-turn : (s : List ℕ) (n i : ℕ) → length s ≡ 23 * n → i < n → soundCharacters (pieces 23 (n - i) (drop (23 * i) s)) ≡ (soundFront (drop (23 * i) s) && soundCharacters (pieces 23 (n - (i + 1)) (drop (23 * (i + 1)) s)))
 characters-turn s n i e h =
     let m = n - (i + 1) in
     let left : n - i ≡ suc m = omega arith in
     let next : 23 * (i + 1) ≡ 23 * i + 23 = omega arith in
     rw (left, next, ← drop-drop) (sound-turn (drop (23 * i) s) m (length-drop (23 * i) s ∙ omega arith))
+
+-- the first record alone, and with the second
+module _ (s : List ℕ) where
+  pub front-bad : goodCharacter (take 23 s) ≡ false → soundFront s ≡ false
+  unfolding soundFront
+  front-bad g = stop _ _ g
+
+  pub front-last : goodCharacter (take 23 s) ≡ true → length s < 46 → soundFront s ≡ true
+  unfolding soundFront
+  front-last g h = pass _ _ g ∙ rw (lt-ltb (length s) 46 h)
+
+  pub front-more : goodCharacter (take 23 s) ≡ true → 46 ≤ length s → soundFront s ≡ before (take 23 s) (take 23 (drop 23 s))
+  unfolding soundFront
+  front-more g h = pass _ _ g ∙ rw (le-ltb (length s) 46 h)
+
+-- ---- the whole table
+
+in-order : (l p c o : Bool) → (l && p && c && o) ≡ (l && (p && (c && o)))
+in-order false p c o = refl
+in-order true false c o = refl
+in-order true true c o = refl
+
+module _ (t : List ℕ) where
+  pub good-table : goodTable t ≡ (goodLength t && (every goodParameters (parameterRecords t) && soundCharacters (characterRecords t)))
+  unfolding goodTable soundCharacters
+  good-table = in-order (goodLength t) (every goodParameters (parameterRecords t)) _ _
+
+  pub length-short : length t < 426 → goodLength t ≡ false
+  unfolding goodLength characterCount
+  length-short h = stop _ _ (ne-eqb (length t) (426 + 23 * ((length t - 426) / 23)) (λ e. omega arith))
+
+  pub length-broken : (length t ≡ 426 + 23 * ((length t - 426) / 23) → ⊥) → goodLength t ≡ false
+  unfolding goodLength characterCount
+  length-broken h = stop _ _ (ne-eqb (length t) (426 + 23 * ((length t - 426) / 23)) h)
+
+  pub length-great : length t ≡ 426 + 23 * ((length t - 426) / 23) → 2048 < (length t - 426) / 23 → goodLength t ≡ false
+  unfolding goodLength characterCount
+  length-great e h = pass _ _ (eq-eqb _ _ e) ∙ lt-leb _ _ h
+
+  pub length-good : length t ≡ 426 + 23 * ((length t - 426) / 23) → (length t - 426) / 23 ≤ 2048 → goodLength t ≡ true
+  unfolding goodLength characterCount
+  length-good e h = pass _ _ (eq-eqb _ _ e) ∙ le-leb _ _ h
 
 -- ---- the loop of the lookup
 

@@ -1,18 +1,19 @@
 -- Words and records in a list of bytes, for the loops that read them.
 --     word-at           a word by its four bytes; past the end of the list a byte counts as 0
+--     part-of, rest-of    what `&t[a..a + k]` and `&t[a..]` hold
 --     words-turn        the words of the rest: a turn of `are_small`
 --     pieces-turn       the records of the rest: a turn of the loops over records
 --     parameter-word    a parameter of a table's font, by where its word stands in the table: a turn of `row`
 -- Each turn takes one element off the front; where it stands, and how many are left, is said by equations, so that each
 -- loop may count in its own way.
 -- Assumes nothing.
-use mathlib.Core.Path.{_≡_, refl, sym, ap, ap₂, _∙_}
+use mathlib.Core.Path.{_≡_, refl, sym, ap, _∙_}
 use mathlib.Core.List.{List, [], _∷_, map}
-use Prim.Native.Nat.{ℕ, zero, suc, _+_, _*_, _<_, _≤_}
+use Prim.Native.Nat.{ℕ, zero, suc, _+_, _-_, _*_, _<_, _≤_}
 use native.Mathlib.Nat.{add-zero, add-comm, mul-zero, mul-suc}
 use native.Mathlib.Omega.{arith}
-use lib.ListN.{length, getD, take, drop}
-use lib.Seq.{drop-drop, drop-nil, getD-take, getD-drop}
+use lib.ListN.{length, getD, take, drop, length-drop}
+use lib.Seq.{take-all, drop-drop, getD-take, getD-drop}
 use Rattle.scaled.specs.Words.{littleEndian}
 use Rattle.font.specs.Table.{pieces, words, parameterRecords, parameterWords}
 use Rattle.font.specs.Font.{fontOf}
@@ -38,6 +39,14 @@ word-take k b u h =
     let e2 = getD-take k u (b + 2) 0 (omega arith) in
     let e3 = getD-take k u (b + 3) 0 (omega arith) in
     word-at (take k u) b ∙ (cc) ∙ sym (word-at u b)
+
+-- ---- a part of a slice, as the code takes it
+
+pub part-of : (a k : ℕ) (t : List ℕ) → take (a + k - a) (drop a t) ≡ take k (drop a t)
+part-of a k t = let size : a + k - a ≡ k = omega arith in rw size
+
+pub rest-of : (a : ℕ) (t : List ℕ) → take (length t - a) (drop a t) ≡ drop a t
+rest-of a t = take-all (length t - a) (drop a t) (simp length-drop (omega arith))
 
 -- ---- one element off the front
 

@@ -1,5 +1,7 @@
 -- `are_characters` tests the CH records: those that are left decide, and `characters-turn` takes one off.
-use Rattle.font.proofs.RecordLaws.{characters-turn, pass, stop}
+use Rattle.font.proofs.WordLaws.{rest-of, pieces-done}
+use borrow.Author.Tests.{not-true, not-false}
+use Rattle.font.proofs.RecordLaws.{characters-turn, characters-done, pass, stop}
 use Rattle.font.specs.Answers.{soundCharacters, soundFront}
 use Rattle.font.specs.Table.{pieces}
 use lib.ListN.{drop}
@@ -20,7 +22,7 @@ abbrev μ-loop : tie.MeasureT-loop
 μ-loop s n i₀ i = n - i
 
 loop-holds : tie.Need-loop-holds Inv-loop μ-loop
-loop-holds c = ?
+loop-holds c = (omega arith, simp sub-zero)
 
 mul-at : tie.Need-mul-at Inv-loop μ-loop
 mul-at c = omega arith
@@ -35,10 +37,15 @@ part-is-front-end : tie.Need-part-is-front-end Inv-loop μ-loop
 part-is-front-end c = omega arith
 
 is-front-requires : tie.Need-is-front-requires Inv-loop μ-loop
-is-front-requires c κs = ?
+is-front-requires c κs = omega (arith, c .is-front-arg .given .2)
 
 returns : tie.Need-returns Inv-loop μ-loop
-returns c = ?
+returns c = 
+    let v = c .before .before .before .before .loop in
+    let a = c .before .before .before .before .before .before .args in
+    let s = a .s .now in
+    let bad = ap soundFront (sym (rest-of (23 * v .i) s)) ∙ sym (c .before .is-front .ensures) ∙ not-true _ (c .if1 .taken) in
+    sym (v .inv .1 ∙ characters-turn s (a .n) (v .i) (c .before .before .before .before .before .before .pre) (omega arith) ∙ stop _ _ bad)
 
 add-i : tie.Need-add-i Inv-loop μ-loop
 add-i c = omega arith
@@ -47,10 +54,17 @@ loop-less : tie.Need-loop-less Inv-loop μ-loop
 loop-less c = omega arith
 
 loop-again : tie.Need-loop-again Inv-loop μ-loop
-loop-again c = ?
+loop-again c = 
+    let v = c .before .before .before .before .loop in
+    let a = c .before .before .before .before .before .before .args in
+    let s = a .s .now in
+    let good = ap soundFront (sym (rest-of (23 * v .i) s)) ∙ sym (c .before .is-front .ensures) ∙ not-false _ (c .if1 .left) in
+    (omega arith, v .inv .1 ∙ characters-turn s (a .n) (v .i) (c .before .before .before .before .before .before .pre) (omega arith) ∙ pass _ _ good)
 
 returns-2 : tie.Need-returns-2 Inv-loop μ-loop
-returns-2 c = ?
+returns-2 c = 
+    let left = c .before .before .before .args .n - c .before .loop .i in
+    sym (c .before .loop .inv .1 ∙ ap soundCharacters (pieces-done 23 _ left (omega arith)) ∙ characters-done)
 
 pub are-characters-spec : {M : Type 1} → statement M
 are-characters-spec =

@@ -1,4 +1,6 @@
 -- `are_parameters` tests the three PA records: those that are left decide, and `parameters-turn` takes one off.
+use Rattle.font.proofs.WordLaws.{part-of, pieces-done}
+use borrow.Author.Tests.{not-true, not-false}
 use Rattle.font.proofs.RecordLaws.{parameters-turn, pass, stop}
 use Rattle.font.specs.Table.{parameterRecords, pieces, every, goodParameters}
 use lib.ListN.{drop}
@@ -18,7 +20,8 @@ abbrev μ-loop : tie.MeasureT-loop
 μ-loop table size₀ size = 3 - size
 
 loop-holds : tie.Need-loop-holds Inv-loop μ-loop
-loop-holds c = ?
+unfolding parameterRecords
+loop-holds c = (omega arith, refl)
 
 mul-at : tie.Need-mul-at Inv-loop μ-loop
 mul-at c = omega arith
@@ -36,10 +39,14 @@ part-is-parameters-end : tie.Need-part-is-parameters-end Inv-loop μ-loop
 part-is-parameters-end c = omega arith
 
 is-parameters-requires : tie.Need-is-parameters-requires Inv-loop μ-loop
-is-parameters-requires c κs = ?
+is-parameters-requires c κs = omega (arith, c .is-parameters-arg .given .2)
 
 returns : tie.Need-returns Inv-loop μ-loop
-returns c = ?
+returns c = 
+    let v = c .before .before .before .before .loop in
+    let t = c .before .before .before .before .before .before .args .table .now in
+    let bad = ap goodParameters (sym (part-of (142 * v .size) 142 t)) ∙ sym (c .before .is-parameters .ensures) ∙ not-true _ (c .if1 .taken) in
+    sym (v .inv .1 ∙ parameters-turn t (v .size) (omega arith) ∙ stop _ _ bad)
 
 add-size : tie.Need-add-size Inv-loop μ-loop
 add-size c = omega arith
@@ -48,10 +55,15 @@ loop-less : tie.Need-loop-less Inv-loop μ-loop
 loop-less c = omega arith
 
 loop-again : tie.Need-loop-again Inv-loop μ-loop
-loop-again c = ?
+loop-again c = 
+    let v = c .before .before .before .before .loop in
+    let t = c .before .before .before .before .before .before .args .table .now in
+    let good = ap goodParameters (sym (part-of (142 * v .size) 142 t)) ∙ sym (c .before .is-parameters .ensures) ∙ not-false _ (c .if1 .left) in
+    (omega arith, v .inv .1 ∙ parameters-turn t (v .size) (omega arith) ∙ pass _ _ good)
 
 returns-2 : tie.Need-returns-2 Inv-loop μ-loop
-returns-2 c = ?
+unfolding every
+returns-2 c = sym (c .before .loop .inv .1 ∙ ap (every goodParameters) (pieces-done 142 _ (3 - c .before .loop .size) (omega arith)))
 
 pub are-parameters-spec : {M : Type 1} → statement M
 are-parameters-spec =

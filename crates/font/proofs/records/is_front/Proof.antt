@@ -1,7 +1,6 @@
 -- `is_front` tests the first record, then its order with the second if there is one.
-use Rattle.font.specs.Answers.{soundFront}
-use Rattle.font.proofs.RecordLaws.{pass, stop}
-use borrow.Author.Tests.{lt-ltb, le-ltb}
+use Rattle.font.proofs.RecordLaws.{front-bad, front-last, front-more}
+use borrow.Author.Tests.{not-true, not-false}
 use mathlib.Core.Path.{sym, _∙_}
 use native.Mathlib.Omega.{arith}
 use borrow.Author.Needs.{needs}
@@ -22,13 +21,13 @@ part-is-character-end : tie.Need-part-is-character-end
 part-is-character-end c = search needs
 
 is-character-requires : tie.Need-is-character-requires
-is-character-requires c κs = ?
+is-character-requires c κs = omega (arith, c .is-character-arg .given .2)
 
 returns : tie.Need-returns
-returns c = ?
+returns c = sym (front-bad _ (sym (c .before .is-character .ensures) ∙ not-true _ (c .if1 .taken)))
 
 returns-2 : tie.Need-returns-2
-returns-2 c = ?
+returns-2 c = sym (front-last _ (sym (c .before .before .is-character .ensures) ∙ not-false _ (c .before .if1 .left)) (c .if2 .taken))
 
 sub-is-before : tie.Need-sub-is-before
 sub-is-before c = search needs
@@ -49,10 +48,10 @@ part-is-before-end-2 : tie.Need-part-is-before-end-2
 part-is-before-end-2 c = search needs
 
 is-before-requires : tie.Need-is-before-requires
-is-before-requires c κs = ?
+is-before-requires c κs = (omega (arith, c .before .is-before-arg .given .2), omega (arith, c .is-before-arg2 .given .2))
 
 returns-3 : tie.Need-returns-3
-returns-3 c = ?
+returns-3 c = c .is-before .ensures ∙ sym (front-more _ (sym (c .before .before .before .before .before .is-character .ensures) ∙ not-false _ (c .before .before .before .before .if1 .left)) (c .before .before .before .if2 .left))
 
 pub is-front-spec : {M : Type 1} → statement M
 is-front-spec =
