@@ -1,3 +1,13 @@
+-- `is_good` makes the tests of `good-table`, one after the other: the length, the PA records, the CH records.
+use Rattle.font.proofs.WordLaws.{rest-of}
+use Rattle.font.proofs.RecordLaws.{good-table, length-short, length-broken, length-great, length-good, pass, stop}
+use Rattle.font.specs.Answers.{soundCharacters}
+use Rattle.font.specs.Table.{pieces, characterRecords, characterCount}
+use borrow.Author.Tests.{not-true, not-false}
+use mathlib.Core.List.{List}
+use Prim.Native.Nat.{ℕ, _-_, _/_}
+use lib.ListN.{length}
+use mathlib.Core.Path.{sym, ap, _∙_}
 use borrow.Author.Needs.{needs}
 use Rattle.font.proofs.is_good.Statement.{statement}
 use Rattle.font.proofs.is_good.Tie as tie
@@ -6,57 +16,53 @@ use Rattle.font.proofs.is_good.Lts as lts
 use Rattle.font.proofs.records.are_characters.Reads as are-characters-reads
 use Rattle.font.proofs.records.are_parameters.Reads as are-parameters-reads
 
--- src/lib.rt:37:9
 returns : tie.Need-returns
-returns c = ?
+returns c = sym (good-table _ ∙ stop _ _ (length-short _ (c .if1 .taken)))
 
--- src/lib.rt:39:14
 sub-n : tie.Need-sub-n
 sub-n c = search needs
 
--- src/lib.rt:40:29
 mul-if2 : tie.Need-mul-if2
 mul-if2 c = search needs
 
--- src/lib.rt:40:23
 add-if2 : tie.Need-add-if2
 add-if2 c = search needs
 
--- src/lib.rt:41:9
 returns-2 : tie.Need-returns-2
-returns-2 c = ?
+returns-2 c = sym (good-table _ ∙ stop _ _ (length-broken _ (c .if2 .taken)))
 
--- src/lib.rt:44:9
 returns-3 : tie.Need-returns-3
-returns-3 c = ?
+returns-3 c = sym (good-table _ ∙ stop _ _ (length-great _ (c .before .if2 .left) (c .if3 .taken)))
 
--- src/lib.rt:46:9
 are-parameters-requires : tie.Need-are-parameters-requires
 are-parameters-requires c κs = search needs
 
--- src/lib.rt:47:9
 returns-4 : tie.Need-returns-4
-returns-4 c = ?
+returns-4 c = 
+    let size = length-good _ (c .before .before .before .if2 .left) (c .before .before .if3 .left) in
+    let parameters = sym (c .before .are-parameters .ensures) ∙ not-true _ (c .if4 .taken) in
+    sym (good-table _ ∙ pass _ _ size ∙ stop _ _ parameters)
 
--- src/lib.rt:49:29
 sub-are-characters : tie.Need-sub-are-characters
 sub-are-characters c = search needs
 
--- src/lib.rt:49:29
 part-are-characters-start : tie.Need-part-are-characters-start
 part-are-characters-start c = search needs
 
--- src/lib.rt:49:29
 part-are-characters-end : tie.Need-part-are-characters-end
 part-are-characters-end c = search needs
 
--- src/lib.rt:49:5
 are-characters-requires : tie.Need-are-characters-requires
 are-characters-requires c κs = search needs
 
--- src/lib.rt:33:1
 returns-5 : tie.Need-returns-5
-returns-5 c = ?
+unfolding characterRecords characterCount
+returns-5 c = 
+    let t = c .before .before .before .before .before .before .before .before .args .table .now in
+    let size = length-good t (c .before .before .before .before .before .if2 .left) (c .before .before .before .before .if3 .left) in
+    let parameters = sym (c .before .before .before .are-parameters .ensures) ∙ not-false _ (c .before .before .if4 .left) in
+    let characters = c .are-characters .ensures ∙ ap (λ (s : List ℕ). soundCharacters (pieces 23 ((length t - 426) / 23) s)) (rest-of 426 t) in
+    characters ∙ sym (good-table t ∙ pass _ _ size ∙ pass _ _ parameters)
 
 pub is-good-spec : {M : Type 1} → statement M
 is-good-spec =
