@@ -4,7 +4,7 @@
 --     small-entry, small-found         of what `parameters` and `symbol` answer on a good table
 -- The idea: a rule that holds of every record holds of the one that is taken (`every-map`, `every-getD`, `lookup-every`).
 -- Assumes nothing.
-use mathlib.Core.Path.{_≡_, refl, sym, subst, _∙_}
+use mathlib.Core.Path.{_≡_, refl, sym, subst, ap, _∙_}
 use mathlib.Core.Bool.{Bool, true, false, _&&_, _||_, and-eq-true-iff}
 use mathlib.Core.List.{List, [], _∷_, map}
 use mathlib.Core.Option.{Option, none, some}
@@ -14,6 +14,7 @@ use lib.Dec.{leb, eqb}
 use borrow.Author.Tests.{leb-true}
 use lib.ListN.{getD}
 use Rattle.font.specs.declared.Metrics as declared
+use Rattle.font.specs.declared.Found.{Found}
 use Rattle.font.specs.declared.Found.the-variants.{Symbol}
 use Rattle.font.specs.Table.{greatestWord, greatestSize, greatestFamily, sizeCount, parameterCount, sizeByte, familyByte, flagByte, successorByte, every, rising, marked, goodLength, goodWord, goodParameters, goodCharacter, goodTable, parameterRecords, parameterWords, characterRecords, metricWords}
 use Rattle.font.specs.Font.{Metrics, fontOf, lookup, isOf, metricsOf}
@@ -101,9 +102,9 @@ module _ (t : List ℕ) (good : goodTable t ≡ true) where
       size family code (characterRecords t) m all-characters found
 
   -- what `parameters` answers
-  pub small-entry : (p : List (List ℕ)) → HoldsParameters p t → (size number : ℕ) → size < sizeCount → number < parameterCount → getD (getD p size []) number 0 ≤ greatestWord
-  small-entry p h size number hs hn = subst (λ (n : ℕ). n ≤ greatestWord) (sym (h .held size number hs hn)) (small-parameter size number)
+  pub small-entry : {p : List (List ℕ)} → HoldsParameters p t → (size number : ℕ) → size < sizeCount → number < parameterCount → getD (getD p size []) number 0 ≤ greatestWord
+  small-entry h size number hs hn = subst (λ (n : ℕ). n ≤ greatestWord) (sym (h .held size number hs hn)) (small-parameter size number)
 
-  -- what `symbol` answers
-  pub small-found : (size family code : ℕ) (m : declared.Metrics) → foundAs (Symbol m) ≡ fontOf t .symbol size family code → SmallMetrics (metricsAs m)
-  small-found size family code m e = small-symbol size family code (metricsAs m) (sym e)
+  -- what `symbol` answers, where it found one
+  pub small-found : (size family code : ℕ) {found : Found} {m : declared.Metrics} → foundAs found ≡ fontOf t .symbol size family code → found ≡ Symbol m → SmallMetrics (metricsAs m)
+  small-found size family code {found} {m} e is = small-symbol size family code (metricsAs m) (sym e ∙ ap foundAs is)
