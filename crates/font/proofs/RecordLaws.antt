@@ -17,7 +17,7 @@ use lib.Dec.{ltb, leb, eqb}
 use lib.ListN.{length, take, drop, length-drop}
 use lib.Seq.{drop-drop}
 use Rattle.scaled.specs.Words.{littleEndian}
-use Rattle.font.specs.Table.{pieces, words, parameterRecords, characterRecords, characterCount, goodLength, goodTable, every, marked, goodWord, goodParameters, goodCharacter, metricWords, sizeByte, familyByte, codeByte, flagByte, successorByte, before, rising}
+use Rattle.font.specs.Table.{wordBytes, parameterBytes, headerBytes, characterBytes, sizeCount, mostCharacters, greatestSize, greatestFamily, pieces, words, parameterRecords, characterRecords, characterCount, goodLength, goodTable, every, marked, goodWord, goodParameters, goodCharacter, metricWords, sizeByte, familyByte, codeByte, flagByte, successorByte, before, rising}
 use Rattle.font.specs.Font.{Metrics, isOf, lookup, metricsOf, successorOf, fontOf}
 use Rattle.font.specs.Answers.{soundCharacters, soundFront}
 use Rattle.font.proofs.WordLaws.{words-turn, pieces-turn, pieces-done}
@@ -32,13 +32,13 @@ stop a b e = rw e
 
 -- ---- the loops of the check
 
-pub small-turn : (s : List ℕ) (n k at : ℕ) → k < n → every goodWord (words (n - k) (drop (at + 4 * k) s)) ≡ (goodWord (littleEndian 4 (drop (at + 4 * k) s)) && every goodWord (words (n - (k + 1)) (drop (at + 4 * (k + 1)) s)))
+pub small-turn : (s : List ℕ) (n k at : ℕ) → k < n → every goodWord (words (n - k) (drop (at + wordBytes * k) s)) ≡ (goodWord (littleEndian wordBytes (drop (at + wordBytes * k) s)) && every goodWord (words (n - (k + 1)) (drop (at + wordBytes * (k + 1)) s)))
 unfolding every
-small-turn s n k at h = ap (every goodWord) (words-turn s (n - k) (n - (k + 1)) (at + 4 * k) (at + 4 * (k + 1)) (omega arith) (omega arith))
+small-turn s n k at h = ap (every goodWord) (words-turn s (n - k) (n - (k + 1)) (at + wordBytes * k) (at + wordBytes * (k + 1)) (omega arith) (omega arith))
 
-pub parameters-turn : (t : List ℕ) (size : ℕ) → size < 3 → every goodParameters (pieces 142 (3 - size) (drop (142 * size) t)) ≡ (goodParameters (take 142 (drop (142 * size) t)) && every goodParameters (pieces 142 (3 - (size + 1)) (drop (142 * (size + 1)) t)))
+pub parameters-turn : (t : List ℕ) (size : ℕ) → size < sizeCount → every goodParameters (pieces parameterBytes (sizeCount - size) (drop (parameterBytes * size) t)) ≡ (goodParameters (take parameterBytes (drop (parameterBytes * size) t)) && every goodParameters (pieces parameterBytes (sizeCount - (size + 1)) (drop (parameterBytes * (size + 1)) t)))
 unfolding every
-parameters-turn t size h = ap (every goodParameters) (pieces-turn 142 t (3 - size) (3 - (size + 1)) (142 * size) (142 * (size + 1)) (omega arith) (omega arith))
+parameters-turn t size h = ap (every goodParameters) (pieces-turn parameterBytes t (sizeCount - size) (sizeCount - (size + 1)) (parameterBytes * size) (parameterBytes * (size + 1)) (omega arith) (omega arith))
 
 -- the rules for two records and those after them, in the order of the walk
 regroup : (g b e r : Bool) → ((g && e) && (b && r)) ≡ ((g && b) && (e && r))
@@ -47,37 +47,37 @@ regroup true true e r = refl
 regroup true false true r = refl
 regroup true false false r = refl
 
-sound-turn : (u : List ℕ) (m : ℕ) → length u ≡ 23 * suc m → soundCharacters (pieces 23 (suc m) u) ≡ (soundFront u && soundCharacters (pieces 23 m (drop 23 u)))
+sound-turn : (u : List ℕ) (m : ℕ) → length u ≡ characterBytes * suc m → soundCharacters (pieces characterBytes (suc m) u) ≡ (soundFront u && soundCharacters (pieces characterBytes m (drop characterBytes u)))
 unfolding soundCharacters soundFront pieces every rising
-sound-turn u zero h = let short : ltb (length u) 46 ≡ true = lt-ltb (length u) 46 (omega arith) in rw short
+sound-turn u zero h = let short : ltb (length u) (characterBytes + characterBytes) ≡ true = lt-ltb (length u) (characterBytes + characterBytes) (omega arith) in rw short
 sound-turn u (suc m) h =
-    let long : ltb (length u) 46 ≡ false = le-ltb (length u) 46 (omega arith) in
-    rw long (regroup (goodCharacter (take 23 u)) _ _ _)
+    let long : ltb (length u) (characterBytes + characterBytes) ≡ false = le-ltb (length u) (characterBytes + characterBytes) (omega arith) in
+    rw long (regroup (goodCharacter (take characterBytes u)) _ _ _)
 
 pub characters-done : soundCharacters [] ≡ true
 unfolding soundCharacters every rising
 characters-done = refl
 
-pub characters-turn : (s : List ℕ) (n i : ℕ) → length s ≡ 23 * n → i < n → soundCharacters (pieces 23 (n - i) (drop (23 * i) s)) ≡ (soundFront (drop (23 * i) s) && soundCharacters (pieces 23 (n - (i + 1)) (drop (23 * (i + 1)) s)))
+pub characters-turn : (s : List ℕ) (n i : ℕ) → length s ≡ characterBytes * n → i < n → soundCharacters (pieces characterBytes (n - i) (drop (characterBytes * i) s)) ≡ (soundFront (drop (characterBytes * i) s) && soundCharacters (pieces characterBytes (n - (i + 1)) (drop (characterBytes * (i + 1)) s)))
 characters-turn s n i e h =
     let m = n - (i + 1) in
     let left : n - i ≡ suc m = omega arith in
-    let next : 23 * (i + 1) ≡ 23 * i + 23 = omega arith in
-    rw (left, next, ← drop-drop) (sound-turn (drop (23 * i) s) m (length-drop (23 * i) s ∙ omega arith))
+    let next : characterBytes * (i + 1) ≡ characterBytes * i + characterBytes = omega arith in
+    rw (left, next, ← drop-drop) (sound-turn (drop (characterBytes * i) s) m (length-drop (characterBytes * i) s ∙ omega arith))
 
 -- the first record alone, and with the second
 module _ (s : List ℕ) where
-  pub front-bad : goodCharacter (take 23 s) ≡ false → soundFront s ≡ false
+  pub front-bad : goodCharacter (take characterBytes s) ≡ false → soundFront s ≡ false
   unfolding soundFront
   front-bad g = stop _ _ g
 
-  pub front-last : goodCharacter (take 23 s) ≡ true → length s < 46 → soundFront s ≡ true
+  pub front-last : goodCharacter (take characterBytes s) ≡ true → length s < (characterBytes + characterBytes) → soundFront s ≡ true
   unfolding soundFront
-  front-last g h = pass _ _ g ∙ rw (lt-ltb (length s) 46 h)
+  front-last g h = pass _ _ g ∙ rw (lt-ltb (length s) (characterBytes + characterBytes) h)
 
-  pub front-more : goodCharacter (take 23 s) ≡ true → 46 ≤ length s → soundFront s ≡ before (take 23 s) (take 23 (drop 23 s))
+  pub front-more : goodCharacter (take characterBytes s) ≡ true → (characterBytes + characterBytes) ≤ length s → soundFront s ≡ before (take characterBytes s) (take characterBytes (drop characterBytes s))
   unfolding soundFront
-  front-more g h = pass _ _ g ∙ rw (le-ltb (length s) 46 h)
+  front-more g h = pass _ _ g ∙ rw (le-ltb (length s) (characterBytes + characterBytes) h)
 
 -- ---- the whole table
 
@@ -91,51 +91,51 @@ module _ (t : List ℕ) where
   unfolding goodTable soundCharacters
   good-table = in-order (goodLength t) (every goodParameters (parameterRecords t)) _ _
 
-  pub length-short : length t < 426 → goodLength t ≡ false
+  pub length-short : length t < headerBytes → goodLength t ≡ false
   unfolding goodLength characterCount
-  length-short h = stop _ _ (ne-eqb (length t) (426 + 23 * ((length t - 426) / 23)) (λ e. omega arith))
+  length-short h = stop _ _ (ne-eqb (length t) (headerBytes + characterBytes * ((length t - headerBytes) / characterBytes)) (λ e. omega arith))
 
-  pub length-broken : (length t ≡ 426 + 23 * ((length t - 426) / 23) → ⊥) → goodLength t ≡ false
+  pub length-broken : (length t ≡ headerBytes + characterBytes * ((length t - headerBytes) / characterBytes) → ⊥) → goodLength t ≡ false
   unfolding goodLength characterCount
-  length-broken h = stop _ _ (ne-eqb (length t) (426 + 23 * ((length t - 426) / 23)) h)
+  length-broken h = stop _ _ (ne-eqb (length t) (headerBytes + characterBytes * ((length t - headerBytes) / characterBytes)) h)
 
-  pub length-great : length t ≡ 426 + 23 * ((length t - 426) / 23) → 2048 < (length t - 426) / 23 → goodLength t ≡ false
+  pub length-great : length t ≡ headerBytes + characterBytes * ((length t - headerBytes) / characterBytes) → mostCharacters < (length t - headerBytes) / characterBytes → goodLength t ≡ false
   unfolding goodLength characterCount
   length-great e h = pass _ _ (eq-eqb _ _ e) ∙ lt-leb _ _ h
 
-  pub length-good : length t ≡ 426 + 23 * ((length t - 426) / 23) → (length t - 426) / 23 ≤ 2048 → goodLength t ≡ true
+  pub length-good : length t ≡ headerBytes + characterBytes * ((length t - headerBytes) / characterBytes) → (length t - headerBytes) / characterBytes ≤ mostCharacters → goodLength t ≡ true
   unfolding goodLength characterCount
   length-good e h = pass _ _ (eq-eqb _ _ e) ∙ le-leb _ _ h
 
 -- ---- the loop of the lookup
 
-module _ (size family code : ℕ) (t : List ℕ) (at : ℕ) (whole : at + 23 ≤ length t) where
-  first : pieces 23 ((length t - at) / 23) (drop at t) ≡ take 23 (drop at t) ∷ pieces 23 ((length t - (at + 23)) / 23) (drop (at + 23) t)
-  first = pieces-turn 23 t ((length t - at) / 23) ((length t - (at + 23)) / 23) at (at + 23) (omega arith) refl
+module _ (size family code : ℕ) (t : List ℕ) (at : ℕ) (whole : at + characterBytes ≤ length t) where
+  first : pieces characterBytes ((length t - at) / characterBytes) (drop at t) ≡ take characterBytes (drop at t) ∷ pieces characterBytes ((length t - (at + characterBytes)) / characterBytes) (drop (at + characterBytes) t)
+  first = pieces-turn characterBytes t ((length t - at) / characterBytes) ((length t - (at + characterBytes)) / characterBytes) at (at + characterBytes) (omega arith) refl
 
   -- the choice at that record
   chosen : Bool → Option Metrics
-  chosen b = elim b [ true ↦ some (metricsOf (take 23 (drop at t))) | false ↦ lookup size family code (pieces 23 ((length t - (at + 23)) / 23) (drop (at + 23) t)) ]
+  chosen b = elim b [ true ↦ some (metricsOf (take characterBytes (drop at t))) | false ↦ lookup size family code (pieces characterBytes ((length t - (at + characterBytes)) / characterBytes) (drop (at + characterBytes) t)) ]
 
-  pub lookup-hit : isOf size family code (take 23 (drop at t)) ≡ true → lookup size family code (pieces 23 ((length t - at) / 23) (drop at t)) ≡ some (metricsOf (take 23 (drop at t)))
+  pub lookup-hit : isOf size family code (take characterBytes (drop at t)) ≡ true → lookup size family code (pieces characterBytes ((length t - at) / characterBytes) (drop at t)) ≡ some (metricsOf (take characterBytes (drop at t)))
   unfolding lookup chosen
   lookup-hit e = ap (lookup size family code) first ∙ ap chosen e
 
-  pub lookup-miss : isOf size family code (take 23 (drop at t)) ≡ false → lookup size family code (pieces 23 ((length t - at) / 23) (drop at t)) ≡ lookup size family code (pieces 23 ((length t - (at + 23)) / 23) (drop (at + 23) t))
+  pub lookup-miss : isOf size family code (take characterBytes (drop at t)) ≡ false → lookup size family code (pieces characterBytes ((length t - at) / characterBytes) (drop at t)) ≡ lookup size family code (pieces characterBytes ((length t - (at + characterBytes)) / characterBytes) (drop (at + characterBytes) t))
   unfolding lookup chosen
   lookup-miss e = ap (lookup size family code) first ∙ ap chosen e
 
 module _ (size family code : ℕ) (t : List ℕ) where
-  pub lookup-start : fontOf t .symbol size family code ≡ lookup size family code (pieces 23 ((length t - 426) / 23) (drop 426 t))
+  pub lookup-start : fontOf t .symbol size family code ≡ lookup size family code (pieces characterBytes ((length t - headerBytes) / characterBytes) (drop headerBytes t))
   unfolding fontOf characterRecords characterCount
   lookup-start = refl
 
-  pub lookup-done : (at : ℕ) → length t < at + 23 → lookup size family code (pieces 23 ((length t - at) / 23) (drop at t)) ≡ none
+  pub lookup-done : (at : ℕ) → length t < at + characterBytes → lookup size family code (pieces characterBytes ((length t - at) / characterBytes) (drop at t)) ≡ none
   unfolding lookup
-  lookup-done at h = ap (lookup size family code) (pieces-done 23 (drop at t) ((length t - at) / 23) (omega arith))
+  lookup-done at h = ap (lookup size family code) (pieces-done characterBytes (drop at t) ((length t - at) / characterBytes) (omega arith))
 
 -- the metrics of a record, by where their words stand
-pub metrics-of : (r : List ℕ) (w h d i : ℕ) (s : Option ℕ) → w ≡ littleEndian 4 (drop 7 r) → h ≡ littleEndian 4 (drop 11 r) → d ≡ littleEndian 4 (drop 15 r) → i ≡ littleEndian 4 (drop 19 r) → s ≡ successorOf r → record { width = w; height = h; depth = d; italic = i; successor = s } ≡ metricsOf r
+pub metrics-of : (r : List ℕ) (w h d i : ℕ) (s : Option ℕ) → w ≡ littleEndian wordBytes (drop 7 r) → h ≡ littleEndian wordBytes (drop 11 r) → d ≡ littleEndian wordBytes (drop 15 r) → i ≡ littleEndian wordBytes (drop 19 r) → s ≡ successorOf r → record { width = w; height = h; depth = d; italic = i; successor = s } ≡ metricsOf r
 unfolding metricsOf metricWords words
 metrics-of r w h d i s ew eh ed ei es =
     let second = drop-drop 4 7 r in
@@ -152,9 +152,9 @@ in-turn true false f g o w = refl
 in-turn true true false g o w = refl
 in-turn true true true g o w = refl
 
-pub good-character : (r : List ℕ) → goodCharacter r ≡ (marked 67 72 r && (leb (sizeByte r) 2 && (leb (familyByte r) 15 && ((leb (flagByte r) 1 && (eqb (flagByte r) 1 || eqb (successorByte r) 0)) && every goodWord (metricWords r)))))
+pub good-character : (r : List ℕ) → goodCharacter r ≡ (marked 67 72 r && (leb (sizeByte r) greatestSize && (leb (familyByte r) greatestFamily && ((leb (flagByte r) 1 && (eqb (flagByte r) 1 || eqb (successorByte r) 0)) && every goodWord (metricWords r)))))
 unfolding goodCharacter
-good-character r = in-turn (marked 67 72 r) (leb (sizeByte r) 2) (leb (familyByte r) 15) (leb (flagByte r) 1) _ _
+good-character r = in-turn (marked 67 72 r) (leb (sizeByte r) greatestSize) (leb (familyByte r) greatestFamily) (leb (flagByte r) 1) _ _
 
 module _ (flag code : ℕ) where
   pub flag-one : flag ≡ 1 → (leb flag 1 && (eqb flag 1 || eqb code 0)) ≡ true

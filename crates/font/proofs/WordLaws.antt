@@ -15,12 +15,12 @@ use native.Mathlib.Omega.{arith}
 use lib.ListN.{length, getD, take, drop, length-drop}
 use lib.Seq.{take-all, drop-drop, getD-take, getD-drop}
 use Rattle.scaled.specs.Words.{littleEndian}
-use Rattle.font.specs.Table.{pieces, words, parameterRecords, parameterWords}
+use Rattle.font.specs.Table.{wordBytes, markBytes, parameterBytes, parameterCount, sizeCount, pieces, words, parameterRecords, parameterWords}
 use Rattle.font.specs.Font.{fontOf}
 
 -- ---- a word
 
-word-front : (s : List ℕ) → littleEndian 4 s ≡ getD s 0 0 + 256 * (getD s 1 0 + 256 * (getD s 2 0 + 256 * getD s 3 0))
+word-front : (s : List ℕ) → littleEndian wordBytes s ≡ getD s 0 0 + 256 * (getD s 1 0 + 256 * (getD s 2 0 + 256 * getD s 3 0))
 unfolding littleEndian
 word-front [] = refl
 word-front (a ∷ []) = refl
@@ -28,11 +28,11 @@ word-front (a ∷ b ∷ []) = refl
 word-front (a ∷ b ∷ c ∷ []) = refl
 word-front (a ∷ b ∷ c ∷ d ∷ s) = omega arith
 
-pub word-at : (s : List ℕ) (at : ℕ) → littleEndian 4 (drop at s) ≡ getD s at 0 + 256 * (getD s (at + 1) 0 + 256 * (getD s (at + 2) 0 + 256 * getD s (at + 3) 0))
+pub word-at : (s : List ℕ) (at : ℕ) → littleEndian wordBytes (drop at s) ≡ getD s at 0 + 256 * (getD s (at + 1) 0 + 256 * (getD s (at + 2) 0 + 256 * getD s (at + 3) 0))
 word-at s at = word-front (drop at s) ∙ simp (getD-drop, add-zero)
 
 -- the front of a list has the words that end in it
-word-take : (k b : ℕ) (u : List ℕ) → b + 4 ≤ k → littleEndian 4 (drop b (take k u)) ≡ littleEndian 4 (drop b u)
+word-take : (k b : ℕ) (u : List ℕ) → b + wordBytes ≤ k → littleEndian wordBytes (drop b (take k u)) ≡ littleEndian wordBytes (drop b u)
 word-take k b u h =
     let e0 = getD-take k u b 0 (omega arith) in
     let e1 = getD-take k u (b + 1) 0 (omega arith) in
@@ -50,7 +50,7 @@ rest-of a t = take-all (length t - a) (drop a t) (simp length-drop (omega arith)
 
 -- ---- one element off the front
 
-pub words-turn : (s : List ℕ) (m m′ a b : ℕ) → m ≡ suc m′ → b ≡ a + 4 → words m (drop a s) ≡ littleEndian 4 (drop a s) ∷ words m′ (drop b s)
+pub words-turn : (s : List ℕ) (m m′ a b : ℕ) → m ≡ suc m′ → b ≡ a + wordBytes → words m (drop a s) ≡ littleEndian wordBytes (drop a s) ∷ words m′ (drop b s)
 unfolding words
 words-turn s m m′ a b em eb = rw (em, eb, ← drop-drop)
 
@@ -68,11 +68,11 @@ pieces-done k t m e = rw e
 
 -- ---- the parameters of a table's font
 
-getD-words : (n : ℕ) (s : List ℕ) (j : ℕ) → j < n → getD (words n s) j 0 ≡ littleEndian 4 (drop (4 * j) s)
+getD-words : (n : ℕ) (s : List ℕ) (j : ℕ) → j < n → getD (words n s) j 0 ≡ littleEndian wordBytes (drop (wordBytes * j) s)
 unfolding words
 getD-words zero s j h = absurd (omega arith)
 getD-words (suc n) s zero h = refl
-getD-words (suc n) s (suc j) h = getD-words n (drop 4 s) j (omega arith) ∙ (let e : 4 + 4 * j ≡ 4 * suc j = omega arith in rw (drop-drop, e))
+getD-words (suc n) s (suc j) h = getD-words n (drop wordBytes s) j (omega arith) ∙ (let e : wordBytes + wordBytes * j ≡ wordBytes * suc j = omega arith in rw (drop-drop, e))
 
 getD-pieces : {B : Type 0} (f : List ℕ → B) (d : B) (k n : ℕ) (t : List ℕ) (i : ℕ) → i < n → getD (map f (pieces k n t)) i d ≡ f (take k (drop (k * i) t))
 unfolding pieces
@@ -80,13 +80,13 @@ getD-pieces f d k zero t i h = absurd (omega arith)
 getD-pieces f d k (suc n) t zero h = rw mul-zero
 getD-pieces f d k (suc n) t (suc i) h = getD-pieces f d k n (drop k t) i (omega arith) ∙ rw (drop-drop, mul-suc, add-comm k (k * i))
 
-pub parameter-word : (t : List ℕ) (size number : ℕ) → size < 3 → number < 35 → fontOf t .parameter size number ≡ littleEndian 4 (drop (142 * size + 2 + 4 * number) t)
+pub parameter-word : (t : List ℕ) (size number : ℕ) → size < sizeCount → number < parameterCount → fontOf t .parameter size number ≡ littleEndian wordBytes (drop (parameterBytes * size + markBytes + wordBytes * number) t)
 unfolding fontOf parameterRecords parameterWords
 parameter-word t size number hs hn =
-    let start = 142 * size in
-    let b = 2 + 4 * number in
-    let row = getD-pieces parameterWords [] 142 3 t size hs in
-    let word = getD-words 35 (drop 2 (take 142 (drop start t))) number hn in
-    let within = word-take 142 b (drop start t) (omega arith) in
-    let place : start + b ≡ start + 2 + 4 * number = omega arith in
+    let start = parameterBytes * size in
+    let b = markBytes + wordBytes * number in
+    let row = getD-pieces parameterWords [] parameterBytes sizeCount t size hs in
+    let word = getD-words parameterCount (drop markBytes (take parameterBytes (drop start t))) number hn in
+    let within = word-take parameterBytes b (drop start t) (omega arith) in
+    let place : start + b ≡ start + markBytes + wordBytes * number = omega arith in
     ap (λ (l : List ℕ). getD l number 0) row ∙ word ∙ rw (drop-drop, within, drop-drop, place)

@@ -66,11 +66,11 @@ good-words : (r : List ℕ) → goodCharacter r ≡ true → every goodWord (met
 unfolding goodCharacter
 good-words r h =
     let others =
-      marked 67 72 r
-      && leb (sizeByte r) greatestSize
-      && leb (familyByte r) greatestFamily
-      && leb (flagByte r) 1
-      && (eqb (flagByte r) 1 || eqb (successorByte r) 0)
+    marked 67 72 r
+    && leb (sizeByte r) greatestSize
+    && leb (familyByte r) greatestFamily
+    && leb (flagByte r) 1
+    && (eqb (flagByte r) 1 || eqb (successorByte r) 0)
     in
     and-eq-true-iff others (every goodWord (metricWords r)) .0 h .1
 
@@ -97,8 +97,8 @@ module _ (t : List ℕ) (good : goodTable t ≡ true) where
   small-symbol size family code m found =
       lookup-every SmallMetrics
       (λ r h.
-        let word : (i : ℕ) → getD (metricWords r) i 0 ≤ greatestWord = λ i. leb-true _ _ (every-getD goodWord (metricWords r) i 0 refl (good-words r h)) in
-        record { width = word 0; height = word 1; depth = word 2; italic = word 3 })
+      let word : (i : ℕ) → getD (metricWords r) i 0 ≤ greatestWord = λ i. leb-true _ _ (every-getD goodWord (metricWords r) i 0 refl (good-words r h)) in
+      record { width = word 0; height = word 1; depth = word 2; italic = word 3 })
       size family code (characterRecords t) m all-characters found
 
   -- what `parameters` answers

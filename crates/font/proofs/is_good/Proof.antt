@@ -11,10 +11,6 @@ use mathlib.Core.Path.{sym, ap, _∙_}
 use borrow.Author.Needs.{needs}
 use Rattle.font.proofs.is_good.Statement.{statement}
 use Rattle.font.proofs.is_good.Tie as tie
-use Rattle.font.proofs.is_good.Reads as reads
-use Rattle.font.proofs.is_good.Lts as lts
-use Rattle.font.proofs.records.are_characters.Reads as are-characters-reads
-use Rattle.font.proofs.records.are_parameters.Reads as are-parameters-reads
 
 returns : tie.Need-returns
 returns c = sym (good-table _ ∙ stop _ _ (length-short _ (c .if1 .taken)))
@@ -38,7 +34,7 @@ are-parameters-requires : tie.Need-are-parameters-requires
 are-parameters-requires c κs = search needs
 
 returns-4 : tie.Need-returns-4
-returns-4 c = 
+returns-4 c =
     let size = length-good _ (c .before .before .before .if2 .left) (c .before .before .if3 .left) in
     let parameters = sym (c .before .are-parameters .ensures) ∙ not-true _ (c .if4 .taken) in
     sym (good-table _ ∙ pass _ _ size ∙ stop _ _ parameters)
@@ -57,7 +53,7 @@ are-characters-requires c κs = search needs
 
 returns-5 : tie.Need-returns-5
 unfolding characterRecords characterCount
-returns-5 c = 
+returns-5 c =
     let t = c .before .before .before .before .before .before .before .before .args .table .now in
     let size = length-good t (c .before .before .before .before .before .if2 .left) (c .before .before .before .before .if3 .left) in
     let parameters = sym (c .before .before .before .are-parameters .ensures) ∙ not-false _ (c .before .before .if4 .left) in

@@ -4,8 +4,6 @@ use mathlib.Core.Path.{sym}
 use borrow.Author.Needs.{needs}
 use Rattle.font.proofs.is_of.Statement.{statement}
 use Rattle.font.proofs.is_of.Tie as tie
-use Rattle.font.proofs.is_of.Reads as reads
-use Rattle.font.proofs.is_of.Lts as lts
 
 shared-slice-read-if1 : tie.Need-shared-slice-read-if1
 shared-slice-read-if1 c = search needs

@@ -3,10 +3,6 @@ use Rattle.font.proofs.RecordLaws.{metrics-of}
 use borrow.Author.Needs.{needs}
 use Rattle.font.proofs.metrics_of.Statement.{statement}
 use Rattle.font.proofs.metrics_of.Tie as tie
-use Rattle.font.proofs.metrics_of.Reads as reads
-use Rattle.font.proofs.metrics_of.Lts as lts
-use Rattle.font.proofs.successor_of.Reads as successor-of-reads
-use Rattle.font.proofs.words.word.Reads as word-reads
 
 word-requires : tie.Need-word-requires
 word-requires c κs = search needs

@@ -9,9 +9,6 @@ use native.Mathlib.Omega.{arith}
 use borrow.Author.Needs.{needs}
 use Rattle.font.proofs.parameters.Statement.{statement}
 use Rattle.font.proofs.parameters.Tie as tie
-use Rattle.font.proofs.parameters.Reads as reads
-use Rattle.font.proofs.parameters.Lts as lts
-use Rattle.font.proofs.row.Reads as row-reads
 
 -- what holds of each of the three sizes
 each-size : (P : ℕ → Type 0) → P 0 → P 1 → P 2 → (size : ℕ) → size < 3 → P size
@@ -30,16 +27,16 @@ row-requires-3 : tie.Need-row-requires-3
 row-requires-3 c κs = search needs
 
 returns : tie.Need-returns
-returns c = 
+returns c =
     let font = fontOf (now (c .before .before .before .before .args .table)) in
     let rows = c .before .before .row .result ∷ c .before .row2 .result ∷ c .row3 .result ∷ [] in
     record {
       held = λ size number hs hn.
-        each-size (λ (size : ℕ). getD (getD rows size []) number 0 ≡ font .parameter size number)
-        (c .before .before .row .ensures .held number hn)
-        (c .before .row2 .ensures .held number hn)
-        (c .row3 .ensures .held number hn)
-        size hs;
+          each-size (λ (size : ℕ). getD (getD rows size []) number 0 ≡ font .parameter size number)
+          (c .before .before .row .ensures .held number hn)
+          (c .before .row2 .ensures .held number hn)
+          (c .row3 .ensures .held number hn)
+          size hs;
     }
 
 pub parameters-spec : {M : Type 1} → statement M

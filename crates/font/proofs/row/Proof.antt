@@ -9,9 +9,6 @@ use mathlib.Core.Path.{_≡_, sym, refl, _∙_}
 use native.Mathlib.Omega.{arith}
 use Rattle.font.proofs.row.Statement.{statement}
 use Rattle.font.proofs.row.Tie as tie
-use Rattle.font.proofs.row.Reads as reads
-use Rattle.font.proofs.row.Lts as lts
-use Rattle.font.proofs.words.word.Reads as word-reads
 
 abbrev Inv-loop : tie.InvT-loop
 Inv-loop table size start words₀ number₀ words number = (number ≤ 35) × (length words ≡ 35) × ((m : ℕ) → m < number → getD words m 0 ≡ fontOf table .parameter size m)
@@ -50,15 +47,16 @@ loop-less : tie.Need-loop-less Inv-loop μ-loop
 loop-less c = omega arith
 
 loop-again : tie.Need-loop-again Inv-loop μ-loop
-loop-again c = 
+loop-again c =
     let a = c .before .before .before .before .args in
     let v = c .before .before .loop in
     let w = c .word .result in
-    let word = c .word .ensures ∙ sym (parameter-word (a .table .now) (a .size) (v .number) (omega arith) (omega arith)) in
-    (omega arith,
-    length-set (v .words) (v .number) w ∙ v .inv .1,
-    below-more _ (v .number) (λ m h. getD-set-other (v .words) (v .number) m w 0 (omega arith) ∙ v .inv .2 m h)
-    (getD-set-same (v .words) (v .number) w 0 (omega arith) ∙ word))
+    let word = c .word .ensures ∙ sym (parameter-word (a .table .now) (a .size) (v .number) (omega arith) (omega arith)) in (
+      omega arith,
+      length-set (v .words) (v .number) w ∙ v .inv .1,
+      below-more _ (v .number) (λ m h. getD-set-other (v .words) (v .number) m w 0 (omega arith) ∙ v .inv .2 m h)
+          (getD-set-same (v .words) (v .number) w 0 (omega arith) ∙ word),
+    )
 
 returns : tie.Need-returns Inv-loop μ-loop
 returns c = record { held = λ number h. c .before .loop .inv .2 number (omega arith) }

@@ -10,10 +10,6 @@ use mathlib.Core.Path.{_≡_, sym, ap, _∙_}
 use native.Mathlib.Omega.{arith}
 use Rattle.font.proofs.symbol.Statement.{statement}
 use Rattle.font.proofs.symbol.Tie as tie
-use Rattle.font.proofs.symbol.Reads as reads
-use Rattle.font.proofs.symbol.Lts as lts
-use Rattle.font.proofs.is_of.Reads as is-of-reads
-use Rattle.font.proofs.metrics_of.Reads as metrics-of-reads
 
 abbrev Inv-loop : tie.InvT-loop
 Inv-loop table size family code at₀ at = (at ≤ length table) × (fontOf table .symbol size family code ≡ lookup size family code (pieces 23 ((length table - at) / 23) (drop at table)))
@@ -58,7 +54,7 @@ metrics-of-requires : tie.Need-metrics-of-requires Inv-loop μ-loop
 metrics-of-requires c κs = omega (arith, c .metrics-of-arg .given .2)
 
 returns-2 : tie.Need-returns-2 Inv-loop μ-loop
-returns-2 c = 
+returns-2 c =
     let a = c .before .before .before .before .before .before .before .before .before .args in
     let t = a .table .now in
     let v = c .before .before .before .before .before .before .loop in
@@ -70,7 +66,7 @@ loop-less : tie.Need-loop-less Inv-loop μ-loop
 loop-less c = omega arith
 
 loop-again : tie.Need-loop-again Inv-loop μ-loop
-loop-again c = 
+loop-again c =
     let a = c .before .before .before .before .before .before .before .args in
     let t = a .table .now in
     let v = c .before .before .before .before .loop in

@@ -11,9 +11,6 @@ use mathlib.Core.Path.{_≡_, sym, refl, ap, _∙_}
 use native.Mathlib.Omega.{arith}
 use Rattle.font.proofs.records.are_characters.Statement.{statement}
 use Rattle.font.proofs.records.are_characters.Tie as tie
-use Rattle.font.proofs.records.are_characters.Reads as reads
-use Rattle.font.proofs.records.are_characters.Lts as lts
-use Rattle.font.proofs.records.is_front.Reads as is-front-reads
 
 abbrev Inv-loop : tie.InvT-loop
 Inv-loop s n i₀ i = (i ≤ n) × (soundCharacters (pieces 23 n s) ≡ soundCharacters (pieces 23 (n - i) (drop (23 * i) s)))
@@ -40,7 +37,7 @@ is-front-requires : tie.Need-is-front-requires Inv-loop μ-loop
 is-front-requires c κs = omega (arith, c .is-front-arg .given .2)
 
 returns : tie.Need-returns Inv-loop μ-loop
-returns c = 
+returns c =
     let v = c .before .before .before .before .loop in
     let a = c .before .before .before .before .before .before .args in
     let s = a .s .now in
@@ -54,7 +51,7 @@ loop-less : tie.Need-loop-less Inv-loop μ-loop
 loop-less c = omega arith
 
 loop-again : tie.Need-loop-again Inv-loop μ-loop
-loop-again c = 
+loop-again c =
     let v = c .before .before .before .before .loop in
     let a = c .before .before .before .before .before .before .args in
     let s = a .s .now in
@@ -62,7 +59,7 @@ loop-again c =
     (omega arith, v .inv .1 ∙ characters-turn s (a .n) (v .i) (c .before .before .before .before .before .before .pre) (omega arith) ∙ pass _ _ good)
 
 returns-2 : tie.Need-returns-2 Inv-loop μ-loop
-returns-2 c = 
+returns-2 c =
     let left = c .before .before .before .args .n - c .before .loop .i in
     sym (c .before .loop .inv .1 ∙ ap soundCharacters (pieces-done 23 _ left (omega arith)) ∙ characters-done)
 

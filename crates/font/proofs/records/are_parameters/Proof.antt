@@ -9,9 +9,6 @@ use mathlib.Core.Path.{_≡_, sym, refl, ap, _∙_}
 use native.Mathlib.Omega.{arith}
 use Rattle.font.proofs.records.are_parameters.Statement.{statement}
 use Rattle.font.proofs.records.are_parameters.Tie as tie
-use Rattle.font.proofs.records.are_parameters.Reads as reads
-use Rattle.font.proofs.records.are_parameters.Lts as lts
-use Rattle.font.proofs.records.is_parameters.Reads as is-parameters-reads
 
 abbrev Inv-loop : tie.InvT-loop
 Inv-loop table size₀ size = (size ≤ 3) × (every goodParameters (parameterRecords table) ≡ every goodParameters (pieces 142 (3 - size) (drop (142 * size) table)))
@@ -42,7 +39,7 @@ is-parameters-requires : tie.Need-is-parameters-requires Inv-loop μ-loop
 is-parameters-requires c κs = omega (arith, c .is-parameters-arg .given .2)
 
 returns : tie.Need-returns Inv-loop μ-loop
-returns c = 
+returns c =
     let v = c .before .before .before .before .loop in
     let t = c .before .before .before .before .before .before .args .table .now in
     let bad = ap goodParameters (sym (part-of (142 * v .size) 142 t)) ∙ sym (c .before .is-parameters .ensures) ∙ not-true _ (c .if1 .taken) in
@@ -55,7 +52,7 @@ loop-less : tie.Need-loop-less Inv-loop μ-loop
 loop-less c = omega arith
 
 loop-again : tie.Need-loop-again Inv-loop μ-loop
-loop-again c = 
+loop-again c =
     let v = c .before .before .before .before .loop in
     let t = c .before .before .before .before .before .before .args .table .now in
     let good = ap goodParameters (sym (part-of (142 * v .size) 142 t)) ∙ sym (c .before .is-parameters .ensures) ∙ not-false _ (c .if1 .left) in

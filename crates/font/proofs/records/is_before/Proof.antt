@@ -4,8 +4,6 @@ use mathlib.Core.Path.{sym}
 use borrow.Author.Needs.{needs}
 use Rattle.font.proofs.records.is_before.Statement.{statement}
 use Rattle.font.proofs.records.is_before.Tie as tie
-use Rattle.font.proofs.records.is_before.Reads as reads
-use Rattle.font.proofs.records.is_before.Lts as lts
 
 shared-slice-read-size : tie.Need-shared-slice-read-size
 shared-slice-read-size c = search needs

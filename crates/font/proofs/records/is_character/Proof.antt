@@ -7,17 +7,12 @@ use mathlib.Core.Path.{sym, _∙_}
 use borrow.Author.Needs.{needs}
 use Rattle.font.proofs.records.is_character.Statement.{statement}
 use Rattle.font.proofs.records.is_character.Tie as tie
-use Rattle.font.proofs.records.is_character.Reads as reads
-use Rattle.font.proofs.records.is_character.Lts as lts
-use Rattle.font.proofs.records.is_marked.Reads as is-marked-reads
-use Rattle.font.proofs.records.is_successor.Reads as is-successor-reads
-use Rattle.font.proofs.words.are_small.Reads as are-small-reads
 
 is-marked-requires : tie.Need-is-marked-requires
 is-marked-requires c κs = search needs
 
 returns : tie.Need-returns
-returns c = 
+returns c =
     let mark = sym (c .before .is-marked .ensures) ∙ not-true _ (c .if1 .taken) in
     sym (good-character _ ∙ stop _ _ mark)
 
@@ -25,7 +20,7 @@ shared-slice-read-if2 : tie.Need-shared-slice-read-if2
 shared-slice-read-if2 c = search needs
 
 returns-2 : tie.Need-returns-2
-returns-2 c = 
+returns-2 c =
     let mark = sym (c .before .before .before .is-marked .ensures) ∙ not-false _ (c .before .before .if1 .left) in
     let size = lt-leb _ _ (c .if2 .taken) in
     sym (good-character _ ∙ pass _ _ mark ∙ stop _ _ size)
@@ -34,7 +29,7 @@ shared-slice-read-if3 : tie.Need-shared-slice-read-if3
 shared-slice-read-if3 c = search needs
 
 returns-3 : tie.Need-returns-3
-returns-3 c = 
+returns-3 c =
     let mark = sym (c .before .before .before .before .before .is-marked .ensures) ∙ not-false _ (c .before .before .before .before .if1 .left) in
     let size = le-leb _ _ (c .before .before .if2 .left) in
     let family = lt-leb _ _ (c .if3 .taken) in
@@ -50,7 +45,7 @@ is-successor-requires : tie.Need-is-successor-requires
 is-successor-requires c κs = search needs
 
 returns-4 : tie.Need-returns-4
-returns-4 c = 
+returns-4 c =
     let mark = sym (c .before .before .before .before .before .before .before .before .before .is-marked .ensures) ∙ not-false _ (c .before .before .before .before .before .before .before .before .if1 .left) in
     let size = le-leb _ _ (c .before .before .before .before .before .before .if2 .left) in
     let family = le-leb _ _ (c .before .before .before .before .if3 .left) in
@@ -62,7 +57,7 @@ are-small-requires c κs = search needs
 
 returns-5 : tie.Need-returns-5
 unfolding metricWords
-returns-5 c = 
+returns-5 c =
     let mark = sym (c .before .before .before .before .before .before .before .before .before .before .is-marked .ensures) ∙ not-false _ (c .before .before .before .before .before .before .before .before .before .if1 .left) in
     let size = le-leb _ _ (c .before .before .before .before .before .before .before .if2 .left) in
     let family = le-leb _ _ (c .before .before .before .before .before .if3 .left) in

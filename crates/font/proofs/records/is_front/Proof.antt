@@ -6,10 +6,6 @@ use native.Mathlib.Omega.{arith}
 use borrow.Author.Needs.{needs}
 use Rattle.font.proofs.records.is_front.Statement.{statement}
 use Rattle.font.proofs.records.is_front.Tie as tie
-use Rattle.font.proofs.records.is_front.Reads as reads
-use Rattle.font.proofs.records.is_front.Lts as lts
-use Rattle.font.proofs.records.is_before.Reads as is-before-reads
-use Rattle.font.proofs.records.is_character.Reads as is-character-reads
 
 sub-is-character : tie.Need-sub-is-character
 sub-is-character c = search needs

@@ -4,8 +4,6 @@ use borrow.Author.Tests.{eq-eqb, ne-eqb}
 use borrow.Author.Needs.{needs}
 use Rattle.font.proofs.records.is_marked.Statement.{statement}
 use Rattle.font.proofs.records.is_marked.Tie as tie
-use Rattle.font.proofs.records.is_marked.Reads as reads
-use Rattle.font.proofs.records.is_marked.Lts as lts
 
 shared-slice-read-if1 : tie.Need-shared-slice-read-if1
 shared-slice-read-if1 c = search needs

@@ -6,10 +6,6 @@ use mathlib.Core.Path.{sym, _∙_}
 use borrow.Author.Needs.{needs}
 use Rattle.font.proofs.records.is_parameters.Statement.{statement}
 use Rattle.font.proofs.records.is_parameters.Tie as tie
-use Rattle.font.proofs.records.is_parameters.Reads as reads
-use Rattle.font.proofs.records.is_parameters.Lts as lts
-use Rattle.font.proofs.records.is_marked.Reads as is-marked-reads
-use Rattle.font.proofs.words.are_small.Reads as are-small-reads
 
 is-marked-requires : tie.Need-is-marked-requires
 is-marked-requires c κs = search needs

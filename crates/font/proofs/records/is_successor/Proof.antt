@@ -3,8 +3,6 @@ use Rattle.font.proofs.RecordLaws.{flag-one, flag-zero, flag-more}
 use mathlib.Core.Path.{sym}
 use Rattle.font.proofs.records.is_successor.Statement.{statement}
 use Rattle.font.proofs.records.is_successor.Tie as tie
-use Rattle.font.proofs.records.is_successor.Reads as reads
-use Rattle.font.proofs.records.is_successor.Lts as lts
 
 returns : tie.Need-returns
 returns c = sym (flag-one _ (c .before .args .code) (c .if1 .taken))

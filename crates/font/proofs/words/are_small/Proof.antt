@@ -10,9 +10,6 @@ use mathlib.Core.Path.{_≡_, sym, refl, ap, _∙_}
 use native.Mathlib.Omega.{arith}
 use Rattle.font.proofs.words.are_small.Statement.{statement}
 use Rattle.font.proofs.words.are_small.Tie as tie
-use Rattle.font.proofs.words.are_small.Reads as reads
-use Rattle.font.proofs.words.are_small.Lts as lts
-use Rattle.font.proofs.words.word.Reads as word-reads
 
 abbrev Inv-loop : tie.InvT-loop
 Inv-loop s at n k₀ k = (k ≤ n) × (every goodWord (words n (drop at s)) ≡ every goodWord (words (n - k) (drop (at + 4 * k) s)))
@@ -33,7 +30,7 @@ word-requires : tie.Need-word-requires Inv-loop μ-loop
 word-requires c κs = omega arith
 
 returns : tie.Need-returns Inv-loop μ-loop
-returns c = 
+returns c =
     let a = c .before .before .before .before .before .args in
     let k = c .before .before .before .loop .k in
     let great = ap goodWord (sym (c .before .word .ensures)) ∙ lt-leb _ _ (c .if1 .taken) in
@@ -46,7 +43,7 @@ loop-less : tie.Need-loop-less Inv-loop μ-loop
 loop-less c = omega arith
 
 loop-again : tie.Need-loop-again Inv-loop μ-loop
-loop-again c = 
+loop-again c =
     let a = c .before .before .before .before .before .args in
     let k = c .before .before .before .loop .k in
     let small = ap goodWord (sym (c .before .word .ensures)) ∙ le-leb _ _ (c .if1 .left) in

@@ -5,8 +5,6 @@ use native.Mathlib.Omega.{arith}
 use borrow.Author.Needs.{needs}
 use Rattle.font.proofs.words.byte.Statement.{statement}
 use Rattle.font.proofs.words.byte.Tie as tie
-use Rattle.font.proofs.words.byte.Reads as reads
-use Rattle.font.proofs.words.byte.Lts as lts
 
 shared-slice-read-result : tie.Need-shared-slice-read-result
 shared-slice-read-result c = search needs

@@ -4,9 +4,6 @@ use native.Mathlib.Omega.{arith}
 use borrow.Author.Needs.{needs}
 use Rattle.font.proofs.words.word.Statement.{statement}
 use Rattle.font.proofs.words.word.Tie as tie
-use Rattle.font.proofs.words.word.Reads as reads
-use Rattle.font.proofs.words.word.Lts as lts
-use Rattle.font.proofs.words.byte.Reads as byte-reads
 
 byte-requires : tie.Need-byte-requires
 byte-requires c κs = search needs
