@@ -6,7 +6,7 @@
 --     before-size, before-family, before-code    the order of two records, by the first byte that differs
 --     is-of-size, is-of-family, is-of-code       whether a record is that of a symbol, byte by byte
 -- Assumes nothing.
-use mathlib.Core.Path.{_≡_, refl, sym, ap, _∙_}
+use mathlib.Core.Path.{_≡_, refl, ap, _∙_}
 use mathlib.Core.Bool.{Bool, true, false, _&&_, _||_}
 use mathlib.Core.List.{List, [], _∷_}
 use mathlib.Core.Option.{Option, none, some}
@@ -109,30 +109,34 @@ module _ (t : List ℕ) where
 
 -- ---- the loop of the lookup
 
+-- the CH records from a place on
+abbrev pub recordsFrom : List ℕ → ℕ → List (List ℕ)
+recordsFrom t at = pieces characterBytes ((length t - at) / characterBytes) (drop at t)
+
+module _ (size family code : ℕ) (t : List ℕ) where
+  pub lookup-start : fontOf t .symbol size family code ≡ lookup size family code (recordsFrom t headerBytes)
+  unfolding fontOf characterRecords characterCount
+  lookup-start = refl
+
+  pub lookup-done : (at : ℕ) → length t < at + characterBytes → lookup size family code (recordsFrom t at) ≡ none
+  unfolding lookup
+  lookup-done at h = ap (lookup size family code) (pieces-done characterBytes (drop at t) ((length t - at) / characterBytes) (omega arith))
+
 module _ (size family code : ℕ) (t : List ℕ) (at : ℕ) (whole : at + characterBytes ≤ length t) where
-  first : pieces characterBytes ((length t - at) / characterBytes) (drop at t) ≡ take characterBytes (drop at t) ∷ pieces characterBytes ((length t - (at + characterBytes)) / characterBytes) (drop (at + characterBytes) t)
+  first : recordsFrom t at ≡ take characterBytes (drop at t) ∷ recordsFrom t (at + characterBytes)
   first = pieces-turn characterBytes t ((length t - at) / characterBytes) ((length t - (at + characterBytes)) / characterBytes) at (at + characterBytes) (omega arith) refl
 
   -- the choice at that record
   chosen : Bool → Option Metrics
-  chosen b = elim b [ true ↦ some (metricsOf (take characterBytes (drop at t))) | false ↦ lookup size family code (pieces characterBytes ((length t - (at + characterBytes)) / characterBytes) (drop (at + characterBytes) t)) ]
+  chosen b = elim b [ true ↦ some (metricsOf (take characterBytes (drop at t))) | false ↦ lookup size family code (recordsFrom t (at + characterBytes)) ]
 
-  pub lookup-hit : isOf size family code (take characterBytes (drop at t)) ≡ true → lookup size family code (pieces characterBytes ((length t - at) / characterBytes) (drop at t)) ≡ some (metricsOf (take characterBytes (drop at t)))
+  pub lookup-hit : isOf size family code (take characterBytes (drop at t)) ≡ true → lookup size family code (recordsFrom t at) ≡ some (metricsOf (take characterBytes (drop at t)))
   unfolding lookup chosen
   lookup-hit e = ap (lookup size family code) first ∙ ap chosen e
 
-  pub lookup-miss : isOf size family code (take characterBytes (drop at t)) ≡ false → lookup size family code (pieces characterBytes ((length t - at) / characterBytes) (drop at t)) ≡ lookup size family code (pieces characterBytes ((length t - (at + characterBytes)) / characterBytes) (drop (at + characterBytes) t))
+  pub lookup-miss : isOf size family code (take characterBytes (drop at t)) ≡ false → lookup size family code (recordsFrom t at) ≡ lookup size family code (recordsFrom t (at + characterBytes))
   unfolding lookup chosen
   lookup-miss e = ap (lookup size family code) first ∙ ap chosen e
-
-module _ (size family code : ℕ) (t : List ℕ) where
-  pub lookup-start : fontOf t .symbol size family code ≡ lookup size family code (pieces characterBytes ((length t - headerBytes) / characterBytes) (drop headerBytes t))
-  unfolding fontOf characterRecords characterCount
-  lookup-start = refl
-
-  pub lookup-done : (at : ℕ) → length t < at + characterBytes → lookup size family code (pieces characterBytes ((length t - at) / characterBytes) (drop at t)) ≡ none
-  unfolding lookup
-  lookup-done at h = ap (lookup size family code) (pieces-done characterBytes (drop at t) ((length t - at) / characterBytes) (omega arith))
 
 -- the metrics of a record, by where their words stand
 pub metrics-of : (r : List ℕ) (w h d i : ℕ) (s : Option ℕ) → w ≡ littleEndian wordBytes (drop 7 r) → h ≡ littleEndian wordBytes (drop 11 r) → d ≡ littleEndian wordBytes (drop 15 r) → i ≡ littleEndian wordBytes (drop 19 r) → s ≡ successorOf r → record { width = w; height = h; depth = d; italic = i; successor = s } ≡ metricsOf r

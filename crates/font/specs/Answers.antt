@@ -11,9 +11,9 @@ use mathlib.Core.Option.{Option, none, some}
 use Prim.Native.Nat.{ℕ, _+_, _<_}
 use lib.Dec.{ltb}
 use lib.ListN.{length, getD, take, drop}
+use Rattle.font.specs.declared.Metrics as declared
 use Rattle.font.specs.declared.Successor.{Successor}
 use Rattle.font.specs.declared.Successor.the-variants.{Nothing, Code}
-use Rattle.font.specs.declared.Metrics as declared
 use Rattle.font.specs.declared.Found.{Found}
 use Rattle.font.specs.declared.Found.the-variants.{Symbol, Absent}
 use Rattle.font.specs.Table.{sizeCount, parameterCount, characterBytes, every, goodCharacter, before, rising}

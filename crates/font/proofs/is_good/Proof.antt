@@ -1,16 +1,15 @@
 -- `is_good` makes the tests of `good-table`, one after the other: the length, the PA records, the CH records.
+use mathlib.Core.Path.{sym, ap, _∙_}
+use mathlib.Core.List.{List}
+use Prim.Native.Nat.{ℕ, _-_}
+use borrow.Author.Tests.{not-true, not-false}
+use borrow.Author.Needs.{needs}
+use Rattle.font.specs.Answers.{soundCharacters}
+use Rattle.font.specs.Table.{headerBytes, characterBytes, pieces, characterRecords, characterCount}
 use Rattle.font.proofs.WordLaws.{rest-of}
 use Rattle.font.proofs.RecordLaws.{good-table, length-short, length-broken, length-great, length-good, pass, stop}
-use Rattle.font.specs.Answers.{soundCharacters}
-use Rattle.font.specs.Table.{pieces, characterRecords, characterCount}
-use borrow.Author.Tests.{not-true, not-false}
-use mathlib.Core.List.{List}
-use Prim.Native.Nat.{ℕ, _-_, _/_}
-use lib.ListN.{length}
-use mathlib.Core.Path.{sym, ap, _∙_}
-use borrow.Author.Needs.{needs}
-use Rattle.font.proofs.is_good.Statement.{statement}
 use Rattle.font.proofs.is_good.Tie as tie
+use Rattle.font.proofs.is_good.Statement.{statement}
 
 returns : tie.Need-returns
 returns c = sym (good-table _ ∙ stop _ _ (length-short _ (c .if1 .taken)))
@@ -35,7 +34,9 @@ are-parameters-requires c κs = search needs
 
 returns-4 : tie.Need-returns-4
 returns-4 c =
-    let size = length-good _ (c .before .before .before .if2 .left) (c .before .before .if3 .left) in
+    let past-count = c .before .before in
+    let past-length = past-count .before in
+    let size = length-good _ (past-length .if2 .left) (past-count .if3 .left) in
     let parameters = sym (c .before .are-parameters .ensures) ∙ not-true _ (c .if4 .taken) in
     sym (good-table _ ∙ pass _ _ size ∙ stop _ _ parameters)
 
@@ -54,10 +55,13 @@ are-characters-requires c κs = search needs
 returns-5 : tie.Need-returns-5
 unfolding characterRecords characterCount
 returns-5 c =
-    let t = c .before .before .before .before .before .before .before .before .args .table .now in
-    let size = length-good t (c .before .before .before .before .before .if2 .left) (c .before .before .before .before .if3 .left) in
-    let parameters = sym (c .before .before .before .are-parameters .ensures) ∙ not-false _ (c .before .before .if4 .left) in
-    let characters = c .are-characters .ensures ∙ ap (λ (s : List ℕ). soundCharacters (pieces 23 ((length t - 426) / 23) s)) (rest-of 426 t) in
+    let past-parameters = c .before .before in
+    let past-count = past-parameters .before .before in
+    let past-length = past-count .before in
+    let t = past-length .before .before .before .args .table .now in
+    let size = length-good t (past-length .if2 .left) (past-count .if3 .left) in
+    let parameters = sym (past-parameters .before .are-parameters .ensures) ∙ not-false _ (past-parameters .if4 .left) in
+    let characters = c .are-characters .ensures ∙ ap (λ (s : List ℕ). soundCharacters (pieces characterBytes (characterCount t) s)) (rest-of headerBytes t) in
     characters ∙ sym (good-table t ∙ pass _ _ size ∙ pass _ _ parameters)
 
 pub is-good-spec : {M : Type 1} → statement M

@@ -1,8 +1,8 @@
 -- `metrics_of` reads the four words one after the other, as `words` does.
-use Rattle.font.proofs.RecordLaws.{metrics-of}
 use borrow.Author.Needs.{needs}
-use Rattle.font.proofs.metrics_of.Statement.{statement}
+use Rattle.font.proofs.RecordLaws.{metrics-of}
 use Rattle.font.proofs.metrics_of.Tie as tie
+use Rattle.font.proofs.metrics_of.Statement.{statement}
 
 word-requires : tie.Need-word-requires
 word-requires c κs = search needs

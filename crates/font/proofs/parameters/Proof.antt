@@ -1,14 +1,14 @@
 -- `parameters` has the row of each of the three sizes.
-use Rattle.font.specs.Font.{fontOf}
-use denote.Ref.{now}
-use lib.ListN.{getD}
-use Prim.Native.Nat.{ℕ, zero, suc, _<_}
-use mathlib.Core.List.{[], _∷_}
 use mathlib.Core.Path.{_≡_}
+use mathlib.Core.List.{[], _∷_}
+use Prim.Native.Nat.{ℕ, zero, suc, _<_}
 use native.Mathlib.Omega.{arith}
 use borrow.Author.Needs.{needs}
-use Rattle.font.proofs.parameters.Statement.{statement}
+use denote.Ref.{now}
+use lib.ListN.{getD}
+use Rattle.font.specs.Font.{fontOf}
 use Rattle.font.proofs.parameters.Tie as tie
+use Rattle.font.proofs.parameters.Statement.{statement}
 
 -- what holds of each of the three sizes
 each-size : (P : ℕ → Type 0) → P 0 → P 1 → P 2 → (size : ℕ) → size < 3 → P size

@@ -1,20 +1,21 @@
 -- `row` stores the words of one size: each word stored so far is that of its number, by `parameter-word`.
-use Rattle.font.proofs.WordLaws.{parameter-word}
-use Rattle.font.specs.Font.{fontOf}
+use mathlib.Core.Path.{_≡_, sym, refl, _∙_}
+use Prim.Native.Nat.{ℕ, _≤_, _<_, _-_}
+use native.Mathlib.Omega.{arith}
+use borrow.Author.Count.{below-more}
 use lib.Seq.{getD-set-same, getD-set-other}
 use lib.ListN.{length, getD, length-set}
-use borrow.Author.Count.{below-more}
-use Prim.Native.Nat.{ℕ, _≤_, _<_, _-_}
-use mathlib.Core.Path.{_≡_, sym, refl, _∙_}
-use native.Mathlib.Omega.{arith}
-use Rattle.font.proofs.row.Statement.{statement}
+use Rattle.font.specs.Table.{parameterCount}
+use Rattle.font.specs.Font.{fontOf}
+use Rattle.font.proofs.WordLaws.{parameter-word}
 use Rattle.font.proofs.row.Tie as tie
+use Rattle.font.proofs.row.Statement.{statement}
 
 abbrev Inv-loop : tie.InvT-loop
-Inv-loop table size start words₀ number₀ words number = (number ≤ 35) × (length words ≡ 35) × ((m : ℕ) → m < number → getD words m 0 ≡ fontOf table .parameter size m)
+Inv-loop table size start words₀ number₀ words number = (number ≤ parameterCount) × (length words ≡ parameterCount) × ((m : ℕ) → m < number → getD words m 0 ≡ fontOf table .parameter size m)
 
 abbrev μ-loop : tie.MeasureT-loop
-μ-loop table size start words₀ number₀ words number = 35 - number
+μ-loop table size start words₀ number₀ words number = parameterCount - number
 
 mul-start : tie.Need-mul-start Inv-loop μ-loop
 mul-start c = omega arith

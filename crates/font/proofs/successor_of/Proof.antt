@@ -1,9 +1,9 @@
 -- `successor_of` goes by the flag.
-use Rattle.font.proofs.RecordLaws.{successor-some, successor-none}
 use mathlib.Core.Path.{sym}
 use borrow.Author.Needs.{needs}
-use Rattle.font.proofs.successor_of.Statement.{statement}
+use Rattle.font.proofs.RecordLaws.{successor-some, successor-none}
 use Rattle.font.proofs.successor_of.Tie as tie
+use Rattle.font.proofs.successor_of.Statement.{statement}
 
 shared-slice-read-if1 : tie.Need-shared-slice-read-if1
 shared-slice-read-if1 c = search needs

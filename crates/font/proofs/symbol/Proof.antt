@@ -1,24 +1,36 @@
 -- `symbol` tries one record after the other: those that are left have the answer (`lookup-hit`, `lookup-miss`).
-use mathlib.Core.Option.{some}
-use Rattle.font.proofs.WordLaws.{part-of}
-use Rattle.font.proofs.RecordLaws.{lookup-start, lookup-hit, lookup-miss, lookup-done}
-use Rattle.font.specs.Table.{pieces}
-use Rattle.font.specs.Font.{fontOf, lookup, isOf, metricsOf}
-use lib.ListN.{length, drop}
-use Prim.Native.Nat.{_≤_, _+_, _-_, _/_}
 use mathlib.Core.Path.{_≡_, sym, ap, _∙_}
+use mathlib.Core.Option.{some}
+use Prim.Native.Nat.{_≤_, _-_}
 use native.Mathlib.Omega.{arith}
-use Rattle.font.proofs.symbol.Statement.{statement}
+use lib.ListN.{length, take, drop}
+use Rattle.font.specs.Table.{headerBytes, characterBytes}
+use Rattle.font.specs.Font.{fontOf, lookup, isOf, metricsOf}
+use Rattle.font.proofs.WordLaws.{part-of}
+use Rattle.font.proofs.RecordLaws.{recordsFrom, lookup-start, lookup-hit, lookup-miss, lookup-done}
 use Rattle.font.proofs.symbol.Tie as tie
+use Rattle.font.proofs.symbol.Statement.{statement}
 
 abbrev Inv-loop : tie.InvT-loop
-Inv-loop table size family code at₀ at = (at ≤ length table) × (fontOf table .symbol size family code ≡ lookup size family code (pieces 23 ((length table - at) / 23) (drop at table)))
+Inv-loop table size family code at₀ at = (at ≤ length table) × (fontOf table .symbol size family code ≡ lookup size family code (recordsFrom table at))
 
 abbrev μ-loop : tie.MeasureT-loop
 μ-loop table size family code at₀ at = length table - at
 
+-- what the test said of the record that the definition takes from the table
+tried : (c : tie.After-is-of Inv-loop μ-loop) →
+    let at-loop = c .before .before .before in
+    let a = at-loop .before .before .before .args in
+    isOf (a .size) (a .family) (a .code) (take characterBytes (drop (at-loop .loop .at) (a .table .now))) ≡ c .is-of .result
+tried c =
+    let at-loop = c .before .before .before in
+    let a = at-loop .before .before .before .args in
+    ap (isOf (a .size) (a .family) (a .code)) (sym (part-of (at-loop .loop .at) characterBytes (a .table .now))) ∙ sym (c .is-of .ensures)
+
 returns : tie.Need-returns Inv-loop μ-loop
-returns c = sym (lookup-start _ _ _ _ ∙ lookup-done _ _ _ (c .before .before .args .table .now) 426 (omega arith))
+returns c =
+    let t = c .before .before .args .table .now in
+    sym (lookup-start _ _ _ t ∙ lookup-done _ _ _ t headerBytes (omega arith))
 
 loop-holds : tie.Need-loop-holds Inv-loop μ-loop
 loop-holds c = (omega arith, lookup-start _ _ _ _)
@@ -55,26 +67,30 @@ metrics-of-requires c κs = omega (arith, c .metrics-of-arg .given .2)
 
 returns-2 : tie.Need-returns-2 Inv-loop μ-loop
 returns-2 c =
-    let a = c .before .before .before .before .before .before .before .before .before .args in
+    let tested = c .before .before .before in
+    let at-loop = tested .before .before .before in
+    let a = at-loop .before .before .before .args in
     let t = a .table .now in
-    let v = c .before .before .before .before .before .before .loop in
-    let part = part-of (v .at) 23 t in
-    let hit = ap (isOf (a .size) (a .family) (a .code)) (sym part) ∙ sym (c .before .before .before .is-of .ensures) ∙ c .before .before .if2 .taken in
-    ap some (c .metrics-of .ensures ∙ ap metricsOf part) ∙ sym (v .inv .1 ∙ lookup-hit (a .size) (a .family) (a .code) t (v .at) (omega arith) hit)
+    let at = at-loop .loop .at in
+    let hit = tried tested ∙ c .before .before .if2 .taken in
+    let metrics = c .metrics-of .ensures ∙ ap metricsOf (part-of at characterBytes t) in
+    ap some metrics ∙ sym (at-loop .loop .inv .1 ∙ lookup-hit (a .size) (a .family) (a .code) t at (omega arith) hit)
 
 loop-less : tie.Need-loop-less Inv-loop μ-loop
 loop-less c = omega arith
 
 loop-again : tie.Need-loop-again Inv-loop μ-loop
 loop-again c =
-    let a = c .before .before .before .before .before .before .before .args in
-    let t = a .table .now in
-    let v = c .before .before .before .before .loop in
-    let miss = ap (isOf (a .size) (a .family) (a .code)) (sym (part-of (v .at) 23 t)) ∙ sym (c .before .is-of .ensures) ∙ c .if2 .left in
-    (omega arith, v .inv .1 ∙ lookup-miss (a .size) (a .family) (a .code) t (v .at) (omega arith) miss)
+    let at-loop = c .before .before .before .before in
+    let a = at-loop .before .before .before .args in
+    let miss = tried (c .before) ∙ c .if2 .left in
+    (omega arith, at-loop .loop .inv .1 ∙ lookup-miss (a .size) (a .family) (a .code) (a .table .now) (at-loop .loop .at) (omega arith) miss)
 
 returns-3 : tie.Need-returns-3 Inv-loop μ-loop
-returns-3 c = sym (c .before .loop .inv .1 ∙ lookup-done _ _ _ (c .before .before .before .before .args .table .now) (c .before .loop .at) (omega arith))
+returns-3 c =
+    let at-loop = c .before in
+    let t = at-loop .before .before .before .args .table .now in
+    sym (at-loop .loop .inv .1 ∙ lookup-done _ _ _ t (at-loop .loop .at) (omega arith))
 
 pub symbol-spec : {M : Type 1} → statement M
 symbol-spec =

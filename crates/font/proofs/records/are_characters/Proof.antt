@@ -1,22 +1,42 @@
 -- `are_characters` tests the CH records: those that are left decide, and `characters-turn` takes one off.
-use Rattle.font.proofs.WordLaws.{rest-of, pieces-done}
-use borrow.Author.Tests.{not-true, not-false}
-use Rattle.font.proofs.RecordLaws.{characters-turn, characters-done, pass, stop}
-use Rattle.font.specs.Answers.{soundCharacters, soundFront}
-use Rattle.font.specs.Table.{pieces}
-use lib.ListN.{drop}
+use mathlib.Core.Path.{_≡_, sym, ap, _∙_}
+use mathlib.Core.Bool.{Bool, _&&_}
+use mathlib.Core.List.{List}
+use Prim.Native.Nat.{ℕ, _≤_, _+_, _*_, _-_}
 use native.Mathlib.Nat.{sub-zero}
-use Prim.Native.Nat.{_≤_, _+_, _*_, _-_}
-use mathlib.Core.Path.{_≡_, sym, refl, ap, _∙_}
 use native.Mathlib.Omega.{arith}
-use Rattle.font.proofs.records.are_characters.Statement.{statement}
+use borrow.Author.Tests.{not-true, not-false}
+use lib.ListN.{drop}
+use Rattle.font.specs.Answers.{soundCharacters, soundFront}
+use Rattle.font.specs.Table.{characterBytes, pieces}
+use Rattle.font.proofs.WordLaws.{rest-of, pieces-done}
+use Rattle.font.proofs.RecordLaws.{characters-turn, characters-done, pass, stop}
 use Rattle.font.proofs.records.are_characters.Tie as tie
+use Rattle.font.proofs.records.are_characters.Statement.{statement}
+
+-- whether the records from one on are good and rise
+abbrev left : List ℕ → ℕ → ℕ → Bool
+left s n i = soundCharacters (pieces characterBytes (n - i) (drop (characterBytes * i) s))
 
 abbrev Inv-loop : tie.InvT-loop
-Inv-loop s n i₀ i = (i ≤ n) × (soundCharacters (pieces 23 n s) ≡ soundCharacters (pieces 23 (n - i) (drop (23 * i) s)))
+Inv-loop s n i₀ i = (i ≤ n) × (soundCharacters (pieces characterBytes n s) ≡ left s n i)
 
 abbrev μ-loop : tie.MeasureT-loop
 μ-loop s n i₀ i = n - i
+
+-- the record that was tested, and those that are left
+turn : (c : tie.After-is-front Inv-loop μ-loop) →
+    let at-loop = c .before .before .before in
+    let a = at-loop .before .before .args in
+    soundCharacters (pieces characterBytes (a .n) (a .s .now)) ≡ (c .is-front .result && left (a .s .now) (a .n) (at-loop .loop .i + 1))
+turn c =
+    let at-loop = c .before .before .before in
+    let start = at-loop .before .before in
+    let s = start .args .s .now in
+    let n = start .args .n in
+    let i = at-loop .loop .i in
+    let tested = c .is-front .ensures ∙ ap soundFront (rest-of (characterBytes * i) s) in
+    at-loop .loop .inv .1 ∙ characters-turn s n i (start .pre) (omega arith) ∙ ap (λ (b : Bool). b && left s n (i + 1)) (sym tested)
 
 loop-holds : tie.Need-loop-holds Inv-loop μ-loop
 loop-holds c = (omega arith, simp sub-zero)
@@ -37,12 +57,7 @@ is-front-requires : tie.Need-is-front-requires Inv-loop μ-loop
 is-front-requires c κs = omega (arith, c .is-front-arg .given .2)
 
 returns : tie.Need-returns Inv-loop μ-loop
-returns c =
-    let v = c .before .before .before .before .loop in
-    let a = c .before .before .before .before .before .before .args in
-    let s = a .s .now in
-    let bad = ap soundFront (sym (rest-of (23 * v .i) s)) ∙ sym (c .before .is-front .ensures) ∙ not-true _ (c .if1 .taken) in
-    sym (v .inv .1 ∙ characters-turn s (a .n) (v .i) (c .before .before .before .before .before .before .pre) (omega arith) ∙ stop _ _ bad)
+returns c = sym (turn (c .before) ∙ stop (c .before .is-front .result) _ (not-true _ (c .if1 .taken)))
 
 add-i : tie.Need-add-i Inv-loop μ-loop
 add-i c = omega arith
@@ -51,17 +66,12 @@ loop-less : tie.Need-loop-less Inv-loop μ-loop
 loop-less c = omega arith
 
 loop-again : tie.Need-loop-again Inv-loop μ-loop
-loop-again c =
-    let v = c .before .before .before .before .loop in
-    let a = c .before .before .before .before .before .before .args in
-    let s = a .s .now in
-    let good = ap soundFront (sym (rest-of (23 * v .i) s)) ∙ sym (c .before .is-front .ensures) ∙ not-false _ (c .if1 .left) in
-    (omega arith, v .inv .1 ∙ characters-turn s (a .n) (v .i) (c .before .before .before .before .before .before .pre) (omega arith) ∙ pass _ _ good)
+loop-again c = (omega arith, turn (c .before) ∙ pass (c .before .is-front .result) _ (not-false _ (c .if1 .left)))
 
 returns-2 : tie.Need-returns-2 Inv-loop μ-loop
 returns-2 c =
-    let left = c .before .before .before .args .n - c .before .loop .i in
-    sym (c .before .loop .inv .1 ∙ ap soundCharacters (pieces-done 23 _ left (omega arith)) ∙ characters-done)
+    let none-left = pieces-done characterBytes _ (c .before .before .before .args .n - c .before .loop .i) (omega arith) in
+    sym (c .before .loop .inv .1 ∙ ap soundCharacters none-left ∙ characters-done)
 
 pub are-characters-spec : {M : Type 1} → statement M
 are-characters-spec =

@@ -1,20 +1,38 @@
 -- `are_parameters` tests the three PA records: those that are left decide, and `parameters-turn` takes one off.
-use Rattle.font.proofs.WordLaws.{part-of, pieces-done}
-use borrow.Author.Tests.{not-true, not-false}
-use Rattle.font.proofs.RecordLaws.{parameters-turn, pass, stop}
-use Rattle.font.specs.Table.{parameterRecords, pieces, every, goodParameters}
-use lib.ListN.{drop}
-use Prim.Native.Nat.{_≤_, _+_, _*_, _-_}
 use mathlib.Core.Path.{_≡_, sym, refl, ap, _∙_}
+use mathlib.Core.Bool.{Bool, _&&_}
+use mathlib.Core.List.{List}
+use Prim.Native.Nat.{ℕ, _≤_, _+_, _*_, _-_}
 use native.Mathlib.Omega.{arith}
-use Rattle.font.proofs.records.are_parameters.Statement.{statement}
+use borrow.Author.Tests.{not-true, not-false}
+use lib.ListN.{drop}
+use Rattle.font.specs.Table.{parameterBytes, sizeCount, parameterRecords, pieces, every, goodParameters}
+use Rattle.font.proofs.WordLaws.{part-of, pieces-done}
+use Rattle.font.proofs.RecordLaws.{parameters-turn, pass, stop}
 use Rattle.font.proofs.records.are_parameters.Tie as tie
+use Rattle.font.proofs.records.are_parameters.Statement.{statement}
+
+-- whether the records from a size on are good
+abbrev left : List ℕ → ℕ → Bool
+left t size = every goodParameters (pieces parameterBytes (sizeCount - size) (drop (parameterBytes * size) t))
 
 abbrev Inv-loop : tie.InvT-loop
-Inv-loop table size₀ size = (size ≤ 3) × (every goodParameters (parameterRecords table) ≡ every goodParameters (pieces 142 (3 - size) (drop (142 * size) table)))
+Inv-loop table size₀ size = (size ≤ sizeCount) × (every goodParameters (parameterRecords table) ≡ left table size)
 
 abbrev μ-loop : tie.MeasureT-loop
-μ-loop table size₀ size = 3 - size
+μ-loop table size₀ size = sizeCount - size
+
+-- the record that was tested, and those that are left
+turn : (c : tie.After-is-parameters Inv-loop μ-loop) →
+    let at-loop = c .before .before .before in
+    let t = at-loop .before .before .args .table .now in
+    every goodParameters (parameterRecords t) ≡ (c .is-parameters .result && left t (at-loop .loop .size + 1))
+turn c =
+    let at-loop = c .before .before .before in
+    let t = at-loop .before .before .args .table .now in
+    let size = at-loop .loop .size in
+    let tested = c .is-parameters .ensures ∙ ap goodParameters (part-of (parameterBytes * size) parameterBytes t) in
+    at-loop .loop .inv .1 ∙ parameters-turn t size (omega arith) ∙ ap (λ (b : Bool). b && left t (size + 1)) (sym tested)
 
 loop-holds : tie.Need-loop-holds Inv-loop μ-loop
 unfolding parameterRecords
@@ -39,11 +57,7 @@ is-parameters-requires : tie.Need-is-parameters-requires Inv-loop μ-loop
 is-parameters-requires c κs = omega (arith, c .is-parameters-arg .given .2)
 
 returns : tie.Need-returns Inv-loop μ-loop
-returns c =
-    let v = c .before .before .before .before .loop in
-    let t = c .before .before .before .before .before .before .args .table .now in
-    let bad = ap goodParameters (sym (part-of (142 * v .size) 142 t)) ∙ sym (c .before .is-parameters .ensures) ∙ not-true _ (c .if1 .taken) in
-    sym (v .inv .1 ∙ parameters-turn t (v .size) (omega arith) ∙ stop _ _ bad)
+returns c = sym (turn (c .before) ∙ stop (c .before .is-parameters .result) _ (not-true _ (c .if1 .taken)))
 
 add-size : tie.Need-add-size Inv-loop μ-loop
 add-size c = omega arith
@@ -52,15 +66,13 @@ loop-less : tie.Need-loop-less Inv-loop μ-loop
 loop-less c = omega arith
 
 loop-again : tie.Need-loop-again Inv-loop μ-loop
-loop-again c =
-    let v = c .before .before .before .before .loop in
-    let t = c .before .before .before .before .before .before .args .table .now in
-    let good = ap goodParameters (sym (part-of (142 * v .size) 142 t)) ∙ sym (c .before .is-parameters .ensures) ∙ not-false _ (c .if1 .left) in
-    (omega arith, v .inv .1 ∙ parameters-turn t (v .size) (omega arith) ∙ pass _ _ good)
+loop-again c = (omega arith, turn (c .before) ∙ pass (c .before .is-parameters .result) _ (not-false _ (c .if1 .left)))
 
 returns-2 : tie.Need-returns-2 Inv-loop μ-loop
 unfolding every
-returns-2 c = sym (c .before .loop .inv .1 ∙ ap (every goodParameters) (pieces-done 142 _ (3 - c .before .loop .size) (omega arith)))
+returns-2 c =
+    let none-left = pieces-done parameterBytes _ (sizeCount - c .before .loop .size) (omega arith) in
+    sym (c .before .loop .inv .1 ∙ ap (every goodParameters) none-left)
 
 pub are-parameters-spec : {M : Type 1} → statement M
 are-parameters-spec =

@@ -1,11 +1,11 @@
 -- `is_front` tests the first record, then its order with the second if there is one.
-use Rattle.font.proofs.RecordLaws.{front-bad, front-last, front-more}
-use borrow.Author.Tests.{not-true, not-false}
 use mathlib.Core.Path.{sym, _∙_}
 use native.Mathlib.Omega.{arith}
+use borrow.Author.Tests.{not-true, not-false}
 use borrow.Author.Needs.{needs}
-use Rattle.font.proofs.records.is_front.Statement.{statement}
+use Rattle.font.proofs.RecordLaws.{front-bad, front-last, front-more}
 use Rattle.font.proofs.records.is_front.Tie as tie
+use Rattle.font.proofs.records.is_front.Statement.{statement}
 
 sub-is-character : tie.Need-sub-is-character
 sub-is-character c = search needs
@@ -23,7 +23,10 @@ returns : tie.Need-returns
 returns c = sym (front-bad _ (sym (c .before .is-character .ensures) ∙ not-true _ (c .if1 .taken)))
 
 returns-2 : tie.Need-returns-2
-returns-2 c = sym (front-last _ (sym (c .before .before .is-character .ensures) ∙ not-false _ (c .before .if1 .left)) (c .if2 .taken))
+returns-2 c =
+    let past-first = c .before in
+    let first = sym (past-first .before .is-character .ensures) ∙ not-false _ (past-first .if1 .left) in
+    sym (front-last _ first (c .if2 .taken))
 
 sub-is-before : tie.Need-sub-is-before
 sub-is-before c = search needs
@@ -47,7 +50,11 @@ is-before-requires : tie.Need-is-before-requires
 is-before-requires c κs = (omega (arith, c .before .is-before-arg .given .2), omega (arith, c .is-before-arg2 .given .2))
 
 returns-3 : tie.Need-returns-3
-returns-3 c = c .is-before .ensures ∙ sym (front-more _ (sym (c .before .before .before .before .before .is-character .ensures) ∙ not-false _ (c .before .before .before .before .if1 .left)) (c .before .before .before .if2 .left))
+returns-3 c =
+    let past-length = c .before .before .before in
+    let past-first = past-length .before in
+    let first = sym (past-first .before .is-character .ensures) ∙ not-false _ (past-first .if1 .left) in
+    c .is-before .ensures ∙ sym (front-more _ first (past-length .if2 .left))
 
 pub is-front-spec : {M : Type 1} → statement M
 is-front-spec =

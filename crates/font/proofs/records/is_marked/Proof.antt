@@ -1,9 +1,9 @@
 -- `is_marked` tests the two letters in turn.
-use Rattle.font.specs.Table.{marked}
 use borrow.Author.Tests.{eq-eqb, ne-eqb}
 use borrow.Author.Needs.{needs}
-use Rattle.font.proofs.records.is_marked.Statement.{statement}
+use Rattle.font.specs.Table.{marked}
 use Rattle.font.proofs.records.is_marked.Tie as tie
+use Rattle.font.proofs.records.is_marked.Statement.{statement}
 
 shared-slice-read-if1 : tie.Need-shared-slice-read-if1
 shared-slice-read-if1 c = search needs

@@ -1,11 +1,11 @@
 -- `is_parameters` tests the mark, then the words.
-use borrow.Author.Tests.{not-true, not-false}
-use Rattle.font.proofs.RecordLaws.{pass, stop}
-use Rattle.font.specs.Table.{goodParameters, parameterWords, marked, every, goodWord}
 use mathlib.Core.Path.{sym, _∙_}
+use borrow.Author.Tests.{not-true, not-false}
 use borrow.Author.Needs.{needs}
-use Rattle.font.proofs.records.is_parameters.Statement.{statement}
+use Rattle.font.specs.Table.{goodParameters, parameterWords}
+use Rattle.font.proofs.RecordLaws.{pass, stop}
 use Rattle.font.proofs.records.is_parameters.Tie as tie
+use Rattle.font.proofs.records.is_parameters.Statement.{statement}
 
 is-marked-requires : tie.Need-is-marked-requires
 is-marked-requires c κs = search needs

@@ -1,8 +1,8 @@
 -- `is_successor` tests the flag for 1, then for 0.
-use Rattle.font.proofs.RecordLaws.{flag-one, flag-zero, flag-more}
 use mathlib.Core.Path.{sym}
-use Rattle.font.proofs.records.is_successor.Statement.{statement}
+use Rattle.font.proofs.RecordLaws.{flag-one, flag-zero, flag-more}
 use Rattle.font.proofs.records.is_successor.Tie as tie
+use Rattle.font.proofs.records.is_successor.Statement.{statement}
 
 returns : tie.Need-returns
 returns c = sym (flag-one _ (c .before .args .code) (c .if1 .taken))

@@ -1,10 +1,10 @@
 -- `byte` reads a byte of the list, or what `getD` gives past its end.
-use lib.ListN.{List·getD-eq-default}
 use mathlib.Core.Path.{sym, refl}
 use native.Mathlib.Omega.{arith}
 use borrow.Author.Needs.{needs}
-use Rattle.font.proofs.words.byte.Statement.{statement}
+use lib.ListN.{List·getD-eq-default}
 use Rattle.font.proofs.words.byte.Tie as tie
+use Rattle.font.proofs.words.byte.Statement.{statement}
 
 shared-slice-read-result : tie.Need-shared-slice-read-result
 shared-slice-read-result c = search needs

@@ -1,9 +1,9 @@
 -- `word` adds up four bytes as `littleEndian` does: `word-at`.
-use Rattle.font.proofs.WordLaws.{word-at}
 use native.Mathlib.Omega.{arith}
 use borrow.Author.Needs.{needs}
-use Rattle.font.proofs.words.word.Statement.{statement}
+use Rattle.font.proofs.WordLaws.{word-at}
 use Rattle.font.proofs.words.word.Tie as tie
+use Rattle.font.proofs.words.word.Statement.{statement}
 
 byte-requires : tie.Need-byte-requires
 byte-requires c κs = search needs
