@@ -1,2 +1,3 @@
 mod WordLaws
-mod RecordLaws
+mod CheckLaws
+mod LookupLaws

@@ -4,9 +4,6 @@ mod format;
 mod records;
 mod words;
 
-use format::CHARACTER_BYTES;
-use format::HEADER_BYTES;
-use format::MOST_CHARACTERS;
 ghost use mathlib.Core.Path.{_≡_};
 ghost use Prim.Native.Nat.{ℕ, _<_, _≤_};
 ghost use lib.ListN.{length, getD};
@@ -20,6 +17,7 @@ pub enum Successor {
     Code(u8),
 }
 
+// What a table says of a symbol.
 pub struct Metrics {
     pub width: u32,
     pub height: u32,
@@ -28,6 +26,7 @@ pub struct Metrics {
     pub successor: Successor,
 }
 
+// What a lookup comes to.
 pub enum Found {
     Symbol(Metrics),
     Absent,
@@ -37,23 +36,23 @@ pub enum Found {
 pub fn is_good(table: &[u8]) -> bool
     ensures { λ answer. ⌜ answer ≡ goodTable (now (table .entry)) ⌝ }
 {
-    if table.len() < HEADER_BYTES {
+    if table.len() < format::HEADER_BYTES {
         return false;
     }
-    let n = (table.len() - HEADER_BYTES) / CHARACTER_BYTES;
-    if table.len() != HEADER_BYTES + CHARACTER_BYTES * n {
+    let n = (table.len() - format::HEADER_BYTES) / format::CHARACTER_BYTES;
+    if table.len() != format::HEADER_BYTES + format::CHARACTER_BYTES * n {
         return false;
     }
-    if MOST_CHARACTERS < n {
+    if format::MOST_CHARACTERS < n {
         return false;
     }
     if !records::are_parameters(table) {
         return false;
     }
-    records::are_characters(&table[HEADER_BYTES..], n)
+    records::are_characters(&table[format::HEADER_BYTES..], n)
 }
 
-// The parameters of the three sizes.
+// The parameters of the three sizes; a byte past the end of the table counts as 0.
 pub fn parameters(table: &[u8]) -> [[u32; 35]; 3]
     ensures { λ answer. ⌜ HoldsParameters answer (now (table .entry)) ⌝ }
 {
@@ -82,12 +81,12 @@ fn row(table: &[u8], size: usize) -> [u32; 35]
 pub fn symbol(table: &[u8], size: u8, family: u8, code: u8) -> Found
     ensures { λ answer. ⌜ foundAs answer ≡ fontOf (now (table .entry)) .symbol size family code ⌝ }
 {
-    if table.len() < HEADER_BYTES {
+    if table.len() < format::HEADER_BYTES {
         return Found::Absent;
     }
-    let mut at = HEADER_BYTES;
-    while CHARACTER_BYTES <= table.len() - at {
-        let next = at + CHARACTER_BYTES;
+    let mut at = format::HEADER_BYTES;
+    while format::CHARACTER_BYTES <= table.len() - at {
+        let next = at + format::CHARACTER_BYTES;
         if is_of(&table[at..next], size, family, code) {
             return Found::Symbol(metrics_of(&table[at..next]));
         }
@@ -110,7 +109,7 @@ fn is_of(r: &[u8], size: u8, family: u8, code: u8) -> bool
     r[format::CODE] == code
 }
 
-// What a record says of its symbol.
+// The metrics in a record.
 fn metrics_of(r: &[u8]) -> Metrics
     requires { ⌜ characterBytes ≤ length (now r) ⌝ }
     ensures { λ answer. ⌜ metricsAs answer ≡ metricsOf (now (r .entry)) ⌝ }
@@ -124,6 +123,7 @@ fn metrics_of(r: &[u8]) -> Metrics
     }
 }
 
+// The successor of a record's symbol, if its flag is set.
 fn successor_of(r: &[u8]) -> Successor
     requires { ⌜ characterBytes ≤ length (now r) ⌝ }
     ensures { λ answer. ⌜ successorAs answer ≡ successorOf (now (r .entry)) ⌝ }

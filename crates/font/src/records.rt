@@ -37,7 +37,7 @@ fn is_parameters(r: &[u8]) -> bool
     words::are_small(r, format::FIRST_PARAMETER, format::PARAMETER_COUNT)
 }
 
-// n CH records that rise strictly.
+// n CH records, good and rising strictly.
 pub fn are_characters(s: &[u8], n: usize) -> bool
     requires { ⌜ length (now s) ≡ characterBytes * n ⌝ }
     ensures { λ answer. ⌜ answer ≡ soundCharacters (pieces characterBytes n (now (s .entry))) ⌝ }
@@ -53,7 +53,7 @@ pub fn are_characters(s: &[u8], n: usize) -> bool
     true
 }
 
-// The first record of some is good and stands before the second, if there is one.
+// The first record of s is good, and stands before the second if there is one.
 fn is_front(s: &[u8]) -> bool
     requires { ⌜ characterBytes ≤ length (now s) ⌝ }
     ensures { λ answer. ⌜ answer ≡ soundFront (now (s .entry)) ⌝ }
@@ -103,6 +103,7 @@ fn is_successor(flag: u8, code: u8) -> bool
     false
 }
 
+// A record opens with the mark of the two letters a and b.
 fn is_marked(r: &[u8], a: u8, b: u8) -> bool
     requires { ⌜ markBytes ≤ length (now r) ⌝ }
     ensures { λ answer. ⌜ answer ≡ marked a b (now (r .entry)) ⌝ }

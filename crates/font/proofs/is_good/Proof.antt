@@ -7,7 +7,7 @@ use borrow.Author.Needs.{needs}
 use Rattle.font.specs.Answers.{soundCharacters}
 use Rattle.font.specs.Table.{headerBytes, characterBytes, pieces, characterRecords, characterCount}
 use Rattle.font.proofs.WordLaws.{rest-of}
-use Rattle.font.proofs.RecordLaws.{good-table, length-short, length-broken, length-great, length-good, pass, stop}
+use Rattle.font.proofs.CheckLaws.{good-table, length-short, length-broken, length-great, length-good, pass, stop}
 use Rattle.font.proofs.is_good.Tie as tie
 use Rattle.font.proofs.is_good.Statement.{statement}
 

@@ -1,7 +1,7 @@
 -- `is_of` tests the three bytes in turn.
 use mathlib.Core.Path.{sym}
 use borrow.Author.Needs.{needs}
-use Rattle.font.proofs.RecordLaws.{is-of-size, is-of-family, is-of-code}
+use Rattle.font.proofs.LookupLaws.{is-of-size, is-of-family, is-of-code}
 use Rattle.font.proofs.is_of.Tie as tie
 use Rattle.font.proofs.is_of.Statement.{statement}
 

@@ -7,7 +7,7 @@ use lib.ListN.{length, take, drop}
 use Rattle.font.specs.Table.{headerBytes, characterBytes}
 use Rattle.font.specs.Font.{fontOf, lookup, isOf, metricsOf}
 use Rattle.font.proofs.WordLaws.{part-of}
-use Rattle.font.proofs.RecordLaws.{recordsFrom, lookup-start, lookup-hit, lookup-miss, lookup-done}
+use Rattle.font.proofs.LookupLaws.{recordsFrom, lookup-start, lookup-hit, lookup-miss, lookup-done}
 use Rattle.font.proofs.symbol.Tie as tie
 use Rattle.font.proofs.symbol.Statement.{statement}
 

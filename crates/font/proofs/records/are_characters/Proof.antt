@@ -1,25 +1,19 @@
 -- `are_characters` tests the CH records: those that are left decide, and `characters-turn` takes one off.
 use mathlib.Core.Path.{_≡_, sym, ap, _∙_}
 use mathlib.Core.Bool.{Bool, _&&_}
-use mathlib.Core.List.{List}
-use Prim.Native.Nat.{ℕ, _≤_, _+_, _*_, _-_}
+use Prim.Native.Nat.{_≤_, _+_, _*_, _-_}
 use native.Mathlib.Nat.{sub-zero}
 use native.Mathlib.Omega.{arith}
 use borrow.Author.Tests.{not-true, not-false}
-use lib.ListN.{drop}
 use Rattle.font.specs.Answers.{soundCharacters, soundFront}
 use Rattle.font.specs.Table.{characterBytes, pieces}
-use Rattle.font.proofs.WordLaws.{rest-of, pieces-done}
-use Rattle.font.proofs.RecordLaws.{characters-turn, characters-done, pass, stop}
+use Rattle.font.proofs.WordLaws.{rest-of}
+use Rattle.font.proofs.CheckLaws.{charactersFrom, characters-turn, characters-done, pass, stop}
 use Rattle.font.proofs.records.are_characters.Tie as tie
 use Rattle.font.proofs.records.are_characters.Statement.{statement}
 
--- whether the records from one on are good and rise
-abbrev left : List ℕ → ℕ → ℕ → Bool
-left s n i = soundCharacters (pieces characterBytes (n - i) (drop (characterBytes * i) s))
-
 abbrev Inv-loop : tie.InvT-loop
-Inv-loop s n i₀ i = (i ≤ n) × (soundCharacters (pieces characterBytes n s) ≡ left s n i)
+Inv-loop s n i₀ i = (i ≤ n) × (soundCharacters (pieces characterBytes n s) ≡ charactersFrom s n i)
 
 abbrev μ-loop : tie.MeasureT-loop
 μ-loop s n i₀ i = n - i
@@ -28,7 +22,7 @@ abbrev μ-loop : tie.MeasureT-loop
 turn : (c : tie.After-is-front Inv-loop μ-loop) →
     let at-loop = c .before .before .before in
     let a = at-loop .before .before .args in
-    soundCharacters (pieces characterBytes (a .n) (a .s .now)) ≡ (c .is-front .result && left (a .s .now) (a .n) (at-loop .loop .i + 1))
+    soundCharacters (pieces characterBytes (a .n) (a .s .now)) ≡ (c .is-front .result && charactersFrom (a .s .now) (a .n) (at-loop .loop .i + 1))
 turn c =
     let at-loop = c .before .before .before in
     let start = at-loop .before .before in
@@ -36,7 +30,7 @@ turn c =
     let n = start .args .n in
     let i = at-loop .loop .i in
     let tested = c .is-front .ensures ∙ ap soundFront (rest-of (characterBytes * i) s) in
-    at-loop .loop .inv .1 ∙ characters-turn s n i (start .pre) (omega arith) ∙ ap (λ (b : Bool). b && left s n (i + 1)) (sym tested)
+    at-loop .loop .inv .1 ∙ characters-turn s n i (start .pre) (omega arith) ∙ ap (λ (b : Bool). b && charactersFrom s n (i + 1)) (sym tested)
 
 loop-holds : tie.Need-loop-holds Inv-loop μ-loop
 loop-holds c = (omega arith, simp sub-zero)
@@ -70,8 +64,8 @@ loop-again c = (omega arith, turn (c .before) ∙ pass (c .before .is-front .res
 
 returns-2 : tie.Need-returns-2 Inv-loop μ-loop
 returns-2 c =
-    let none-left = pieces-done characterBytes _ (c .before .before .before .args .n - c .before .loop .i) (omega arith) in
-    sym (c .before .loop .inv .1 ∙ ap soundCharacters none-left ∙ characters-done)
+    let a = c .before .before .before .args in
+    sym (c .before .loop .inv .1 ∙ characters-done (a .s .now) (a .n) (c .before .loop .i) (c .loop-test .left))
 
 pub are-characters-spec : {M : Type 1} → statement M
 are-characters-spec =

@@ -1,23 +1,17 @@
 -- `are_parameters` tests the three PA records: those that are left decide, and `parameters-turn` takes one off.
 use mathlib.Core.Path.{_≡_, sym, refl, ap, _∙_}
 use mathlib.Core.Bool.{Bool, _&&_}
-use mathlib.Core.List.{List}
-use Prim.Native.Nat.{ℕ, _≤_, _+_, _*_, _-_}
+use Prim.Native.Nat.{_≤_, _+_, _*_, _-_}
 use native.Mathlib.Omega.{arith}
 use borrow.Author.Tests.{not-true, not-false}
-use lib.ListN.{drop}
-use Rattle.font.specs.Table.{parameterBytes, sizeCount, parameterRecords, pieces, every, goodParameters}
-use Rattle.font.proofs.WordLaws.{part-of, pieces-done}
-use Rattle.font.proofs.RecordLaws.{parameters-turn, pass, stop}
+use Rattle.font.specs.Table.{parameterBytes, sizeCount, parameterRecords, every, goodParameters}
+use Rattle.font.proofs.WordLaws.{part-of}
+use Rattle.font.proofs.CheckLaws.{parametersFrom, parameters-turn, parameters-done, pass, stop}
 use Rattle.font.proofs.records.are_parameters.Tie as tie
 use Rattle.font.proofs.records.are_parameters.Statement.{statement}
 
--- whether the records from a size on are good
-abbrev left : List ℕ → ℕ → Bool
-left t size = every goodParameters (pieces parameterBytes (sizeCount - size) (drop (parameterBytes * size) t))
-
 abbrev Inv-loop : tie.InvT-loop
-Inv-loop table size₀ size = (size ≤ sizeCount) × (every goodParameters (parameterRecords table) ≡ left table size)
+Inv-loop table size₀ size = (size ≤ sizeCount) × (every goodParameters (parameterRecords table) ≡ parametersFrom table size)
 
 abbrev μ-loop : tie.MeasureT-loop
 μ-loop table size₀ size = sizeCount - size
@@ -26,13 +20,13 @@ abbrev μ-loop : tie.MeasureT-loop
 turn : (c : tie.After-is-parameters Inv-loop μ-loop) →
     let at-loop = c .before .before .before in
     let t = at-loop .before .before .args .table .now in
-    every goodParameters (parameterRecords t) ≡ (c .is-parameters .result && left t (at-loop .loop .size + 1))
+    every goodParameters (parameterRecords t) ≡ (c .is-parameters .result && parametersFrom t (at-loop .loop .size + 1))
 turn c =
     let at-loop = c .before .before .before in
     let t = at-loop .before .before .args .table .now in
     let size = at-loop .loop .size in
     let tested = c .is-parameters .ensures ∙ ap goodParameters (part-of (parameterBytes * size) parameterBytes t) in
-    at-loop .loop .inv .1 ∙ parameters-turn t size (omega arith) ∙ ap (λ (b : Bool). b && left t (size + 1)) (sym tested)
+    at-loop .loop .inv .1 ∙ parameters-turn t size (omega arith) ∙ ap (λ (b : Bool). b && parametersFrom t (size + 1)) (sym tested)
 
 loop-holds : tie.Need-loop-holds Inv-loop μ-loop
 unfolding parameterRecords
@@ -69,10 +63,7 @@ loop-again : tie.Need-loop-again Inv-loop μ-loop
 loop-again c = (omega arith, turn (c .before) ∙ pass (c .before .is-parameters .result) _ (not-false _ (c .if1 .left)))
 
 returns-2 : tie.Need-returns-2 Inv-loop μ-loop
-unfolding every
-returns-2 c =
-    let none-left = pieces-done parameterBytes _ (sizeCount - c .before .loop .size) (omega arith) in
-    sym (c .before .loop .inv .1 ∙ ap (every goodParameters) none-left)
+returns-2 c = sym (c .before .loop .inv .1 ∙ parameters-done (c .before .before .before .args .table .now) (c .before .loop .size) (c .loop-test .left))
 
 pub are-parameters-spec : {M : Type 1} → statement M
 are-parameters-spec =

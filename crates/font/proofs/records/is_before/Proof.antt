@@ -1,7 +1,7 @@
 -- `is_before` goes by the first byte that differs.
 use mathlib.Core.Path.{sym}
 use borrow.Author.Needs.{needs}
-use Rattle.font.proofs.RecordLaws.{before-size, before-family, before-code}
+use Rattle.font.proofs.CheckLaws.{before-size, before-family, before-code}
 use Rattle.font.proofs.records.is_before.Tie as tie
 use Rattle.font.proofs.records.is_before.Statement.{statement}
 

@@ -3,7 +3,7 @@ use mathlib.Core.Path.{sym, _∙_}
 use borrow.Author.Tests.{not-true, not-false, le-leb, lt-leb}
 use borrow.Author.Needs.{needs}
 use Rattle.font.specs.Table.{metricWords}
-use Rattle.font.proofs.RecordLaws.{good-character, pass, stop}
+use Rattle.font.proofs.CheckLaws.{good-character, pass, stop}
 use Rattle.font.proofs.records.is_character.Tie as tie
 use Rattle.font.proofs.records.is_character.Statement.{statement}
 

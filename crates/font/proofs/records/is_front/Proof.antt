@@ -3,7 +3,7 @@ use mathlib.Core.Path.{sym, _∙_}
 use native.Mathlib.Omega.{arith}
 use borrow.Author.Tests.{not-true, not-false}
 use borrow.Author.Needs.{needs}
-use Rattle.font.proofs.RecordLaws.{front-bad, front-last, front-more}
+use Rattle.font.proofs.CheckLaws.{front-bad, front-last, front-more}
 use Rattle.font.proofs.records.is_front.Tie as tie
 use Rattle.font.proofs.records.is_front.Statement.{statement}
 

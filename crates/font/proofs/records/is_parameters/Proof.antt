@@ -3,7 +3,7 @@ use mathlib.Core.Path.{sym, _∙_}
 use borrow.Author.Tests.{not-true, not-false}
 use borrow.Author.Needs.{needs}
 use Rattle.font.specs.Table.{goodParameters, parameterWords}
-use Rattle.font.proofs.RecordLaws.{pass, stop}
+use Rattle.font.proofs.CheckLaws.{pass, stop}
 use Rattle.font.proofs.records.is_parameters.Tie as tie
 use Rattle.font.proofs.records.is_parameters.Statement.{statement}
 

@@ -1,6 +1,6 @@
 -- `is_successor` tests the flag for 1, then for 0.
 use mathlib.Core.Path.{sym}
-use Rattle.font.proofs.RecordLaws.{flag-one, flag-zero, flag-more}
+use Rattle.font.proofs.CheckLaws.{flag-one, flag-zero, flag-more}
 use Rattle.font.proofs.records.is_successor.Tie as tie
 use Rattle.font.proofs.records.is_successor.Statement.{statement}
 
