@@ -11,9 +11,9 @@ use mathlib.Core.Option.{Option, none, some}
 use Prim.Native.Nat.{ℕ, _+_, _<_}
 use lib.Dec.{ltb}
 use lib.ListN.{length, getD, take, drop}
+use Rattle.font.specs.declared.Metrics as declared
 use Rattle.font.specs.declared.Successor.{Successor}
 use Rattle.font.specs.declared.Successor.the-variants.{Nothing, Code}
-use Rattle.font.specs.declared.Metrics as declared
 use Rattle.font.specs.declared.Found.{Found}
 use Rattle.font.specs.declared.Found.the-variants.{Symbol, Absent}
 use Rattle.font.specs.Table.{sizeCount, parameterCount, characterBytes, every, goodCharacter, before, rising}
@@ -41,14 +41,16 @@ foundAs Absent = none
 
 -- ---- the parameters
 
--- the numbers of r are the parameters of one size
+-- the numbers of r are the parameters of one size, of the font of t
 pub record HoldsRow (r : List ℕ) (t : List ℕ) (size : ℕ) : Type 0 where
   pub held : (number : ℕ) → number < parameterCount → getD r number 0 ≡ fontOf t .parameter size number
 
+-- the rows of r are those of the three sizes
 pub record HoldsParameters (r : List (List ℕ)) (t : List ℕ) : Type 0 where
-  pub held : (size number : ℕ) → size < sizeCount → number < parameterCount → getD (getD r size []) number 0 ≡ fontOf t .parameter size number
+  pub held : (size number : ℕ) → size < sizeCount → number < parameterCount →
+      getD (getD r size []) number 0 ≡ fontOf t .parameter size number
 
--- ---- the CH records
+-- ---- the CH records, as the check goes through them
 
 unfoldable pub soundCharacters : List (List ℕ) → Bool
 soundCharacters l = every goodCharacter l && rising l

@@ -1,3 +1,4 @@
 pub mod Table
 pub mod Font
 pub mod Answers
+pub mod FontLaws

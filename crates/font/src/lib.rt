@@ -1,12 +1,13 @@
 // The font table: its bytes, its parameters and its characters. What a good table is, and the font that it holds,
 // is defined in specs/Table.antt and specs/Font.antt; what these functions answer, in specs/Answers.antt.
+mod format;
 mod records;
 mod words;
 
 ghost use mathlib.Core.Path.{_≡_};
 ghost use Prim.Native.Nat.{ℕ, _<_, _≤_};
 ghost use lib.ListN.{length, getD};
-ghost use Rattle.font.specs.Table.{goodTable};
+ghost use Rattle.font.specs.Table.{sizeCount, characterBytes, goodTable};
 ghost use Rattle.font.specs.Font.{fontOf, isOf, metricsOf, successorOf};
 ghost use Rattle.font.specs.Answers.{foundAs, metricsAs, successorAs, HoldsRow, HoldsParameters};
 
@@ -16,6 +17,7 @@ pub enum Successor {
     Code(u8),
 }
 
+// What a table says of a symbol.
 pub struct Metrics {
     pub width: u32,
     pub height: u32,
@@ -24,6 +26,7 @@ pub struct Metrics {
     pub successor: Successor,
 }
 
+// What a lookup comes to.
 pub enum Found {
     Symbol(Metrics),
     Absent,
@@ -33,23 +36,23 @@ pub enum Found {
 pub fn is_good(table: &[u8]) -> bool
     ensures { λ answer. ⌜ answer ≡ goodTable (now (table .entry)) ⌝ }
 {
-    if table.len() < 426 {
+    if table.len() < format::HEADER_BYTES {
         return false;
     }
-    let n = (table.len() - 426) / 23;
-    if table.len() != 426 + 23 * n {
+    let n = (table.len() - format::HEADER_BYTES) / format::CHARACTER_BYTES;
+    if table.len() != format::HEADER_BYTES + format::CHARACTER_BYTES * n {
         return false;
     }
-    if 2048 < n {
+    if format::MOST_CHARACTERS < n {
         return false;
     }
     if !records::are_parameters(table) {
         return false;
     }
-    records::are_characters(&table[426..], n)
+    records::are_characters(&table[format::HEADER_BYTES..], n)
 }
 
-// The parameters of the three sizes.
+// The parameters of the three sizes; a byte past the end of the table counts as 0.
 pub fn parameters(table: &[u8]) -> [[u32; 35]; 3]
     ensures { λ answer. ⌜ HoldsParameters answer (now (table .entry)) ⌝ }
 {
@@ -61,14 +64,14 @@ pub fn parameters(table: &[u8]) -> [[u32; 35]; 3]
 
 // The parameters of one size.
 fn row(table: &[u8], size: usize) -> [u32; 35]
-    requires { ⌜ size < 3 ⌝ }
+    requires { ⌜ size < sizeCount ⌝ }
     ensures { λ answer. ⌜ HoldsRow answer (now (table .entry)) size ⌝ }
 {
-    let start = 142 * size + 2;
+    let start = format::PARAMETER_BYTES * size + format::FIRST_PARAMETER;
     let mut words = [0u32; 35];
     let mut number = 0;
-    while number < 35 {
-        words[number] = words::word(table, start + 4 * number);
+    while number < format::PARAMETER_COUNT {
+        words[number] = words::word(table, start + format::WORD_BYTES * number);
         number += 1;
     }
     words
@@ -78,12 +81,12 @@ fn row(table: &[u8], size: usize) -> [u32; 35]
 pub fn symbol(table: &[u8], size: u8, family: u8, code: u8) -> Found
     ensures { λ answer. ⌜ foundAs answer ≡ fontOf (now (table .entry)) .symbol size family code ⌝ }
 {
-    if table.len() < 426 {
+    if table.len() < format::HEADER_BYTES {
         return Found::Absent;
     }
-    let mut at: usize = 426;
-    while 23 <= table.len() - at {
-        let next = at + 23;
+    let mut at = format::HEADER_BYTES;
+    while format::CHARACTER_BYTES <= table.len() - at {
+        let next = at + format::CHARACTER_BYTES;
         if is_of(&table[at..next], size, family, code) {
             return Found::Symbol(metrics_of(&table[at..next]));
         }
@@ -94,38 +97,39 @@ pub fn symbol(table: &[u8], size: u8, family: u8, code: u8) -> Found
 
 // Whether a record is that of this size, family and code.
 fn is_of(r: &[u8], size: u8, family: u8, code: u8) -> bool
-    requires { ⌜ 23 ≤ length (now r) ⌝ }
+    requires { ⌜ characterBytes ≤ length (now r) ⌝ }
     ensures { λ answer. ⌜ answer ≡ isOf size family code (now (r .entry)) ⌝ }
 {
-    if r[2] != size {
+    if r[format::SIZE] != size {
         return false;
     }
-    if r[3] != family {
+    if r[format::FAMILY] != family {
         return false;
     }
-    r[4] == code
+    r[format::CODE] == code
 }
 
-// What a record says of its symbol.
+// The metrics in a record.
 fn metrics_of(r: &[u8]) -> Metrics
-    requires { ⌜ 23 ≤ length (now r) ⌝ }
+    requires { ⌜ characterBytes ≤ length (now r) ⌝ }
     ensures { λ answer. ⌜ metricsAs answer ≡ metricsOf (now (r .entry)) ⌝ }
 {
     Metrics {
-        width: words::word(r, 7),
-        height: words::word(r, 11),
-        depth: words::word(r, 15),
-        italic: words::word(r, 19),
+        width: words::word(r, format::WIDTH),
+        height: words::word(r, format::HEIGHT),
+        depth: words::word(r, format::DEPTH),
+        italic: words::word(r, format::ITALIC),
         successor: successor_of(r),
     }
 }
 
+// The successor of a record's symbol, if its flag is set.
 fn successor_of(r: &[u8]) -> Successor
-    requires { ⌜ 23 ≤ length (now r) ⌝ }
+    requires { ⌜ characterBytes ≤ length (now r) ⌝ }
     ensures { λ answer. ⌜ successorAs answer ≡ successorOf (now (r .entry)) ⌝ }
 {
-    if r[5] == 1 {
-        Successor::Code(r[6])
+    if r[format::FLAG] == 1 {
+        Successor::Code(r[format::SUCCESSOR])
     } else {
         Successor::Nothing
     }

@@ -1,4 +1,5 @@
 // Four-byte words, the least significant byte first.
+use crate::format;
 ghost use mathlib.Core.Path.{_≡_};
 ghost use Prim.Native.Nat.{_+_, _*_, _^_, _<_, _≤_};
 ghost use lib.ListN.{length, getD, drop};
@@ -22,12 +23,12 @@ pub fn word(s: &[u8], at: usize) -> u32
 
 // Whether none of n words from a place on is too great.
 pub fn are_small(s: &[u8], at: usize, n: usize) -> bool
-    requires { ⌜ at + 4 * n ≤ length (now s) ⌝ }
+    requires { ⌜ at + wordBytes * n ≤ length (now s) ⌝ }
     ensures { λ answer. ⌜ answer ≡ every goodWord (words n (drop at (now (s .entry)))) ⌝ }
 {
     let mut k = 0;
     while k < n {
-        if 8_388_607 < word(s, at + 4 * k) {
+        if format::GREATEST_WORD < word(s, at + format::WORD_BYTES * k) {
             return false;
         }
         k += 1;
