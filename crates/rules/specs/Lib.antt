@@ -9,3 +9,4 @@ pub mod Scripts
 pub mod Fractions
 pub mod Arrange
 pub mod Values
+pub mod Bounds
