@@ -3,7 +3,7 @@
 --     SizeWithin k       a size of at most two words in width, and k in height and depth; the size of a field is `Moderate`
 --     ModerateShape, ModerateScript     a field, a script: what is asked of a list alone
 --     ModerateNucleus    a nucleus
---     PlaceWithin, ShiftsWithin, LineWithin     places, shifts and lines within so many words
+--     PlaceWithin, ShiftsWithin, DistancesWithin, LineWithin     places, shifts, distances and lines within so many words
 --     Bounded            an item
 -- Assumes nothing.
 use Prim.Native.Nat.{ℕ, _*_, _^_}
@@ -20,6 +20,7 @@ use Rattle.rules.specs.declared.boxes.Line.the-variants.{Unruled, Ruled}
 use Rattle.rules.specs.declared.boxes.Rule.{Rule}
 use Rattle.rules.specs.declared.boxes.Arranged.{Arranged}
 use Rattle.rules.specs.declared.nucleus.Nucleus.{Nucleus}
+use Rattle.rules.specs.declared.limits.Distances.{Distances}
 
 abbrev pub words : ℕ → ℕ
 words k = k * 2 ^ 32
@@ -49,6 +50,10 @@ pub record PlaceWithin (k : ℕ) (p : Place) : Type 0 where
 pub record ShiftsWithin (k : ℕ) (t : Shifts) : Type 0 where
   pub up : Within (words k) (t .up .0)
   pub down : Within (words k) (t .down .0)
+
+pub record DistancesWithin (k : ℕ) (d : Distances) : Type 0 where
+  pub shift : Within (words k) (d .shift .0)
+  pub reach : Within (words k) (d .reach .0)
 
 pub record RuleWithin (k : ℕ) (r : Rule) : Type 0 where
   pub place : PlaceWithin k (r .place)

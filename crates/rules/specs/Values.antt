@@ -25,10 +25,12 @@ use Rattle.rules.specs.declared.boxes.Line.{Line}
 use Rattle.rules.specs.declared.boxes.Line.the-variants.{Unruled, Ruled}
 use Rattle.rules.specs.declared.boxes.Arranged.{Arranged}
 use Rattle.rules.specs.declared.nucleus.Nucleus.{Nucleus}
+use Rattle.rules.specs.declared.limits.Distances.{Distances}
 use Rattle.rules.specs.Parameters.{Parameters}
 use Rattle.rules.specs.Boxes.{nothing, char, box}
 use Rattle.rules.specs.Boxes.{Size as SizeOf, Shape as ShapeOf, Place as PlaceOf, Shifts as ShiftsOf, Rule as RuleOf, Arranged as ArrangedOf}
 use Rattle.rules.specs.Nucleus.{Nucleus as NucleusOf}
+use Rattle.rules.specs.Limits.{Limit}
 use Rattle.rules.specs.Spacing.{Entry, units}
 use Rattle.rules.specs.Classes.{Neighbour as NeighbourOf}
 
@@ -94,3 +96,6 @@ arrangedAs a =
       third = placeAs (a .third);
       rule = lineAs (a .rule);
     }
+
+abbrev pub distancesAs : Distances → Limit
+distancesAs d = record { shift = d .shift .0; reach = d .reach .0 }

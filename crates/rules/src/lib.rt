@@ -3,6 +3,7 @@
 
 pub mod boxes;
 pub mod classes;
+pub mod limits;
 pub mod nucleus;
 pub mod parameters;
 pub mod spacing;
