@@ -89,16 +89,20 @@ barOf axis θ w =
       | false ↦ none
     ]
 
-unfoldable pub fraction : Parameters → Style → Bar → Size → Size → Arranged
-fraction p s bar x z =
-    let size = fontSize s in
-    let θ = barThickness p size bar in
-    let t = finalShifts p s θ x z in
-    let w = maxℤ (x .width) (z .width) in
+-- numerator and denominator, shifted by t, in the middle of the width w
+abbrev pub stacked : Size → Size → ℤ → Shifts → Option Rule → Arranged
+stacked x z w t bar =
     record {
       size = record { width = w; height = x .height +ℤ t .up; depth = z .depth +ℤ t .down };
       first = at (centred w (x .width)) (t .up);
       second = at (centred w (z .width)) (negℤ (t .down));
       third = origin;
-      rule = barOf (axisHeight p size) θ w;
+      rule = bar;
     }
+
+unfoldable pub fraction : Parameters → Style → Bar → Size → Size → Arranged
+fraction p s bar x z =
+    let size = fontSize s in
+    let θ = barThickness p size bar in
+    let w = maxℤ (x .width) (z .width) in
+    stacked x z w (finalShifts p s θ x z) (barOf (axisHeight p size) θ w)

@@ -1,6 +1,12 @@
 // What the rules see of a field and say of an item: sizes and places.
 use font::Metrics;
 use scaled::Sp;
+ghost use mathlib.Core.Path.{_≡_};
+ghost use Rattle.scaled.specs.Signed.{Within};
+ghost use Rattle.font.specs.Answers.{metricsAs};
+ghost use Rattle.rules.specs.Boxes as boxes;
+ghost use Rattle.rules.specs.Values.{sizeAs, shapeAs, scriptAs, placeAs};
+ghost use Rattle.rules.specs.Bounds.{words, Moderate, ModerateShape, ModerateScript, PlaceWithin};
 
 pub struct Size {
     pub width: Sp,
@@ -15,9 +21,9 @@ pub enum Shape {
     Box(Size),
 }
 
-// A superscript or a subscript, if it is there.
+// A superscript or a subscript, if there is one.
 pub enum Script {
-    Nothing,
+    Absent,
     Given(Size),
 }
 
@@ -41,7 +47,7 @@ pub struct Rule {
 }
 
 pub enum Line {
-    Nothing,
+    Unruled,
     Ruled(Rule),
 }
 
@@ -54,24 +60,10 @@ pub struct Arranged {
     pub rule: Line,
 }
 
-// A symbol with its italic correction in its width.
-pub fn char_size(m: Metrics) -> Size {
-    Size {
-        width: Sp::of_word(m.width).plus(Sp::of_word(m.italic)),
-        height: Sp::of_word(m.height),
-        depth: Sp::of_word(m.depth),
-    }
-}
-
-pub fn zero_size() -> Size {
-    Size {
-        width: Sp(0),
-        height: Sp(0),
-        depth: Sp(0),
-    }
-}
-
-pub fn size_of(x: Shape) -> Size {
+pub fn size_of(x: Shape) -> Size
+    requires { ⌜ ModerateShape x ⌝ }
+    ensures { λ r. ⌜ (sizeAs r ≡ boxes.sizeOf (shapeAs x)) × Moderate r ⌝ }
+{
     match x {
         Shape::Nothing => zero_size(),
         Shape::Char(m) => char_size(m),
@@ -79,15 +71,42 @@ pub fn size_of(x: Shape) -> Size {
     }
 }
 
-pub fn given(x: Shape) -> Script {
+// A script that is there.
+pub fn given(x: Shape) -> Script
+    requires { ⌜ ModerateShape x ⌝ }
+    ensures { λ r. ⌜ (scriptAs r ≡ boxes.given (shapeAs x)) × ModerateScript r ⌝ }
+{
     match x {
-        Shape::Nothing => Script::Nothing,
+        Shape::Nothing => Script::Absent,
         Shape::Char(m) => Script::Given(char_size(m)),
         Shape::Box(z) => Script::Given(z),
     }
 }
 
-pub fn origin() -> Place {
+// A symbol with its italic correction in its width.
+pub fn char_size(m: Metrics) -> Size
+    ensures { λ r. ⌜ (sizeAs r ≡ boxes.charSize (metricsAs m)) × Moderate r ⌝ }
+{
+    Size {
+        width: Sp::of_word(m.width).plus(Sp::of_word(m.italic)),
+        height: Sp::of_word(m.height),
+        depth: Sp::of_word(m.depth),
+    }
+}
+
+pub fn zero_size() -> Size
+    ensures { λ r. ⌜ (sizeAs r ≡ boxes.zeroSize) × Moderate r ⌝ }
+{
+    Size {
+        width: Sp(0),
+        height: Sp(0),
+        depth: Sp(0),
+    }
+}
+
+pub fn origin() -> Place
+    ensures { λ r. ⌜ (placeAs r ≡ boxes.origin) × PlaceWithin 0 r ⌝ }
+{
     Place {
         across: Sp(0),
         up: Sp(0),
@@ -95,6 +114,9 @@ pub fn origin() -> Place {
 }
 
 // How far a box of width w is moved right to stand in the middle of the width all.
-pub fn centred(all: Sp, w: Sp) -> Sp {
+pub fn centred(all: Sp, w: Sp) -> Sp
+    requires { ⌜ Within (words 2) (all .0) × Within (words 2) (w .0) ⌝ }
+    ensures { λ r. ⌜ (r .0 ≡ boxes.centred (all .0) (w .0)) × Within (words 3) (r .0) ⌝ }
+{
     all.minus(w).half()
 }

@@ -1,21 +1,37 @@
 // The class of an item and its change.
-use formula::{Class, Kind};
+use formula::Class;
+use formula::Kind;
+ghost use mathlib.Core.Path.{_≡_};
+ghost use mathlib.Core.Bool.{_||_};
+ghost use Rattle.formula.specs.Heads.{isOp};
+ghost use Rattle.rules.specs.Classes.{classOf, opensOperand, closesOperand, binChanged, changedClass};
+ghost use Rattle.rules.specs.Values.{neighbourAs};
 
-// The class of the nearest atom to one side, if there is one.
+// The class of the nearest atom to one side, or the end of the list.
 pub enum Neighbour {
-    Nothing,
+    End,
     Atom(Class),
 }
 
-pub fn is_op(class: Class) -> bool {
+pub fn is_op(class: Class) -> bool
+    ensures { λ r. ⌜ r ≡ isOp class ⌝ }
+{
     match class {
+        Class::Ord => false,
         Class::Op => true,
-        _ => false,
+        Class::Bin => false,
+        Class::Rel => false,
+        Class::Open => false,
+        Class::Close => false,
+        Class::Punct => false,
+        Class::Inner => false,
     }
 }
 
 // Lines count as Ord (rule 16), fractions as Inner (rule 15e).
-pub fn class_of(kind: Kind) -> Class {
+pub fn class_of(kind: Kind) -> Class
+    ensures { λ r. ⌜ r ≡ classOf kind ⌝ }
+{
     match kind {
         Kind::Atom(class, _) => class,
         Kind::Over => Class::Ord,
@@ -24,10 +40,40 @@ pub fn class_of(kind: Kind) -> Class {
     }
 }
 
-// Rule 5: what makes a Bin behind it Ord.
-fn opens_operand(left: Neighbour) -> bool {
+// The class of an atom between its left neighbour, after its change, and its right one, before it.
+pub fn changed_class(left: Neighbour, class: Class, right: Neighbour) -> Class
+    ensures { λ r. ⌜ r ≡ changedClass (neighbourAs left) class (neighbourAs right) ⌝ }
+{
+    match class {
+        Class::Ord => Class::Ord,
+        Class::Op => Class::Op,
+        Class::Bin => changed_bin(left, right),
+        Class::Rel => Class::Rel,
+        Class::Open => Class::Open,
+        Class::Close => Class::Close,
+        Class::Punct => Class::Punct,
+        Class::Inner => Class::Inner,
+    }
+}
+
+fn changed_bin(left: Neighbour, right: Neighbour) -> Class
+    ensures { λ r. ⌜ r ≡ binChanged (opensOperand (neighbourAs left) || closesOperand (neighbourAs right)) ⌝ }
+{
+    if opens_operand(left) {
+        return Class::Ord;
+    }
+    if closes_operand(right) {
+        return Class::Ord;
+    }
+    Class::Bin
+}
+
+// Rule 5: behind what a Bin becomes Ord.
+fn opens_operand(left: Neighbour) -> bool
+    ensures { λ r. ⌜ r ≡ opensOperand (neighbourAs left) ⌝ }
+{
     match left {
-        Neighbour::Nothing => true,
+        Neighbour::End => true,
         Neighbour::Atom(class) => match class {
             Class::Ord => false,
             Class::Op => true,
@@ -41,10 +87,12 @@ fn opens_operand(left: Neighbour) -> bool {
     }
 }
 
-// Rule 6: what makes a Bin before it Ord.
-fn closes_operand(right: Neighbour) -> bool {
+// Rule 6: before what a Bin becomes Ord.
+fn closes_operand(right: Neighbour) -> bool
+    ensures { λ r. ⌜ r ≡ closesOperand (neighbourAs right) ⌝ }
+{
     match right {
-        Neighbour::Nothing => true,
+        Neighbour::End => true,
         Neighbour::Atom(class) => match class {
             Class::Ord => false,
             Class::Op => false,
@@ -55,23 +103,5 @@ fn closes_operand(right: Neighbour) -> bool {
             Class::Punct => true,
             Class::Inner => false,
         },
-    }
-}
-
-fn changed_bin(left: Neighbour, right: Neighbour) -> Class {
-    if opens_operand(left) {
-        return Class::Ord;
-    }
-    if closes_operand(right) {
-        return Class::Ord;
-    }
-    Class::Bin
-}
-
-// The class of an atom between its left neighbour, after its change, and its right one, before it.
-pub fn changed_class(left: Neighbour, class: Class, right: Neighbour) -> Class {
-    match class {
-        Class::Bin => changed_bin(left, right),
-        other => other,
     }
 }

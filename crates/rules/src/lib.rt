@@ -1,16 +1,13 @@
 // The rules of Appendix G as functions on numbers. They are defined in specs/, a file for each idea; specs/Arrange.antt
 // puts them together. A module here stands for the file of the same name there.
 
-pub mod styles;
-pub mod parameters;
-pub mod classes;
-pub mod spacing;
 pub mod boxes;
-pub mod nucleus;
+pub mod classes;
 pub mod limits;
-pub mod scripts;
-pub mod fractions;
-pub mod arrange;
+pub mod nucleus;
+pub mod parameters;
+pub mod spacing;
+pub mod styles;
 
 pub enum Level {
     Display,

@@ -1,0 +1,16 @@
+use native.Mathlib.Omega.{arith}
+use borrow.Author.Needs.{needs}
+use Rattle.rules.proofs.boxes.centred.Statement.{statement}
+use Rattle.rules.proofs.boxes.centred.Tie as tie
+
+minus-requires : tie.Need-minus-requires
+minus-requires c κs = search needs
+
+half-requires : tie.Need-half-requires
+half-requires c κs = search needs
+
+returns : tie.Need-returns
+returns c = (cc, search needs)
+
+pub centred-spec : {M : Type 1} → statement M
+centred-spec = tie.close (tie.spec minus-requires half-requires returns)
