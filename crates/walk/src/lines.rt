@@ -1,5 +1,17 @@
 // What stands so far of a list.
 
+ghost use mathlib.Core.Path.{_≡_};
+ghost use mathlib.Core.Bool.{_&&_, not};
+ghost use Prim.Native.Nat.{_+_, _≤_};
+ghost use lib.IntN.{_+ℤ_};
+ghost use Rattle.scaled.specs.Signed.{Within};
+ghost use Rattle.scaled.specs.Length.{maxℤ};
+ghost use Rattle.formula.specs.Heads.{greatestKern};
+ghost use Rattle.rules.specs.Values.{sizeAs, neighbourAs};
+ghost use Rattle.rules.specs.Bounds.{words, itemWords};
+ghost use Rattle.nodes.specs.Hull.{hullAs, hullFits, joined};
+ghost use Rattle.walk.specs.Fitting.{sizeFits};
+ghost use Rattle.walk.specs.Walked.{longest, LineWithin, StartLine, Kerned, Extended, ItemBehind, ListPart};
 use formula::Class;
 use nodes::hull::{Hull, within};
 use rules::boxes::{Shape, Size, zero_size};
@@ -18,7 +30,9 @@ pub struct Line {
     pub large: bool,
 }
 
-pub fn start() -> Line {
+pub fn start() -> Line
+    ensures { λ r. ⌜ StartLine r ⌝ }
+{
     Line {
         bytes: 0,
         left: Neighbour::End,
@@ -30,7 +44,10 @@ pub fn start() -> Line {
 }
 
 // A kern has six bytes.
-pub fn kerned(line: Line, n: Sp) -> Line {
+pub fn kerned(line: Line, n: Sp) -> Line
+    requires { ⌜ LineWithin line × (line .bytes + 6 ≤ longest) × Within greatestKern (n .0) ⌝ }
+    ensures { λ r. ⌜ Kerned line (n .0) r ⌝ }
+{
     let left = line.left;
     let hull = line.hull;
     let mut size = line.size;
@@ -56,7 +73,10 @@ pub struct Item {
 }
 
 // A box of a list with another that stands at x.
-fn beside(a: Size, x: Sp, b: Size) -> Size {
+fn beside(a: Size, x: Sp, b: Size) -> Size
+    requires { ⌜ BesideGiven a (x .0) b ⌝ }
+    ensures { λ r. ⌜ Beside a (x .0) b r ⌝ }
+{
     let width = b.width;
     let height = a.height;
     let depth = a.depth;
@@ -68,7 +88,10 @@ fn beside(a: Size, x: Sp, b: Size) -> Size {
 }
 
 // The line with an item of this class behind it, at x.
-pub fn extended(line: Line, class: Class, x: Sp, item: Item) -> Line {
+pub fn extended(line: Line, class: Class, x: Sp, item: Item) -> Line
+    requires { ⌜ ItemBehind line (x .0) item ⌝ }
+    ensures { λ r. ⌜ Extended line class (x .0) item r ⌝ }
+{
     let size = beside(line.size, x, item.size);
     let before = line.hull;
     let own = item.hull;
@@ -83,7 +106,9 @@ pub fn extended(line: Line, class: Class, x: Sp, item: Item) -> Line {
 }
 
 // Whether the list keeps within the greatest length, and so do all in it.
-pub fn list_fits(line: Line) -> bool {
+pub fn list_fits(line: Line) -> bool
+    ensures { λ r. ⌜ r ≡ (not (line .large) && (hullFits (hullAs (line .hull)) && sizeFits (sizeAs (line .size)))) ⌝ }
+{
     if line.large {
         return false;
     }
@@ -94,7 +119,9 @@ pub fn list_fits(line: Line) -> bool {
     size_fits(line.size)
 }
 
-fn size_fits(size: Size) -> bool {
+fn size_fits(size: Size) -> bool
+    ensures { λ r. ⌜ r ≡ sizeFits (sizeAs size) ⌝ }
+{
     if !within(size.width) {
         return false;
     }
@@ -105,7 +132,10 @@ fn size_fits(size: Size) -> bool {
 }
 
 // A whole list as a field. One that does not fit has no shape that matters.
-pub fn list_part(line: Line) -> Part {
+pub fn list_part(line: Line) -> Part
+    requires { ⌜ LineWithin line ⌝ }
+    ensures { λ r. ⌜ ListPart line r ⌝ }
+{
     if list_fits(line) {
         let size = line.size;
         let hull = line.hull;

@@ -1,5 +1,8 @@
 // A field that has been set alone, at its own reference point.
 
+ghost use Rattle.font.specs.Font.{fontOf};
+ghost use Rattle.formula.specs.Tree.{symbol};
+ghost use Rattle.walk.specs.Walked.{EmptyPart, FieldDone};
 use nodes::hull::Hull;
 use nodes::put_glyph;
 use rules::Style;
@@ -22,7 +25,9 @@ pub enum FieldSet {
     Missing(usize),
 }
 
-pub fn empty_part() -> Part {
+pub fn empty_part() -> Part
+    ensures { λ r. ⌜ EmptyPart r ⌝ }
+{
     Part {
         shape: Shape::Nothing,
         count: 0,
@@ -32,7 +37,9 @@ pub fn empty_part() -> Part {
 }
 
 // A symbol's glyph stands at the reference point; a symbol that is missing is so at the field's kind byte.
-pub fn symbol_part(table: &[u8], style: Style, enlarge: bool, family: u8, code: u8, buf: &mut [u8]) -> FieldSet {
+pub fn symbol_part(table: &[u8], style: Style, enlarge: bool, family: u8, code: u8, buf: &mut [u8]) -> FieldSet
+    ensures { λ r. ⌜ FieldDone (fontOf (now (table .entry))) style enlarge (symbol family code) 3 (now (buf .entry)) r (now (buf .exit)) ⌝ }
+{
     let size = font_size(style) as u8;
     let sought = symbol_in(table, size, enlarge, family, code);
     match sought {

@@ -1,5 +1,13 @@
 // Where the fields of an item stand in its bytes, and what follows it.
 
+ghost use mathlib.Core.Path.{_≡_};
+ghost use mathlib.Core.Option.{none};
+ghost use Prim.Native.Nat.{_≤_};
+ghost use lib.ListN.{length};
+ghost use Rattle.formula.specs.Places as tree;
+ghost use Rattle.rules.specs.Values.{neighbourAs};
+ghost use Rattle.walk.specs.Setting.{nextClass};
+ghost use Rattle.walk.specs.Walked.{longest, NoadAt, PlacesAre};
 use formula::{Kind, Opening};
 use formula::heads::{field_bytes, field_head, has_third, opening, opening_bytes};
 use rules::classes::{Neighbour, class_of};
@@ -13,11 +21,17 @@ pub struct Places {
 }
 
 // The byte behind the field that stands at a place.
-fn behind(s: &[u8], at: usize) -> usize {
+fn behind(s: &[u8], at: usize) -> usize
+    requires { ⌜ (at ≤ length (now s)) × (length (now s) ≤ longest) ⌝ }
+    ensures { λ r. ⌜ (r ≡ tree.behind (now (s .entry)) at) × (r ≤ length (now (s .entry))) ⌝ }
+{
     at + field_bytes(field_head(&s[at..]))
 }
 
-pub fn places_of(s: &[u8], kind: Kind) -> Places {
+pub fn places_of(s: &[u8], kind: Kind) -> Places
+    requires { ⌜ NoadAt (now s) kind ⌝ }
+    ensures { λ r. ⌜ PlacesAre (now (s .entry)) kind r ⌝ }
+{
     let first = opening_bytes(kind);
     let second = behind(s, first);
     let third = behind(s, second);
@@ -31,7 +45,10 @@ pub fn places_of(s: &[u8], kind: Kind) -> Places {
 }
 
 // The class of the next atom; kerns are passed over.
-pub fn next_class(s: &[u8]) -> Neighbour {
+pub fn next_class(s: &[u8]) -> Neighbour
+    requires { ⌜ tree.Readable (now s) × (length (now s) ≤ longest) ⌝ }
+    ensures { λ r. ⌜ neighbourAs r ≡ nextClass none (tree.treeOf (now (s .entry))) ⌝ }
+{
     let mut at: usize = 0;
     while at < s.len() {
         let o = opening(&s[at..]);

@@ -1,5 +1,10 @@
 // The symbol that is set for a family and a code.
 
+ghost use mathlib.Core.Path.{_≡_};
+ghost use Rattle.font.specs.Font.{fontOf};
+ghost use Rattle.font.specs.Answers.{foundAs, successorAs};
+ghost use Rattle.walk.specs.Setting as definition;
+ghost use Rattle.walk.specs.Walked.{symbolAs, soughtAs};
 use font::{Found, Metrics, Successor};
 
 // A symbol with its code, which may be a successor's.
@@ -14,7 +19,9 @@ pub enum Sought {
 }
 
 // A symbol gives way to its successor, if it has one, where it is enlarged.
-pub fn symbol_in(table: &[u8], size: u8, enlarge: bool, family: u8, code: u8) -> Sought {
+pub fn symbol_in(table: &[u8], size: u8, enlarge: bool, family: u8, code: u8) -> Sought
+    ensures { λ r. ⌜ soughtAs r ≡ definition.symbolIn (fontOf (now (table .entry))) size enlarge family code ⌝ }
+{
     let found = font::symbol(table, size, family, code);
     match found {
         Found::Symbol(metrics) => {
@@ -28,7 +35,9 @@ pub fn symbol_in(table: &[u8], size: u8, enlarge: bool, family: u8, code: u8) ->
     }
 }
 
-fn successor(table: &[u8], size: u8, family: u8, symbol: Symbol) -> Sought {
+fn successor(table: &[u8], size: u8, family: u8, symbol: Symbol) -> Sought
+    ensures { λ r. ⌜ soughtAs r ≡ definition.successor (fontOf (now (table .entry))) size family (symbolAs symbol) (successorAs (symbol .metrics .successor)) ⌝ }
+{
     let metrics = symbol.metrics;
     let next = metrics.successor;
     match next {
@@ -37,7 +46,9 @@ fn successor(table: &[u8], size: u8, family: u8, symbol: Symbol) -> Sought {
     }
 }
 
-fn symbol_of(code: u8, found: Found) -> Sought {
+fn symbol_of(code: u8, found: Found) -> Sought
+    ensures { λ r. ⌜ soughtAs r ≡ definition.found code (foundAs found) ⌝ }
+{
     match found {
         Found::Symbol(metrics) => Sought::Present(Symbol { code, metrics }),
         Found::Absent => Sought::Absent,
