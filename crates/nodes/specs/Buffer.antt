@@ -5,7 +5,7 @@
 --     movedBytes u v k b      the words u and v added to the x and the y of each of the first k nodes
 --     movedFront dx dy k b    the first k nodes moved right by dx and up by dy
 -- `put` and `movedFront` change nothing where the bytes are too few. That moved bytes are the bytes of moved nodes is shown in
--- `NodeLaws`. Assumes nothing.
+-- `BufferLaws`. Assumes nothing.
 use mathlib.Core.Bool.{cond}
 use mathlib.Core.List.{List, _∷_, _++_}
 use Prim.Native.Nat.{ℕ, zero, suc, _+_, _*_}

@@ -187,7 +187,8 @@ join-within k (around a b c d) (around a′ b′ c′ d′) v w = (
   within-by (greatest (# d) (# d′)) k (omega arith),
 )
 
-pub moved-within : (j k : ℕ) (dx dy : ℤ) (h : Hull) → HullWithin j h → Within k dx → Within k dy → HullWithin (j + k) (movedHull dx dy h)
+pub moved-within : (j k : ℕ) (dx dy : ℤ) (h : Hull) → HullWithin j h → Within k dx → Within k dy →
+    HullWithin (j + k) (movedHull dx dy h)
 unfolding movedHull
 moved-within j k dx dy none w u v = tt
 moved-within j k dx dy (around a b c d) w u v = (

@@ -6,6 +6,8 @@ ghost use Rattle.nodes.specs.Bounds.{within};
 ghost use Rattle.nodes.specs.Hull.{around, joined, movedHull, hullFits, hullAs, HullWithin};
 use scaled::Sp;
 
+const GREATEST_LENGTH: i64 = 1_073_741_823;
+
 pub enum Hull {
     Empty,
     Around(Extents),
@@ -75,8 +77,6 @@ impl Hull {
         }
     }
 }
-
-const GREATEST_LENGTH: i64 = 1_073_741_823;
 
 // Whether a length is within the greatest.
 pub fn within(z: Sp) -> bool

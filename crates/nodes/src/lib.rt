@@ -6,9 +6,11 @@ ghost use mathlib.Core.Path.{_≡_};
 ghost use mathlib.Core.List.{_++_};
 ghost use Prim.Native.Nat.{_+_, _*_, _≤_};
 ghost use lib.ListN.{length, take, drop};
-ghost use Rattle.nodes.specs.Nodes.{glyph, rule};
+ghost use Rattle.nodes.specs.Nodes.{glyph, rule, bytesInNode};
 ghost use Rattle.nodes.specs.Buffer.{written, put, nodeOf, movedHead, movedFront};
 use scaled::Sp;
+
+const BYTES_IN_NODE: usize = 18;
 
 // Writes a glyph's node at the front, if there is room.
 pub fn put_glyph(buf: &mut [u8], x: Sp, y: Sp, size: u8, family: u8, code: u8)
@@ -38,7 +40,7 @@ pub fn put_rule(buf: &mut [u8], x: Sp, y: Sp, width: Sp, thickness: Sp)
 fn put_node(buf: &mut [u8], m: u8, n: u8, x: Sp, y: Sp, p: u32, q: u32)
     ensures { λ _. ⌜ now (buf .exit) ≡ written (nodeOf m n (x .0) (y .0) p q) (now (buf .entry)) ⌝ }
 {
-    if buf.len() < 18 {
+    if buf.len() < BYTES_IN_NODE {
         return;
     }
     buf[0] = m;
@@ -49,28 +51,32 @@ fn put_node(buf: &mut [u8], m: u8, n: u8, x: Sp, y: Sp, p: u32, q: u32)
 
 // Where the node number `count` starts in a buffer of len bytes: len if it has no room up to there.
 pub fn room(count: usize, len: usize) -> usize
-    ensures { λ r. ⌜ (r ≤ len) × ((18 * count ≤ len → r ≡ 18 * count)) ⌝ }
+    ensures { λ r. ⌜ (r ≤ len) × ((bytesInNode * count ≤ len → r ≡ bytesInNode * count)) ⌝ }
 {
-    if count <= len / 18 { 18 * count } else { len }
+    if count <= len / BYTES_IN_NODE {
+        BYTES_IN_NODE * count
+    } else {
+        len
+    }
 }
 
 // Moves the first `count` nodes right by dx and up by dy, if they are all there.
 pub fn move_nodes(buf: &mut [u8], count: usize, dx: Sp, dy: Sp)
     ensures { λ _. ⌜ now (buf .exit) ≡ movedFront (dx .0) (dy .0) count (now (buf .entry)) ⌝ }
 {
-    if buf.len() / 18 < count {
+    if buf.len() / BYTES_IN_NODE < count {
         return;
     }
     let right = words::word_of(dx);
     let up = words::word_of(dy);
     for i in 0..count {
-        move_node(buf, 18 * i, right, up);
+        move_node(buf, BYTES_IN_NODE * i, right, up);
     }
 }
 
 // Adds two words to the x and the y of the node at `at`.
 fn move_node(buf: &mut [u8], at: usize, right: u32, up: u32)
-    requires { ⌜ at + 18 ≤ length (now buf) ⌝ }
+    requires { ⌜ at + bytesInNode ≤ length (now buf) ⌝ }
     ensures { λ _. ⌜ now (buf .exit) ≡ take at (now (buf .entry)) ++ movedHead right up (drop at (now (buf .entry))) ⌝ }
 {
     words::add(buf, at + 2, right);

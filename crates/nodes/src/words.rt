@@ -1,7 +1,7 @@
 // Four-byte words in a buffer, the least significant byte first.
 ghost use mathlib.Core.Path.{_≡_};
-ghost use Prim.Native.Nat.{_+_, _%_, _<_, _≤_};
 ghost use mathlib.Core.List.{_++_};
+ghost use Prim.Native.Nat.{_+_, _%_, _<_, _≤_};
 ghost use lib.ListN.{length};
 ghost use lib.Seq.{sets};
 ghost use Rattle.scaled.specs.Words.{wordOf, fourBytes};
@@ -46,6 +46,7 @@ fn store(b: &mut [u8], at: usize, x: u64)
     b[at + 3] = low(x / 16777216);
 }
 
+// Writes two words from `at` on.
 pub fn store_pair(b: &mut [u8], at: usize, p: u32, q: u32)
     requires { ⌜ at + 8 ≤ length (now b) ⌝ }
     ensures { λ _. ⌜ now (b .exit) ≡ sets (now (b .entry)) at (fourBytes p ++ fourBytes q) ⌝ }
