@@ -1,5 +1,15 @@
 // An item whose fields have been set, arranged and put at its place in the list.
 
+ghost use mathlib.Core.Path.{_≡_};
+ghost use mathlib.Core.Bool.{false};
+ghost use Prim.Native.Nat.{_+_, _≤_};
+ghost use Rattle.scaled.specs.Signed.{Within};
+ghost use Rattle.rules.specs.Fractions as fractions;
+ghost use Rattle.rules.specs.Styles as styles;
+ghost use Rattle.rules.specs.Arrange as rules;
+ghost use Rattle.rules.specs.Values.{parametersIn, neighbourAs, shapeAs, placeAs, lineAs};
+ghost use Rattle.rules.specs.Bounds.{ModerateShape};
+ghost use Rattle.walk.specs.Walked.{longest, barCount, ruleCount, LineWithin, SettingIs, SettingWithin, MoveGiven, MovedPart, BothRuns, RuleGiven, RuledRun, FrontGiven, FrontRun, FinishGiven, FinishedLine};
 use formula::{Bar, Class, Kind};
 use nodes::hull::Hull;
 use nodes::{move_nodes, put_rule, room};
@@ -15,7 +25,9 @@ use crate::lines::{Item, Line, extended};
 use crate::parts::Part;
 
 // How many rules an item of this kind draws: a line always, a bar where it has a thickness.
-pub fn rule_count(p: Parameters, style: Style, kind: Kind) -> usize {
+pub fn rule_count(p: Parameters, style: Style, kind: Kind) -> usize
+    ensures { λ r. ⌜ (r ≡ ruleCount (parametersIn p) style kind) × (r ≤ 1) ⌝ }
+{
     match kind {
         Kind::Atom(_, _) => 0,
         Kind::Over => 1,
@@ -24,7 +36,9 @@ pub fn rule_count(p: Parameters, style: Style, kind: Kind) -> usize {
     }
 }
 
-fn bar_count(p: Parameters, style: Style, bar: Bar) -> usize {
+fn bar_count(p: Parameters, style: Style, bar: Bar) -> usize
+    ensures { λ r. ⌜ (r ≡ barCount (fractions.hasBar (fractions.barThickness (parametersIn p) (styles.fontSize style) bar))) × (r ≤ 1) ⌝ }
+{
     match bar {
         Bar::Default => {
             if Sp(0).less(parameter(p, font_size(style), RULE_THICKNESS)) {
@@ -45,7 +59,10 @@ pub struct Setting {
 }
 
 // The item's class is changed between its neighbours, and space goes before it.
-pub fn setting_of(p: Parameters, style: Style, kind: Kind, right: Neighbour, line: Line, x: Shape, y: Shape, z: Shape) -> Setting {
+pub fn setting_of(p: Parameters, style: Style, kind: Kind, right: Neighbour, line: Line, x: Shape, y: Shape, z: Shape) -> Setting
+    requires { ⌜ LineWithin line × ModerateShape x × ModerateShape y × ModerateShape z ⌝ }
+    ensures { λ r. ⌜ SettingIs (parametersIn p) style kind (neighbourAs right) (neighbourAs (line .left)) (line .size .width .0) (rules.arrange (parametersIn p) style kind (shapeAs x) (shapeAs y) (shapeAs z)) r × SettingWithin (line .bytes) r ⌝ }
+{
     let left = line.left;
     let size = line.size;
     let width = size.width;
@@ -68,7 +85,10 @@ pub struct Run {
 }
 
 // Moves a field's nodes, at the front of buf, to their place.
-pub fn moved_part(part: Part, x: Sp, place: Place, buf: &mut [u8]) -> Run {
+pub fn moved_part(part: Part, x: Sp, place: Place, buf: &mut [u8]) -> Run
+    requires { ⌜ MoveGiven part (x .0) place ⌝ }
+    ensures { λ r. ⌜ MovedPart part (x .0) (placeAs place) r (now (buf .entry)) (now (buf .exit)) ⌝ }
+{
     let across = place.across;
     let dx = x.plus(across);
     let dy = place.up;
@@ -83,7 +103,10 @@ pub fn moved_part(part: Part, x: Sp, place: Place, buf: &mut [u8]) -> Run {
 }
 
 // One run behind another.
-pub fn behind(a: Run, b: Run) -> Run {
+pub fn behind(a: Run, b: Run) -> Run
+    requires { ⌜ (a .count ≤ longest) × (b .count ≤ longest) ⌝ }
+    ensures { λ r. ⌜ BothRuns a b r ⌝ }
+{
     let before = a.hull;
     let after = b.hull;
     let hull = before.joined(after);
@@ -95,7 +118,10 @@ pub fn behind(a: Run, b: Run) -> Run {
 }
 
 // The item's own rule, at the front of buf.
-pub fn ruled(rule: Ruling, x: Sp, buf: &mut [u8]) -> Run {
+fn ruled(rule: Ruling, x: Sp, buf: &mut [u8]) -> Run
+    requires { ⌜ RuleGiven rule (x .0) ⌝ }
+    ensures { λ r. ⌜ RuledRun (lineAs rule) (x .0) r (now (buf .entry)) (now (buf .exit)) ⌝ }
+{
     match rule {
         Ruling::Unruled => Run {
             count: 0,
@@ -118,7 +144,10 @@ pub fn ruled(rule: Ruling, x: Sp, buf: &mut [u8]) -> Run {
 }
 
 // The first field's nodes, at the front of buf, are moved to their place, and the rule goes behind them.
-pub fn front(part: Part, setting: Setting, buf: &mut [u8]) -> Run {
+pub fn front(part: Part, setting: Setting, buf: &mut [u8]) -> Run
+    requires { ⌜ FrontGiven part setting ⌝ }
+    ensures { λ r. ⌜ FrontRun part setting r (now (buf .entry)) (now (buf .exit)) ⌝ }
+{
     let arranged = setting.arranged;
     let rule = arranged.rule;
     let x = setting.x;
@@ -129,7 +158,10 @@ pub fn front(part: Part, setting: Setting, buf: &mut [u8]) -> Run {
 }
 
 // The line with the item of so many bytes behind it.
-pub fn finished(line: Line, setting: Setting, run: Run, bytes: usize) -> Line {
+pub fn finished(line: Line, setting: Setting, run: Run, bytes: usize) -> Line
+    requires { ⌜ FinishGiven line setting run bytes ⌝ }
+    ensures { λ r. ⌜ FinishedLine line setting run bytes r ⌝ }
+{
     let class = setting.class;
     let arranged = setting.arranged;
     let size = arranged.size;

@@ -3,15 +3,13 @@
 ghost use mathlib.Core.Path.{_≡_};
 ghost use mathlib.Core.Bool.{_&&_, not};
 ghost use Prim.Native.Nat.{_+_, _≤_};
-ghost use lib.IntN.{_+ℤ_};
 ghost use Rattle.scaled.specs.Signed.{Within};
-ghost use Rattle.scaled.specs.Length.{maxℤ};
+ghost use Rattle.formula.specs.Tree.{kernBytes};
 ghost use Rattle.formula.specs.Heads.{greatestKern};
-ghost use Rattle.rules.specs.Values.{sizeAs, neighbourAs};
-ghost use Rattle.rules.specs.Bounds.{words, itemWords};
-ghost use Rattle.nodes.specs.Hull.{hullAs, hullFits, joined};
+ghost use Rattle.rules.specs.Values.{sizeAs};
+ghost use Rattle.nodes.specs.Hull.{hullAs, hullFits};
 ghost use Rattle.walk.specs.Fitting.{sizeFits};
-ghost use Rattle.walk.specs.Walked.{longest, LineWithin, StartLine, Kerned, Extended, ItemBehind, ListPart};
+ghost use Rattle.walk.specs.Walked.{longest, LineWithin, StartLine, KernedLine, ItemGoes, ExtendedLine, ListPart, SizesGo, SizesBeside};
 use formula::Class;
 use nodes::hull::{Hull, within};
 use rules::boxes::{Shape, Size, zero_size};
@@ -45,8 +43,8 @@ pub fn start() -> Line
 
 // A kern has six bytes.
 pub fn kerned(line: Line, n: Sp) -> Line
-    requires { ⌜ LineWithin line × (line .bytes + 6 ≤ longest) × Within greatestKern (n .0) ⌝ }
-    ensures { λ r. ⌜ Kerned line (n .0) r ⌝ }
+    requires { ⌜ LineWithin line × (line .bytes + kernBytes ≤ longest) × Within greatestKern (n .0) ⌝ }
+    ensures { λ r. ⌜ KernedLine line (n .0) r ⌝ }
 {
     let left = line.left;
     let hull = line.hull;
@@ -74,8 +72,8 @@ pub struct Item {
 
 // A box of a list with another that stands at x.
 fn beside(a: Size, x: Sp, b: Size) -> Size
-    requires { ⌜ BesideGiven a (x .0) b ⌝ }
-    ensures { λ r. ⌜ Beside a (x .0) b r ⌝ }
+    requires { ⌜ SizesGo a (x .0) b ⌝ }
+    ensures { λ r. ⌜ SizesBeside a (x .0) b r ⌝ }
 {
     let width = b.width;
     let height = a.height;
@@ -89,8 +87,8 @@ fn beside(a: Size, x: Sp, b: Size) -> Size
 
 // The line with an item of this class behind it, at x.
 pub fn extended(line: Line, class: Class, x: Sp, item: Item) -> Line
-    requires { ⌜ ItemBehind line (x .0) item ⌝ }
-    ensures { λ r. ⌜ Extended line class (x .0) item r ⌝ }
+    requires { ⌜ ItemGoes line (x .0) item ⌝ }
+    ensures { λ r. ⌜ ExtendedLine line class (x .0) item r ⌝ }
 {
     let size = beside(line.size, x, item.size);
     let before = line.hull;

@@ -2,6 +2,13 @@
 // The nodes of an item stand in the order first field, rule, second field, third field. Each field is set into the front of
 // the rest of the buffer, and once all three are there their nodes are moved, from the last to the first.
 
+ghost use lib.ListN.{length};
+ghost use Rattle.font.specs.Font.{fontOf};
+ghost use Rattle.formula.specs.Places as tree;
+ghost use Rattle.rules.specs.Values.{neighbourAs, parametersIn};
+ghost use Rattle.rules.specs.Bounds.{ModerateShape};
+ghost use Rattle.walk.specs.Walked.{longest, PartWithin, LineWithin, ListGiven, LineGiven, ItemGiven, PlacesAre, FieldGiven, FirstGiven, ListDone, ItemDone, BehindDone, SecondDone, ThirdDone, ArrangedLast, HeadDone};
+
 use formula::{FieldHead, Kind, Opening};
 use formula::heads::{field_head, has_third, opening};
 use nodes::room;
@@ -34,7 +41,10 @@ pub enum LastSet {
 }
 
 // Sets a list at its own reference point, into the front of buf.
-pub fn set_list(table: &[u8], p: Parameters, style: Style, s: &[u8], buf: &mut [u8]) -> ListSet {
+pub fn set_list(table: &[u8], p: Parameters, style: Style, s: &[u8], buf: &mut [u8]) -> ListSet
+    requires { ⌜ ListGiven (now table) p (now s) ⌝ }
+    ensures { λ r. ⌜ ListDone (fontOf (now (table .entry))) style (tree.treeOf (now (s .entry))) (length (now (s .entry))) (now (buf .entry)) r (now (buf .exit)) ⌝ }
+{
     let mut line = start();
     while line.bytes < s.len() {
         let at = line.bytes;
@@ -53,7 +63,10 @@ pub fn set_list(table: &[u8], p: Parameters, style: Style, s: &[u8], buf: &mut [
 }
 
 // Sets the item at the head of s behind what stands so far; buf starts behind the nodes of that.
-fn set_item(table: &[u8], p: Parameters, style: Style, s: &[u8], line: Line, buf: &mut [u8]) -> Step {
+fn set_item(table: &[u8], p: Parameters, style: Style, s: &[u8], line: Line, buf: &mut [u8]) -> Step
+    requires { ⌜ ListGiven (now table) p (now s) × LineGiven line (now s) ⌝ }
+    ensures { λ r. ⌜ ItemDone (fontOf (now (table .entry))) style (now (s .entry)) line (now (buf .entry)) r (now (buf .exit)) ⌝ }
+{
     let o = opening(s);
     match o {
         Opening::NoItem => Step::Next(line),
@@ -63,7 +76,10 @@ fn set_item(table: &[u8], p: Parameters, style: Style, s: &[u8], line: Line, buf
 }
 
 // Sets the first field of an item, and then the others.
-fn set_first(table: &[u8], p: Parameters, style: Style, kind: Kind, s: &[u8], line: Line, buf: &mut [u8]) -> Step {
+fn set_first(table: &[u8], p: Parameters, style: Style, kind: Kind, s: &[u8], line: Line, buf: &mut [u8]) -> Step
+    requires { ⌜ ItemGiven (now table) p (now s) kind × LineGiven line (now s) ⌝ }
+    ensures { λ r. ⌜ ItemDone (fontOf (now (table .entry))) style (now (s .entry)) line (now (buf .entry)) r (now (buf .exit)) ⌝ }
+{
     let at = places_of(s, kind);
     let first = at.first;
     let x = set_field(table, p, first_style(kind, style), enlarges(kind, style), &s[first..], buf);
@@ -74,21 +90,27 @@ fn set_first(table: &[u8], p: Parameters, style: Style, kind: Kind, s: &[u8], li
 }
 
 // Sets the fields behind the first one, whose nodes are at the front of buf, and then moves that and puts the rule.
-fn set_behind(table: &[u8], p: Parameters, style: Style, kind: Kind, s: &[u8], at: Places, line: Line, a: Part, buf: &mut [u8]) -> Step {
+fn set_behind(table: &[u8], p: Parameters, style: Style, kind: Kind, s: &[u8], at: Places, line: Line, a: Part, buf: &mut [u8]) -> Step
+    requires { ⌜ ItemGiven (now table) p (now s) kind × PlacesAre (now s) kind at × LineGiven line (now s) × FirstGiven (now table) style (now s) kind a ⌝ }
+    ensures { λ r. ⌜ BehindDone (fontOf (now (table .entry))) style (now (s .entry)) kind line (now (buf .entry)) r (now (buf .exit)) ⌝ }
+{
     let j = room(a.count + rule_count(p, style, kind), buf.len());
     let shape = a.shape;
     let last = set_second(table, p, style, kind, s, at, line, shape, &mut buf[j..]);
     match last {
         LastSet::Whole(setting, run) => {
-            let all = behind(front(a, setting, buf), run);
-            Step::Next(finished(line, setting, all, at.end))
+            let own = front(a, setting, &mut buf[..j]);
+            Step::Next(finished(line, setting, behind(own, run), at.end))
         }
         LastSet::Missing(place) => Step::Missing(place),
     }
 }
 
 // Sets the second field into the front of buf, and the third behind it.
-fn set_second(table: &[u8], p: Parameters, style: Style, kind: Kind, s: &[u8], at: Places, line: Line, x: Shape, buf: &mut [u8]) -> LastSet {
+fn set_second(table: &[u8], p: Parameters, style: Style, kind: Kind, s: &[u8], at: Places, line: Line, x: Shape, buf: &mut [u8]) -> LastSet
+    requires { ⌜ ItemGiven (now table) p (now s) kind × PlacesAre (now s) kind at × LineGiven line (now s) × ModerateShape x ⌝ }
+    ensures { λ r. ⌜ SecondDone (fontOf (now (table .entry))) style (now (s .entry)) kind line x (now (buf .entry)) r (now (buf .exit)) ⌝ }
+{
     let second = at.second;
     let y = set_field(table, p, second_style(kind, style), false, &s[second..], buf);
     match y {
@@ -99,7 +121,7 @@ fn set_second(table: &[u8], p: Parameters, style: Style, kind: Kind, s: &[u8], a
             match last {
                 LastSet::Whole(setting, run) => {
                     let arranged = setting.arranged;
-                    let own = moved_part(b, setting.x, arranged.second, buf);
+                    let own = moved_part(b, setting.x, arranged.second, &mut buf[..j]);
                     LastSet::Whole(setting, behind(own, run))
                 }
                 LastSet::Missing(place) => LastSet::Missing(place),
@@ -110,7 +132,10 @@ fn set_second(table: &[u8], p: Parameters, style: Style, kind: Kind, s: &[u8], a
 }
 
 // Sets the third field, if there is one, into the front of buf. With all three known the item is arranged.
-fn set_third(table: &[u8], p: Parameters, style: Style, kind: Kind, s: &[u8], at: Places, line: Line, x: Shape, y: Shape, buf: &mut [u8]) -> LastSet {
+fn set_third(table: &[u8], p: Parameters, style: Style, kind: Kind, s: &[u8], at: Places, line: Line, x: Shape, y: Shape, buf: &mut [u8]) -> LastSet
+    requires { ⌜ ItemGiven (now table) p (now s) kind × PlacesAre (now s) kind at × LineGiven line (now s) × ModerateShape x × ModerateShape y ⌝ }
+    ensures { λ r. ⌜ ThirdDone (fontOf (now (table .entry))) style (now (s .entry)) kind line x y (now (buf .entry)) r (now (buf .exit)) ⌝ }
+{
     let third = at.third;
     let end = at.end;
     let right = next_class(&s[end..]);
@@ -126,7 +151,10 @@ fn set_third(table: &[u8], p: Parameters, style: Style, kind: Kind, s: &[u8], at
 }
 
 // The item is arranged, and its third field, at the front of buf, moved to its place.
-fn arranged_last(p: Parameters, style: Style, kind: Kind, right: Neighbour, line: Line, x: Shape, y: Shape, c: Part, buf: &mut [u8]) -> LastSet {
+fn arranged_last(p: Parameters, style: Style, kind: Kind, right: Neighbour, line: Line, x: Shape, y: Shape, c: Part, buf: &mut [u8]) -> LastSet
+    requires { ⌜ LineWithin line × ModerateShape x × ModerateShape y × PartWithin longest c ⌝ }
+    ensures { λ r. ⌜ ArrangedLast (parametersIn p) style kind (neighbourAs right) line x y c r (now (buf .entry)) (now (buf .exit)) ⌝ }
+{
     let shape = c.shape;
     let setting = setting_of(p, style, kind, right, line, x, y, shape);
     let arranged = setting.arranged;
@@ -134,7 +162,10 @@ fn arranged_last(p: Parameters, style: Style, kind: Kind, right: Neighbour, line
 }
 
 // Sets the field at the head of s alone, at its own reference point, into the front of buf.
-fn set_field(table: &[u8], p: Parameters, style: Style, enlarge: bool, s: &[u8], buf: &mut [u8]) -> FieldSet {
+fn set_field(table: &[u8], p: Parameters, style: Style, enlarge: bool, s: &[u8], buf: &mut [u8]) -> FieldSet
+    requires { ⌜ FieldGiven (now table) p (now s) ⌝ }
+    ensures { λ r. ⌜ HeadDone (fontOf (now (table .entry))) style enlarge (now (s .entry)) (now (buf .entry)) r (now (buf .exit)) ⌝ }
+{
     let head = field_head(s);
     match head {
         FieldHead::NoField => FieldSet::Whole(empty_part()),
