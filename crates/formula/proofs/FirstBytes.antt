@@ -1,7 +1,6 @@
 -- The code goes by a list's length and reads its first bytes, where the definitions go by the list's cases. In order:
 --     one, two             a list that is long enough, as its first bytes and the rest
 --     short-one ..         a function that says the same of every shorter list
---     tail-part            what `&s[k..]` holds
 --     past, up, last       numbers that stand in a list of values, or past it
 --     kern-said .. kern-under     a kern: of its bytes, and in its range or on either side of it
 --     kind-empty ..        a field, by its kind byte
@@ -15,7 +14,6 @@ use Prim.Native.Nat.{_*_, ℕ, zero, suc, _+_, _-_, _≤_, _<_}
 use native.Mathlib.Omega.{arith}
 use lib.IntN.{ℤ, pos, negsuc}
 use lib.ListN.{length, take, drop, getD, getElem?, length-drop}
-use lib.Seq.{take-all}
 use lib.Dec.{leb}
 use borrow.Author.Tests.{le-leb, lt-leb, ne-eqb}
 use Rattle.scaled.specs.Signed.{above, below}
@@ -25,6 +23,7 @@ use Rattle.formula.specs.declared.Opening.the-variants.{NoItem, Kern}
 use Rattle.formula.specs.declared.FieldHead.{FieldHead}
 use Rattle.formula.specs.declared.FieldHead.the-variants.{NoField, Empty, Sublist, CutSublist}
 use Rattle.formula.specs.Heads.{atomOf, greatestKern, kernWithin, kernOpening, symbolHead, listHead, fieldHead}
+use Rattle.formula.specs.Slices.{tail-part}
 
 pub one : (s : List ℕ) → 1 ≤ length s → s ≡ getD s 0 0 ∷ drop 1 s
 one [] h = absurd (omega arith)
@@ -52,9 +51,6 @@ module _ {A : Type 0} (f : List ℕ → A) (x : A) where
   short-four e g h k (a ∷ b ∷ []) l = h a b
   short-four e g h k (a ∷ b ∷ c ∷ []) l = k a b c
   short-four e g h k (a ∷ b ∷ c ∷ d ∷ s) l = absurd (omega arith)
-
-pub tail-part : (s : List ℕ) (k : ℕ) → take (length s - k) (drop k s) ≡ drop k s
-tail-part s k = take-all (length s - k) (drop k s) (omega (arith, length-drop k s))
 
 -- ---- numbers that stand for values
 

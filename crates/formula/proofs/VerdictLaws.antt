@@ -27,9 +27,9 @@ use Rattle.formula.specs.Heads.{openingOf, fieldHead}
 use Rattle.formula.specs.Reading.{Read, good, fault, Got, got, stopped, _thenAt_, unreadableNumber, tooDeepNumber, listGot, fieldBy, fieldAt, thirdAt, noadAt, openedBy, itemBy, before, restBy, read}
 use Rattle.formula.specs.Verdicts.{told, stepOf}
 use Rattle.formula.specs.Places.{headBytes, contents, hasThird, headAt, openedBytes}
+use Rattle.formula.specs.Slices.{tail-part, field-part}
 use Rattle.formula.specs.HeadLaws.{head-fits, contents-shorter, opening-fits}
 use Rattle.formula.specs.ReadingLaws.{by-length, read-none, read-some}
-use Rattle.formula.proofs.FirstBytes.{tail-part}
 
 -- ---- a list
 
@@ -211,18 +211,12 @@ module _ (levels at : ℕ) (s : List ℕ) where
       go zero pos = absurd (omega arith)
       go (suc d) pos = refl
 
-  -- the bytes that the code's `&s[start..end]` holds
-  part-is : (n : ℕ) → let start = at + listOpeningBytes in take (start + n - start) (drop start s) ≡ contents n (drop at s)
-  part-is n =
-      let e : at + listOpeningBytes + n - (at + listOpeningBytes) ≡ n = omega arith in
-      rw (e, drop-drop)
-
   pub field-list : (n : ℕ) (v : Verdict) → fieldHead rest ≡ Sublist n → 0 < levels →
       let start = at + listOpeningBytes in
       told (read (levels - 1) (take (start + n - start) (drop start s))) ≡ v →
       stepOf (fieldAt read levels s at) ≡ inside start n v
   unfolding fieldBy stepOf
-  field-list n v e pos h = field-step (Sublist n) e ∙ go levels pos (rw (part-is n) at h)
+  field-list n v e pos h = field-step (Sublist n) e ∙ go levels pos (rw field-part at h)
     where
       go : (d : ℕ) → 0 < d → told (read (d - 1) (contents n (drop at s))) ≡ v →
           stepOf (fieldBy read d at (drop at s) (Sublist n)) ≡ inside (at + listOpeningBytes) n v

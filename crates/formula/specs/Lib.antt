@@ -3,6 +3,7 @@ pub mod Heads
 pub mod Reading
 pub mod Verdicts
 pub mod Places
+pub mod Slices
 pub mod HeadLaws
 pub mod ReadingLaws
 pub mod PlacesLaws

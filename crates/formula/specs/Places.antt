@@ -5,7 +5,7 @@
 --     fieldOf, GoodField   a field, from its kind byte on
 --     second, third, end   the places of an item's fields, and the place behind it
 --     itemSize, itemOf, GoodItem     an item, by its opening
--- That they say what `read` says is shown in `ReadingLaws`.
+-- That they say what `read` says is shown in `PlacesLaws`.
 -- Assumes nothing.
 use mathlib.Core.Bool.{Bool, true, false}
 use mathlib.Core.List.{List}

@@ -1,7 +1,7 @@
 -- Laws of `read`.
 --     FieldIs, ItemIs      a field, an item, is this tree by its head, with P for "this list of bytes is these items":
 --                          one predicate for every kind; `item-map` changes the P
---     size-fits, size-some an item lies in its list, and takes a byte at least
+--     behind-in, size-fits, size-some     a field and an item lie in their list, and an item takes a byte at least
 --     item-got, got-item   `itemBy` gives an item exactly where `ItemIs` holds, and the place behind it is `itemSize`
 --     read-step            the equation of `read` with no number of steps in it, from `enough`
 --     list-good, good-list a list that is not empty reads exactly where its first item and the rest do
@@ -111,7 +111,7 @@ module _ (P Q : Says) (s : List ℕ)
 
 -- ---- an item lies in its list
 
-behind-in : (s : List ℕ) (at : ℕ) → at ≤ length s → behind s at ≤ length s
+pub behind-in : (s : List ℕ) (at : ℕ) → at ≤ length s → behind s at ≤ length s
 behind-in s at h = omega (arith, head-fits (drop at s) (headAt s at) refl, length-drop at s)
 
 third-end-in : (s : List ℕ) (has : Bool) (at : ℕ) → at ≤ length s → thirdEnd s has at ≤ length s

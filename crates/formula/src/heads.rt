@@ -3,13 +3,13 @@
 ghost use mathlib.Core.Path.{_≡_};
 ghost use mathlib.Core.Bool.{_&&_};
 ghost use mathlib.Core.Option.{some};
-ghost use Prim.Native.Nat.{_+_, _*_, _^_, _<_};
+ghost use Prim.Native.Nat.{_+_, _*_, _^_, _≤_, _<_};
 ghost use lib.Dec.{eqb};
-ghost use lib.ListN.{getElem?};
+ghost use lib.ListN.{length, getElem?};
 ghost use Rattle.scaled.specs.Words.{signedWord};
 ghost use Rattle.formula.specs.Tree.{openingBytes};
 ghost use Rattle.formula.specs.Heads.{markOf, classes, limitKinds, isOp, isDisplayOnly, atomOf, atomOpening, fractionOpening, kernWithin, kernOpening, opens, openingOf, symbolHead, listHead, fieldHead};
-ghost use Rattle.formula.specs.Places.{headBytes, hasThird};
+ghost use Rattle.formula.specs.Places.{headBytes, hasThird, behind};
 use crate::Bar;
 use crate::Class;
 use crate::FieldHead;
@@ -276,6 +276,14 @@ pub fn field_bytes(head: FieldHead) -> usize
         FieldHead::Sublist(n) => 3 + n,
         FieldHead::CutSublist => 0,
     }
+}
+
+// The place behind the field whose kind byte stands at `at` of its item.
+pub fn behind(s: &[u8], at: usize) -> usize
+    requires { ⌜ at ≤ length (now s) ⌝ }
+    ensures { λ r. ⌜ r ≡ behind (now (s .entry)) at ⌝ }
+{
+    at + field_bytes(field_head(&s[at..]))
 }
 
 fn symbol_head(s: &[u8]) -> FieldHead

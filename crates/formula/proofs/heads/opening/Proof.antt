@@ -5,7 +5,8 @@ use native.Mathlib.Omega.{arith}
 use borrow.Author.Needs.{needs}
 use Rattle.formula.specs.declared.Opening.the-variants.{NoItem}
 use Rattle.formula.specs.Heads.{opens, openingOf}
-use Rattle.formula.proofs.FirstBytes.{two, short-two, tail-part}
+use Rattle.formula.specs.Slices.{tail-part}
+use Rattle.formula.proofs.FirstBytes.{two, short-two}
 use Rattle.formula.proofs.heads.opening.Statement.{statement}
 use Rattle.formula.proofs.heads.opening.Tie as tie
 
