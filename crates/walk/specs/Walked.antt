@@ -15,7 +15,7 @@ use lib.ListN.{length, take, drop}
 use Rattle.scaled.specs.Length.{maxℤ}
 use Rattle.scaled.specs.Signed.{Within}
 use Rattle.font.specs.Font.{Font, fontOf}
-use Rattle.font.specs.Answers.{metricsAs, HoldsParameters}
+use Rattle.font.specs.Answers.{metricsAs}
 use Rattle.font.specs.Table.{goodTable}
 use Rattle.formula.specs.declared.Class.{Class}
 use Rattle.formula.specs.declared.Kind.{Kind}
@@ -81,7 +81,7 @@ soughtAs Absent = none
 -- a table that breaks no rule, and its parameters
 pub record Ready (p : List (List ℕ)) (t : List ℕ) : Type 0 where
   pub good : goodTable t ≡ true
-  pub holds : HoldsParameters p t
+  pub parameters-are : parametersIn p ≡ fontOf t .parameter
 
 -- ---- a field
 

@@ -9,7 +9,7 @@ ghost use Rattle.rules.specs.Values.{neighbourAs};
 ghost use Rattle.walk.specs.Setting.{nextClass};
 ghost use Rattle.walk.specs.Walked.{longest, NoadAt, PlacesAre};
 use formula::{Kind, Opening};
-use formula::heads::{field_bytes, field_head, has_third, opening, opening_bytes};
+use formula::heads::{behind, has_third, opening, opening_bytes};
 use rules::classes::{Neighbour, class_of};
 
 // The first bytes of the fields, and the byte behind the item. A fraction has no third field.
@@ -18,14 +18,6 @@ pub struct Places {
     pub second: usize,
     pub third: usize,
     pub end: usize,
-}
-
-// The byte behind the field that stands at a place.
-fn behind(s: &[u8], at: usize) -> usize
-    requires { ⌜ (at ≤ length (now s)) × (length (now s) ≤ longest) ⌝ }
-    ensures { λ r. ⌜ (r ≡ tree.behind (now (s .entry)) at) × (r ≤ length (now (s .entry))) ⌝ }
-{
-    at + field_bytes(field_head(&s[at..]))
 }
 
 pub fn places_of(s: &[u8], kind: Kind) -> Places
