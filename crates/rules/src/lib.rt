@@ -4,6 +4,9 @@
 pub mod boxes;
 pub mod classes;
 pub mod limits;
+pub mod scripts;
+pub mod fractions;
+pub mod arrange;
 pub mod nucleus;
 pub mod parameters;
 pub mod spacing;
