@@ -1,14 +1,32 @@
 // An item, from the shapes of its fields: its size, where its fields stand, and its line or bar.
 use crate::Style;
-use crate::boxes::{Arranged, Script, Shape, given, size_of};
+use crate::boxes::Arranged;
+use crate::boxes::Script;
+use crate::boxes::Shape;
+use crate::boxes::given;
+use crate::boxes::size_of;
 use crate::classes::is_op;
 use crate::fractions::fraction;
-use crate::limits::{has_limits, limited};
-use crate::nucleus::{atom_nucleus, overline, underline};
-use crate::parameters::{AXIS_HEIGHT, Parameters, RULE_THICKNESS, parameter};
+use crate::limits::has_limits;
+use crate::limits::limited;
+use crate::nucleus::atom_nucleus;
+use crate::nucleus::overline;
+use crate::nucleus::underline;
+use crate::parameters::AXIS_HEIGHT;
+use crate::parameters::Parameters;
+use crate::parameters::RULE_THICKNESS;
+use crate::parameters::parameter;
 use crate::scripts::scripted;
-use crate::styles::{cramped_style, denominator_style, font_size, is_display, numerator_style, subscript_style, superscript_style};
-use formula::{Class, Kind, Limits};
+use crate::styles::cramped_style;
+use crate::styles::denominator_style;
+use crate::styles::font_size;
+use crate::styles::is_display;
+use crate::styles::numerator_style;
+use crate::styles::subscript_style;
+use crate::styles::superscript_style;
+use formula::Class;
+use formula::Kind;
+use formula::Limits;
 ghost use mathlib.Core.Path.{_≡_};
 ghost use Rattle.rules.specs.Arrange.{firstStyle, secondStyle, thirdStyle, isGiven};
 ghost use Rattle.rules.specs.Arrange as rule;
@@ -50,7 +68,11 @@ pub fn enlarges(kind: Kind, style: Style) -> bool
 {
     match kind {
         Kind::Atom(class, _) => {
-            if is_op(class) { is_display(style) } else { false }
+            if is_op(class) {
+                is_display(style)
+            } else {
+                false
+            }
         }
         Kind::Over => false,
         Kind::Under => false,
@@ -76,7 +98,15 @@ pub fn arrange(p: Parameters, style: Style, kind: Kind, x: Shape, y: Shape, z: S
     }
 }
 
-fn atom(p: Parameters, style: Style, class: Class, limits: Limits, x: Shape, superscript: Script, subscript: Script) -> Arranged
+fn atom(
+    p: Parameters,
+    style: Style,
+    class: Class,
+    limits: Limits,
+    x: Shape,
+    superscript: Script,
+    subscript: Script,
+) -> Arranged
     requires { ⌜ ModerateShape x × ModerateScript superscript × ModerateScript subscript ⌝ }
     ensures { λ r. ⌜ (arrangedAs r ≡ rule.atom (parametersIn p) style class limits (shapeAs x) (scriptAs superscript) (scriptAs subscript)) × Bounded r ⌝ }
 {

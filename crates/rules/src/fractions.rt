@@ -1,8 +1,24 @@
 // Fractions (rules 15 to 15d): numerator x, denominator z, bar thickness θ.
 use crate::Style;
-use crate::boxes::{Arranged, Line, Place, Rule, Shifts, Size, centred, origin};
-use crate::parameters::{AXIS_HEIGHT, DENOM1, DENOM2, NUM1, NUM2, NUM3, Parameters, RULE_THICKNESS, parameter};
-use crate::styles::{font_size, is_display};
+use crate::boxes::Arranged;
+use crate::boxes::Line;
+use crate::boxes::Place;
+use crate::boxes::Rule;
+use crate::boxes::Shifts;
+use crate::boxes::Size;
+use crate::boxes::centred;
+use crate::boxes::origin;
+use crate::parameters::AXIS_HEIGHT;
+use crate::parameters::DENOM1;
+use crate::parameters::DENOM2;
+use crate::parameters::NUM1;
+use crate::parameters::NUM2;
+use crate::parameters::NUM3;
+use crate::parameters::Parameters;
+use crate::parameters::RULE_THICKNESS;
+use crate::parameters::parameter;
+use crate::styles::font_size;
+use crate::styles::is_display;
 use formula::Bar;
 use scaled::Sp;
 ghost use mathlib.Core.Path.{_≡_};
@@ -24,7 +40,13 @@ pub fn fraction(p: Parameters, style: Style, bar: Bar, x: Size, z: Size) -> Arra
     let theta = bar_thickness(p, size, bar);
     let t = final_shifts(p, style, theta, x, z);
     let w = x.width.max(z.width);
-    stacked(x, z, w, t, bar_of(parameter(p, size, AXIS_HEIGHT), theta, w))
+    stacked(
+        x,
+        z,
+        w,
+        t,
+        bar_of(parameter(p, size, AXIS_HEIGHT), theta, w),
+    )
 }
 
 // 15: with thickness 0 there is no bar.

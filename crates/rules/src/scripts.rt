@@ -1,9 +1,26 @@
 // Superscripts and subscripts (rules 18a to 18f). Each stage of a shift has a name; u, v and ψ are the rule's letters.
 use crate::Style;
-use crate::boxes::{Arranged, Place, Script, Shifts, Size, origin};
+use crate::boxes::Arranged;
+use crate::boxes::Place;
+use crate::boxes::Script;
+use crate::boxes::Shifts;
+use crate::boxes::Size;
+use crate::boxes::origin;
 use crate::nucleus::Nucleus;
-use crate::parameters::{Parameters, RULE_THICKNESS, SUB1, SUB2, SUB_DROP, SUP1, SUP2, SUP3, SUP_DROP, X_HEIGHT, parameter};
-use crate::styles::{font_size, is_display, superscript_style};
+use crate::parameters::Parameters;
+use crate::parameters::RULE_THICKNESS;
+use crate::parameters::SUB_DROP;
+use crate::parameters::SUB1;
+use crate::parameters::SUB2;
+use crate::parameters::SUP_DROP;
+use crate::parameters::SUP1;
+use crate::parameters::SUP2;
+use crate::parameters::SUP3;
+use crate::parameters::X_HEIGHT;
+use crate::parameters::parameter;
+use crate::styles::font_size;
+use crate::styles::is_display;
+use crate::styles::superscript_style;
 use scaled::Sp;
 ghost use mathlib.Core.Path.{_≡_};
 ghost use Prim.Native.Nat.{_<_};
@@ -16,7 +33,13 @@ ghost use Rattle.rules.specs.Bounds.{words, itemWords, Moderate, Moderat
 // The blank behind each script.
 const SCRIPT_SPACE: i64 = 32768;
 
-pub fn scripted(p: Parameters, style: Style, n: Nucleus, superscript: Script, subscript: Script) -> Arranged
+pub fn scripted(
+    p: Parameters,
+    style: Style,
+    n: Nucleus,
+    superscript: Script,
+    subscript: Script,
+) -> Arranged
     requires { ⌜ ModerateNucleus n × ModerateScript superscript × ModerateScript subscript ⌝ }
     ensures { λ r. ⌜ (arrangedAs r ≡ rule.scripted (parametersIn p) style (nucleusAs n) (scriptAs superscript) (scriptAs subscript)) × Bounded r ⌝ }
 {
@@ -220,7 +243,17 @@ fn with_subscript(n: Nucleus, y: Size, v: Sp) -> Arranged
     let top = y.height.minus(v).max(Sp(0));
     let bottom = y.depth.plus(v).max(Sp(0));
     let across = n.size.width;
-    assembled(n, origin(), Place { across, up: v.negated() }, w, top, bottom)
+    assembled(
+        n,
+        origin(),
+        Place {
+            across,
+            up: v.negated(),
+        },
+        w,
+        top,
+        bottom,
+    )
 }
 
 // 18f: the superscript of a pair stands δ further right.
@@ -238,14 +271,24 @@ fn with_pair(n: Nucleus, x: Size, y: Size, t: Shifts) -> Arranged
         across,
         up: t.down.negated(),
     };
-    assembled(n, second, third, pair_width(n, x, y), pair_top(x, y, t), pair_bottom(x, y, t))
+    assembled(
+        n,
+        second,
+        third,
+        pair_width(n, x, y),
+        pair_top(x, y, t),
+        pair_bottom(x, y, t),
+    )
 }
 
 fn pair_width(n: Nucleus, x: Size, y: Size) -> Sp
     requires { ⌜ ModerateNucleus n × Moderate x × Moderate y ⌝ }
     ensures { λ r. ⌜ (r .0 ≡ pairWidth (nucleusAs n) (sizeAs x) (sizeAs y)) × Within (words 4) (r .0) ⌝ }
 {
-    x.width.plus(Sp(SCRIPT_SPACE)).plus(n.delta).max(y.width.plus(Sp(SCRIPT_SPACE)))
+    x.width
+        .plus(Sp(SCRIPT_SPACE))
+        .plus(n.delta)
+        .max(y.width.plus(Sp(SCRIPT_SPACE)))
 }
 
 fn pair_top(x: Size, y: Size, t: Shifts) -> Sp

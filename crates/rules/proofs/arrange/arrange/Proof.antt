@@ -1,5 +1,11 @@
-use native.Mathlib.Omega.{arith}
+-- `arrange` meets its contract: each arm is a clause of the definition.
+-- Assumes nothing.
+use mathlib.Core.Path.{ap, ap₂, _∙_}
+use mathlib.Core.Option.{Option}
 use borrow.Author.Needs.{needs}
+use Rattle.rules.specs.Boxes.{Size}
+use Rattle.rules.specs.Values.{parametersIn, shapeAs}
+use Rattle.rules.specs.Arrange.{atom, arrange}
 use Rattle.rules.proofs.arrange.arrange.Statement.{statement}
 use Rattle.rules.proofs.arrange.arrange.Tie as tie
 
@@ -76,16 +82,57 @@ fraction-requires : tie.Need-fraction-requires
 fraction-requires c κs = search needs
 
 returns : tie.Need-returns
-returns c = ?
+unfolding arrange
+returns c =
+    let lower = c .before in
+    let upper = lower .before in
+    let arm = upper .before .before in
+    let start = arm .before .before in
+    let class = arm .kind .given .0 .0 in
+    let limits = arm .kind .given .0 .1 .0 in
+    let x = shapeAs (start .args .x) in (
+      rw (arm .kind .given .1)
+          (c .atom .ensures .0
+          ∙ ap₂ (λ (a b : Option Size). atom (parametersIn (start .args .p)) (start .args .style) class limits x a b) (upper .given .ensures .0) (lower .given2 .ensures .0)),
+      c .atom .ensures .1,
+    )
 
 returns-2 : tie.Need-returns-2
-returns-2 c = ?
+unfolding arrange
+returns-2 c =
+    let scripts = c .before in
+    let nucleus = scripts .before .before in
+    let inner = nucleus .before in
+    let theta = inner .before in
+    let told = theta .before .before .enum-told .given .1 in
+    let width = ap (λ (z : Size). z .width) (inner .size-of .ensures .0) in
+    let height = ap (λ (z : Size). z .height) (inner .size-of .ensures .0) in
+    let depth = ap (λ (z : Size). z .depth) (inner .size-of .ensures .0) in (
+      rw told (rw (scripts .given4 .ensures .0, scripts .before .given3 .ensures .0, nucleus .overline .ensures .0, theta .parameter .ensures .0 .is, theta .before .font-size .ensures .0, width, height, depth) at (c .scripted .ensures .0)),
+      c .scripted .ensures .1,
+    )
 
 returns-3 : tie.Need-returns-3
-returns-3 c = ?
+unfolding arrange
+returns-3 c =
+    let scripts = c .before in
+    let nucleus = scripts .before .before in
+    let inner = nucleus .before in
+    let theta = inner .before in
+    let told = theta .before .before .enum-told2 .given .1 in
+    let width = ap (λ (z : Size). z .width) (inner .size-of2 .ensures .0) in
+    let height = ap (λ (z : Size). z .height) (inner .size-of2 .ensures .0) in
+    let depth = ap (λ (z : Size). z .depth) (inner .size-of2 .ensures .0) in (
+      rw told (rw (scripts .given6 .ensures .0, scripts .before .given5 .ensures .0, nucleus .underline .ensures .0, theta .parameter2 .ensures .0 .is, theta .before .font-size2 .ensures .0, width, height, depth) at (c .scripted2 .ensures .0)),
+      c .scripted2 .ensures .1,
+    )
 
 returns-4 : tie.Need-returns-4
-returns-4 c = ?
+unfolding arrange
+returns-4 c =
+    let lower = c .before in
+    let arm = lower .before .before .before in
+    (rw (arm .kind2 .given .1) (rw (lower .size-of4 .ensures .0, lower .before .size-of3 .ensures .0) at (c .fraction .ensures .0)), c .fraction .ensures .1)
 
 pub arrange-spec : {M : Type 1} → statement M
 arrange-spec =

@@ -1,4 +1,5 @@
-use native.Mathlib.Omega.{arith}
+-- `atom` meets its contract, by whether limits are set.
+-- Assumes nothing.
 use borrow.Author.Needs.{needs}
 use Rattle.rules.proofs.arrange.atom.Statement.{statement}
 use Rattle.rules.proofs.arrange.atom.Tie as tie
@@ -28,10 +29,26 @@ scripted-requires : tie.Need-scripted-requires
 scripted-requires c κs = search needs
 
 returns : tie.Need-returns
-returns c = ?
+returns c =
+    let tested = c .before in
+    let nucleus = tested .before in
+    let operator = nucleus .before .before in
+    let limits = operator .before in
+    let axis = limits .before in (
+      rw (← limits .has-limits .ensures, tested .if1 .taken) (rw (nucleus .atom-nucleus .ensures .0, nucleus .before .is-given .ensures, operator .is-op .ensures, axis .parameter .ensures .0 .is, axis .before .font-size .ensures .0, limits .has-limits .ensures) at (c .limited .ensures .0)),
+      c .limited .ensures .1,
+    )
 
 returns-2 : tie.Need-returns-2
-returns-2 c = ?
+returns-2 c =
+    let tested = c .before in
+    let nucleus = tested .before in
+    let operator = nucleus .before .before in
+    let limits = operator .before in
+    let axis = limits .before in (
+      rw (← limits .has-limits .ensures, tested .if1 .left) (rw (nucleus .atom-nucleus .ensures .0, nucleus .before .is-given .ensures, operator .is-op .ensures, axis .parameter .ensures .0 .is, axis .before .font-size .ensures .0, limits .has-limits .ensures) at (c .scripted .ensures .0)),
+      c .scripted .ensures .1,
+    )
 
 pub atom-spec : {M : Type 1} → statement M
 atom-spec =

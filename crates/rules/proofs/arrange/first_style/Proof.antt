@@ -1,4 +1,5 @@
-use native.Mathlib.Omega.{arith}
+-- `first_style` meets its contract: each arm is a clause of the definition.
+-- Assumes nothing.
 use borrow.Author.Needs.{needs}
 use Rattle.rules.proofs.arrange.first_style.Statement.{statement}
 use Rattle.rules.proofs.arrange.first_style.Tie as tie
@@ -25,13 +26,13 @@ returns : tie.Need-returns
 returns c = search needs
 
 returns-2 : tie.Need-returns-2
-returns-2 c = ?
+returns-2 c = rw (c .before .enum-told2 .given .1) (c .cramped-style .ensures)
 
 returns-3 : tie.Need-returns-3
 returns-3 c = search needs
 
 returns-4 : tie.Need-returns-4
-returns-4 c = ?
+returns-4 c = rw (c .before .enum-told4 .given .1) (c .numerator-style .ensures)
 
 pub first-style-spec : {M : Type 1} → statement M
 first-style-spec =

@@ -1,4 +1,5 @@
-use native.Mathlib.Omega.{arith}
+-- `second_style` meets its contract: each arm is a clause of the definition.
+-- Assumes nothing.
 use borrow.Author.Needs.{needs}
 use Rattle.rules.proofs.arrange.second_style.Statement.{statement}
 use Rattle.rules.proofs.arrange.second_style.Tie as tie
@@ -28,16 +29,16 @@ denominator-style-requires : tie.Need-denominator-style-requires
 denominator-style-requires c κs = search needs
 
 returns : tie.Need-returns
-returns c = ?
+returns c = rw (c .before .enum-told .given .1) (c .superscript-style .ensures)
 
 returns-2 : tie.Need-returns-2
-returns-2 c = ?
+returns-2 c = rw (c .before .enum-told2 .given .1) (c .superscript-style2 .ensures)
 
 returns-3 : tie.Need-returns-3
-returns-3 c = ?
+returns-3 c = rw (c .before .enum-told3 .given .1) (c .superscript-style3 .ensures)
 
 returns-4 : tie.Need-returns-4
-returns-4 c = ?
+returns-4 c = rw (c .before .enum-told4 .given .1) (c .denominator-style .ensures)
 
 pub second-style-spec : {M : Type 1} → statement M
 second-style-spec =

@@ -1,4 +1,6 @@
-use native.Mathlib.Omega.{arith}
+-- `bar_of` meets its contract, by whether the thickness is above 0.
+-- Assumes nothing.
+use mathlib.Core.Path.{refl, sym, _∙_}
 use borrow.Author.Needs.{needs}
 use Rattle.rules.proofs.fractions.bar_of.Statement.{statement}
 use Rattle.rules.proofs.fractions.bar_of.Tie as tie
@@ -16,10 +18,17 @@ minus-requires : tie.Need-minus-requires
 minus-requires c κs = search needs
 
 returns : tie.Need-returns
-returns c = ?
+returns c =
+    let top = c .before in
+    let half = top .before in
+    let tested = half .before in
+    let yes = sym (tested .before .has-bar .ensures) ∙ tested .if1 .taken in
+    (rw (yes, c .minus .ensures .is, top .plus .ensures .is, half .half .ensures .is), search needs)
 
 returns-2 : tie.Need-returns-2
-returns-2 c = search needs
+returns-2 c =
+    let no = sym (c .before .has-bar .ensures) ∙ c .if1 .left in
+    (rw no refl, tt)
 
 pub bar-of-spec : {M : Type 1} → statement M
 bar-of-spec =

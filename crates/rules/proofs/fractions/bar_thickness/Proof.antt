@@ -1,4 +1,5 @@
-use native.Mathlib.Omega.{arith}
+-- `bar_thickness` meets its contract: the default thickness is the parameter.
+-- Assumes nothing.
 use borrow.Author.Needs.{needs}
 use Rattle.rules.proofs.fractions.bar_thickness.Statement.{statement}
 use Rattle.rules.proofs.fractions.bar_thickness.Tie as tie
@@ -13,7 +14,7 @@ enum-told-2 : tie.Need-enum-told-2
 enum-told-2 c = search needs
 
 returns : tie.Need-returns
-returns c = ?
+returns c = (rw (c .before .enum-told .given .1) (c .parameter .ensures .0 .is), search needs)
 
 returns-2 : tie.Need-returns-2
 returns-2 c = search needs

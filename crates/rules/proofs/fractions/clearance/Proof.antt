@@ -1,4 +1,5 @@
-use native.Mathlib.Omega.{arith}
+-- `clearance` meets its contract: each difference is that of the definition.
+-- Assumes nothing.
 use borrow.Author.Needs.{needs}
 use Rattle.rules.proofs.fractions.clearance.Statement.{statement}
 use Rattle.rules.proofs.fractions.clearance.Tie as tie
@@ -13,7 +14,7 @@ minus-requires-3 : tie.Need-minus-requires-3
 minus-requires-3 c κs = search needs
 
 returns : tie.Need-returns
-returns c = ?
+returns c = (rw (c .minus3 .ensures .is, c .before .minus2 .ensures .is, c .before .before .minus .ensures .is), search needs)
 
 pub clearance-spec : {M : Type 1} → statement M
 clearance-spec = tie.close (tie.spec minus-requires minus-requires-2 minus-requires-3 returns)

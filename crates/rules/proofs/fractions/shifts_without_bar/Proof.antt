@@ -1,5 +1,7 @@
-use native.Mathlib.Omega.{arith}
+-- `shifts_without_bar` meets its contract: the clearances are those of the definition.
+-- Assumes nothing.
 use borrow.Author.Needs.{needs}
+use Rattle.rules.specs.Fractions.{shiftsWithoutBar}
 use Rattle.rules.proofs.fractions.shifts_without_bar.Statement.{statement}
 use Rattle.rules.proofs.fractions.shifts_without_bar.Tie as tie
 
@@ -13,7 +15,8 @@ parted-requires : tie.Need-parted-requires
 parted-requires c κs = search needs
 
 returns : tie.Need-returns
-returns c = ?
+unfolding shiftsWithoutBar
+returns c = (rw (c .before .clearance .ensures .0, c .before .before .least-clearance .ensures .0) at (c .parted .ensures .0), c .parted .ensures .1)
 
 pub shifts-without-bar-spec : {M : Type 1} → statement M
 shifts-without-bar-spec =

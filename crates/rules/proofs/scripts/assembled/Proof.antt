@@ -17,17 +17,18 @@ returns : tie.Need-returns
 returns c =
     let high = c .before in
     let wide = high .before in
-    let pre = wide .before .before .pre in
-    (rw (c .max2 .ensures .is, high .max .ensures .is, wide .plus .ensures .is),
-    record {
-      width = search needs;
-      height = search needs;
-      depth = search needs;
-      first = search needs;
-      second = pre .1;
-      third = pre .2;
-      rule = pre .0 .line;
-    })
+    let pre = wide .before .before .pre in (
+      rw (c .max2 .ensures .is, high .max .ensures .is, wide .plus .ensures .is),
+      record {
+        width = search needs;
+        height = search needs;
+        depth = search needs;
+        first = search needs;
+        second = pre .1;
+        third = pre .2;
+        rule = pre .0 .line;
+      },
+    )
 
 pub assembled-spec : {M : Type 1} → statement M
 assembled-spec = tie.close (tie.spec plus-requires max-requires max-requires-2 returns)

@@ -27,10 +27,11 @@ returns-2 : tie.Need-returns-2
 unfolding dropUp
 returns-2 c =
     let drop = c .before in
-    let size = drop .before in
-    (pick-no _ (size .before .before .if1 .left)
-    (rw (c .minus .ensures .is, drop .parameter .ensures .0 .is, size .font-size .ensures .0, size .before .superscript-style .ensures)),
-    search needs)
+    let size = drop .before in (
+      pick-no _ (size .before .before .if1 .left)
+          (rw (c .minus .ensures .is, drop .parameter .ensures .0 .is, size .font-size .ensures .0, size .before .superscript-style .ensures)),
+      search needs,
+    )
 
 pub drop-up-spec : {M : Type 1} → statement M
 drop-up-spec =

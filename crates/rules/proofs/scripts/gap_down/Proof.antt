@@ -20,9 +20,10 @@ plus-requires c κs = search needs
 returns : tie.Need-returns
 unfolding gapDown
 returns c =
-    let rest = c .before in
-    (rw (c .plus .ensures .is, rest .minus2 .ensures .is, rest .before .minus .ensures .is, rest .before .before .four-rules .ensures .0),
-    search needs)
+    let rest = c .before in (
+      rw (c .plus .ensures .is, rest .minus2 .ensures .is, rest .before .minus .ensures .is, rest .before .before .four-rules .ensures .0),
+      search needs,
+    )
 
 pub gap-down-spec : {M : Type 1} → statement M
 gap-down-spec =

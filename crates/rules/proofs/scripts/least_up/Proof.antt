@@ -29,11 +29,12 @@ returns-2 : tie.Need-returns-2
 unfolding leastUp
 returns-2 c =
     let display = c .before .before in
-    let tested = display .before in
-    (pick-no _ (tested .if1 .left)
-    (pick-yes _ (sym (display .is-display .ensures) ∙ c .before .if2 .taken)
-    (rw (c .parameter2 .ensures .0 .is, tested .before .font-size .ensures .0))),
-    search needs)
+    let tested = display .before in (
+      pick-no _ (tested .if1 .left)
+          (pick-yes _ (sym (display .is-display .ensures) ∙ c .before .if2 .taken)
+          (rw (c .parameter2 .ensures .0 .is, tested .before .font-size .ensures .0))),
+      search needs,
+    )
 
 parameter-requires-3 : tie.Need-parameter-requires-3
 parameter-requires-3 c κs = search needs
@@ -42,11 +43,12 @@ returns-3 : tie.Need-returns-3
 unfolding leastUp
 returns-3 c =
     let display = c .before .before in
-    let tested = display .before in
-    (pick-no _ (tested .if1 .left)
-    (pick-no _ (sym (display .is-display .ensures) ∙ c .before .if2 .left)
-    (rw (c .parameter3 .ensures .0 .is, tested .before .font-size .ensures .0))),
-    search needs)
+    let tested = display .before in (
+      pick-no _ (tested .if1 .left)
+          (pick-no _ (sym (display .is-display .ensures) ∙ c .before .if2 .left)
+          (rw (c .parameter3 .ensures .0 .is, tested .before .font-size .ensures .0))),
+      search needs,
+    )
 
 pub least-up-spec : {M : Type 1} → statement M
 least-up-spec =

@@ -21,9 +21,10 @@ returns : tie.Need-returns
 unfolding pairShifts
 returns c =
     let size = c .before in
-    let down = size .before in
-    (rw (size .font-size .ensures .0, down .pair-down .ensures .0, down .before .superscript-up .ensures .0) at (c .spread .ensures .0),
-    c .spread .ensures .1)
+    let down = size .before in (
+      rw (size .font-size .ensures .0, down .pair-down .ensures .0, down .before .superscript-up .ensures .0) at (c .spread .ensures .0),
+      c .spread .ensures .1,
+    )
 
 pub pair-shifts-spec : {M : Type 1} → statement M
 pair-shifts-spec =

@@ -75,16 +75,18 @@ returns c =
 returns-2 : tie.Need-returns-2
 unfolding scripted
 returns-2 c =
-    let arm = c .before .before .before in
-    (rw (arm .subscript .given .1, arm .before .before .enum-told .given .1) (rw (c .before .subscript-down .ensures .0) at (c .with-subscript .ensures .0)),
-    c .with-subscript .ensures .1)
+    let arm = c .before .before .before in (
+      rw (arm .subscript .given .1, arm .before .before .enum-told .given .1) (rw (c .before .subscript-down .ensures .0) at (c .with-subscript .ensures .0)),
+      c .with-subscript .ensures .1,
+    )
 
 returns-3 : tie.Need-returns-3
 unfolding scripted
 returns-3 c =
-    let arm = c .before .before in
-    (rw (arm .enum-told3 .given .1, arm .before .before .before .superscript .given .1) (rw (c .before .superscript-up .ensures .0) at (c .with-superscript .ensures .0)),
-    c .with-superscript .ensures .1)
+    let arm = c .before .before in (
+      rw (arm .enum-told3 .given .1, arm .before .before .before .superscript .given .1) (rw (c .before .superscript-up .ensures .0) at (c .with-superscript .ensures .0)),
+      c .with-superscript .ensures .1,
+    )
 
 returns-4 : tie.Need-returns-4
 unfolding scripted
@@ -93,9 +95,10 @@ returns-4 c =
     let upper = lower .before .before .before in
     let n = nucleusAs (upper .before .before .args .n) in
     let x = sizeAs (upper .superscript .given .0 .0) in
-    let y = sizeAs (lower .subscript2 .given .0 .0) in
-    (rw (lower .subscript2 .given .1, upper .superscript .given .1) (c .with-pair .ensures .0 ∙ ap (withPair n x y) (c .before .pair-shifts .ensures .0)),
-    c .with-pair .ensures .1)
+    let y = sizeAs (lower .subscript2 .given .0 .0) in (
+      rw (lower .subscript2 .given .1, upper .superscript .given .1) (c .with-pair .ensures .0 ∙ ap (withPair n x y) (c .before .pair-shifts .ensures .0)),
+      c .with-pair .ensures .1,
+    )
 
 pub scripted-spec : {M : Type 1} → statement M
 scripted-spec =

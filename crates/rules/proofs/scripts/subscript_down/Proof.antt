@@ -33,9 +33,10 @@ returns c =
     let both = c .before in
     let free = both .before in
     let least = free .before .before in
-    let dropped = least .before in
-    (rw (c .max2 .ensures .is, both .max .ensures .is, free .minus .ensures .is, free .before .four-fifths-x-height .ensures .0, least .parameter .ensures .0 .is, dropped .drop-down .ensures .0, dropped .before .font-size .ensures .0),
-    omega (arith, both .max .ensures .parts, free .minus .ensures .parts, free .before .four-fifths-x-height .ensures .1, least .parameter .ensures, dropped .drop-down .ensures .1, dropped .before .before .pre .1))
+    let dropped = least .before in (
+      rw (c .max2 .ensures .is, both .max .ensures .is, free .minus .ensures .is, free .before .four-fifths-x-height .ensures .0, least .parameter .ensures .0 .is, dropped .drop-down .ensures .0, dropped .before .font-size .ensures .0),
+      omega (arith, both .max .ensures .parts, free .minus .ensures .parts, free .before .four-fifths-x-height .ensures .1, least .parameter .ensures, dropped .drop-down .ensures .1, dropped .before .before .pre .1),
+    )
 
 pub subscript-down-spec : {M : Type 1} → statement M
 subscript-down-spec =

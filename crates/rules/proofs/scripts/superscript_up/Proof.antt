@@ -33,9 +33,10 @@ returns c =
     let both = c .before in
     let free = both .before in
     let size = free .before .before in
-    let least = size .before in
-    (rw (c .max2 .ensures .is, both .max .ensures .is, free .plus .ensures .is, free .before .quarter-x-height .ensures .0, size .font-size .ensures .0, least .least-up .ensures .0, least .before .drop-up .ensures .0),
-    omega (arith, both .max .ensures .parts, free .plus .ensures .parts, free .before .quarter-x-height .ensures .1, least .least-up .ensures .1, least .before .drop-up .ensures .1, least .before .before .pre .1))
+    let least = size .before in (
+      rw (c .max2 .ensures .is, both .max .ensures .is, free .plus .ensures .is, free .before .quarter-x-height .ensures .0, size .font-size .ensures .0, least .least-up .ensures .0, least .before .drop-up .ensures .0),
+      omega (arith, both .max .ensures .parts, free .plus .ensures .parts, free .before .quarter-x-height .ensures .1, least .least-up .ensures .1, least .before .drop-up .ensures .1, least .before .before .pre .1),
+    )
 
 pub superscript-up-spec : {M : Type 1} → statement M
 superscript-up-spec =

@@ -28,9 +28,10 @@ returns c =
     let top = bottom .before in
     let width = top .before in
     let third = width .before in
-    let second = third .before .before in
-    (rw (bottom .pair-bottom .ensures .0, top .pair-top .ensures .0, width .pair-width .ensures .0, third .negated .ensures .is, second .plus .ensures .is) at (c .assembled .ensures .0),
-    c .assembled .ensures .1)
+    let second = third .before .before in (
+      rw (bottom .pair-bottom .ensures .0, top .pair-top .ensures .0, width .pair-width .ensures .0, third .negated .ensures .is, second .plus .ensures .is) at (c .assembled .ensures .0),
+      c .assembled .ensures .1,
+    )
 
 pub with-pair-spec : {M : Type 1} → statement M
 with-pair-spec =

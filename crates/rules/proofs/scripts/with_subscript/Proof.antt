@@ -32,9 +32,14 @@ assembled-requires c κs =
     let bottom = c .before .before .before in
     let top = bottom .before .before in
     let width = top .before .before in
-    let pre = width .before .pre in
-    (pre .0, omega (arith, c .before .origin .ensures .1), omega (arith, pre), omega (arith, width .plus .ensures .parts, pre),
-    omega (arith, top .max .ensures .parts, top .before .minus .ensures .parts, pre), omega (arith, pre))
+    let pre = width .before .pre in (
+      pre .0,
+      omega (arith, c .before .origin .ensures .1),
+      omega (arith, pre),
+      omega (arith, width .plus .ensures .parts, pre),
+      omega (arith, top .max .ensures .parts, top .before .minus .ensures .parts, pre),
+      omega (arith, pre),
+    )
 
 returns : tie.Need-returns
 unfolding greatest
@@ -43,9 +48,10 @@ returns c =
     let blank = third .before in
     let bottom = blank .before .before in
     let top = bottom .before .before in
-    let width = top .before .before in
-    (rw (third .negated .ensures .is, blank .origin .ensures .0, bottom .max2 .ensures .is, bottom .before .plus2 .ensures .is, top .max .ensures .is, top .before .minus .ensures .is, width .plus .ensures .is) at (c .assembled .ensures .0),
-    c .assembled .ensures .1)
+    let width = top .before .before in (
+      rw (third .negated .ensures .is, blank .origin .ensures .0, bottom .max2 .ensures .is, bottom .before .plus2 .ensures .is, top .max .ensures .is, top .before .minus .ensures .is, width .plus .ensures .is) at (c .assembled .ensures .0),
+      c .assembled .ensures .1,
+    )
 
 pub with-subscript-spec : {M : Type 1} → statement M
 with-subscript-spec =

@@ -32,9 +32,10 @@ returns c =
     let blank = c .before in
     let bottom = blank .before .before in
     let top = bottom .before .before in
-    let width = top .before .before in
-    (rw (blank .origin .ensures .0, bottom .max2 .ensures .is, bottom .before .minus .ensures .is, top .max .ensures .is, top .before .plus2 .ensures .is, width .plus .ensures .is) at (c .assembled .ensures .0),
-    c .assembled .ensures .1)
+    let width = top .before .before in (
+      rw (blank .origin .ensures .0, bottom .max2 .ensures .is, bottom .before .minus .ensures .is, top .max .ensures .is, top .before .plus2 .ensures .is, width .plus .ensures .is) at (c .assembled .ensures .0),
+      c .assembled .ensures .1,
+    )
 
 pub with-superscript-spec : {M : Type 1} → statement M
 with-superscript-spec =
