@@ -1,3 +1,5 @@
 mod BenchTable
 mod Definitions
 mod Examples
+mod FaultNumbers
+mod Agreement
