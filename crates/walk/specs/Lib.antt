@@ -1,3 +1,4 @@
 pub mod Setting
 pub mod Missing
 pub mod Fitting
+pub mod MissingLaws
