@@ -1,19 +1,31 @@
--- What the values that the code hands out stand for in the definition.
+-- What the functions of this crate answer, in the terms of `Font`.
+--     foundAs            what a lookup found
+--     HoldsParameters    three rows of numbers hold the parameters of a table's font
+--     soundCharacters    the rules for the CH records, those for each and that for their order together
+--     soundFront         the same of the first record of some bytes, and of its order with the second
 -- Assumes nothing.
+use mathlib.Core.Path.{_≡_}
+use mathlib.Core.Bool.{Bool, _&&_, _||_}
+use mathlib.Core.List.{List, []}
 use mathlib.Core.Option.{Option, none, some}
-use Prim.Native.Nat.{ℕ}
-use Rattle.font.specs.Font.{Metrics as MetricsOf}
+use Prim.Native.Nat.{ℕ, _+_, _<_}
+use lib.Dec.{ltb}
+use lib.ListN.{length, getD, take, drop}
+use Rattle.font.specs.declared.Metrics as declared
 use Rattle.font.specs.declared.Successor.{Successor}
 use Rattle.font.specs.declared.Successor.the-variants.{Nothing, Code}
-use Rattle.font.specs.declared.Metrics.{Metrics}
 use Rattle.font.specs.declared.Found.{Found}
 use Rattle.font.specs.declared.Found.the-variants.{Symbol, Absent}
+use Rattle.font.specs.Table.{sizeCount, parameterCount, characterBytes, every, goodCharacter, before, rising}
+use Rattle.font.specs.Font.{Metrics, fontOf}
+
+-- ---- a lookup
 
 abbrev pub successorAs : Successor → Option ℕ
 successorAs Nothing = none
 successorAs (Code c) = some c
 
-abbrev pub metricsAs : Metrics → MetricsOf
+abbrev pub metricsAs : declared.Metrics → Metrics
 metricsAs m =
     record {
       width = m .width;
@@ -23,6 +35,27 @@ metricsAs m =
       successor = successorAs (m .successor);
     }
 
-abbrev pub foundAs : Found → Option MetricsOf
+abbrev pub foundAs : Found → Option Metrics
 foundAs (Symbol m) = some (metricsAs m)
 foundAs Absent = none
+
+-- ---- the parameters
+
+-- the numbers of r are the parameters of one size, of the font of t
+pub record HoldsRow (r : List ℕ) (t : List ℕ) (size : ℕ) : Type 0 where
+  pub held : (number : ℕ) → number < parameterCount → getD r number 0 ≡ fontOf t .parameter size number
+
+-- the rows of r are those of the three sizes
+pub record HoldsParameters (r : List (List ℕ)) (t : List ℕ) : Type 0 where
+  pub held : (size number : ℕ) → size < sizeCount → number < parameterCount →
+      getD (getD r size []) number 0 ≡ fontOf t .parameter size number
+
+-- ---- the CH records, as the check goes through them
+
+unfoldable pub soundCharacters : List (List ℕ) → Bool
+soundCharacters l = every goodCharacter l && rising l
+
+unfoldable pub soundFront : List ℕ → Bool
+soundFront s =
+    let r = take characterBytes s in
+    goodCharacter r && (ltb (length s) (characterBytes + characterBytes) || before r (take characterBytes (drop characterBytes s)))

@@ -1,5 +1,15 @@
 // The font table: its bytes, its parameters and its characters. What a good table is, and the font that it holds,
 // is defined in specs/Table.antt and specs/Font.antt; what these functions answer, in specs/Answers.antt.
+mod format;
+mod records;
+mod words;
+
+ghost use mathlib.Core.Path.{_≡_};
+ghost use Prim.Native.Nat.{ℕ, _<_, _≤_};
+ghost use lib.ListN.{length, getD};
+ghost use Rattle.font.specs.Table.{sizeCount, characterBytes, goodTable};
+ghost use Rattle.font.specs.Font.{fontOf, isOf, metricsOf, successorOf};
+ghost use Rattle.font.specs.Answers.{foundAs, metricsAs, successorAs, HoldsRow, HoldsParameters};
 
 // The code of the next larger symbol of the same family, if there is one.
 pub enum Successor {
@@ -7,6 +17,7 @@ pub enum Successor {
     Code(u8),
 }
 
+// What a table says of a symbol.
 pub struct Metrics {
     pub width: u32,
     pub height: u32,
@@ -15,7 +26,111 @@ pub struct Metrics {
     pub successor: Successor,
 }
 
+// What a lookup comes to.
 pub enum Found {
     Symbol(Metrics),
     Absent,
+}
+
+// Whether the table breaks no rule.
+pub fn is_good(table: &[u8]) -> bool
+    ensures { λ answer. ⌜ answer ≡ goodTable (now (table .entry)) ⌝ }
+{
+    if table.len() < format::HEADER_BYTES {
+        return false;
+    }
+    let n = (table.len() - format::HEADER_BYTES) / format::CHARACTER_BYTES;
+    if table.len() != format::HEADER_BYTES + format::CHARACTER_BYTES * n {
+        return false;
+    }
+    if format::MOST_CHARACTERS < n {
+        return false;
+    }
+    if !records::are_parameters(table) {
+        return false;
+    }
+    records::are_characters(&table[format::HEADER_BYTES..], n)
+}
+
+// The parameters of the three sizes; a byte past the end of the table counts as 0.
+pub fn parameters(table: &[u8]) -> [[u32; 35]; 3]
+    ensures { λ answer. ⌜ HoldsParameters answer (now (table .entry)) ⌝ }
+{
+    let text = row(table, 0);
+    let script = row(table, 1);
+    let scriptscript = row(table, 2);
+    [text, script, scriptscript]
+}
+
+// The parameters of one size.
+fn row(table: &[u8], size: usize) -> [u32; 35]
+    requires { ⌜ size < sizeCount ⌝ }
+    ensures { λ answer. ⌜ HoldsRow answer (now (table .entry)) size ⌝ }
+{
+    let start = format::PARAMETER_BYTES * size + format::FIRST_PARAMETER;
+    let mut words = [0u32; 35];
+    let mut number = 0;
+    while number < format::PARAMETER_COUNT {
+        words[number] = words::word(table, start + format::WORD_BYTES * number);
+        number += 1;
+    }
+    words
+}
+
+// The symbol of a size, family and code: the first record that is theirs.
+pub fn symbol(table: &[u8], size: u8, family: u8, code: u8) -> Found
+    ensures { λ answer. ⌜ foundAs answer ≡ fontOf (now (table .entry)) .symbol size family code ⌝ }
+{
+    if table.len() < format::HEADER_BYTES {
+        return Found::Absent;
+    }
+    let mut at = format::HEADER_BYTES;
+    while format::CHARACTER_BYTES <= table.len() - at {
+        let next = at + format::CHARACTER_BYTES;
+        if is_of(&table[at..next], size, family, code) {
+            return Found::Symbol(metrics_of(&table[at..next]));
+        }
+        at = next;
+    }
+    Found::Absent
+}
+
+// Whether a record is that of this size, family and code.
+fn is_of(r: &[u8], size: u8, family: u8, code: u8) -> bool
+    requires { ⌜ characterBytes ≤ length (now r) ⌝ }
+    ensures { λ answer. ⌜ answer ≡ isOf size family code (now (r .entry)) ⌝ }
+{
+    if r[format::SIZE] != size {
+        return false;
+    }
+    if r[format::FAMILY] != family {
+        return false;
+    }
+    r[format::CODE] == code
+}
+
+// The metrics in a record.
+fn metrics_of(r: &[u8]) -> Metrics
+    requires { ⌜ characterBytes ≤ length (now r) ⌝ }
+    ensures { λ answer. ⌜ metricsAs answer ≡ metricsOf (now (r .entry)) ⌝ }
+{
+    Metrics {
+        width: words::word(r, format::WIDTH),
+        height: words::word(r, format::HEIGHT),
+        depth: words::word(r, format::DEPTH),
+        italic: words::word(r, format::ITALIC),
+        successor: successor_of(r),
+    }
+}
+
+// The successor of a record's symbol, if its flag is set.
+fn successor_of(r: &[u8]) -> Successor
+    requires { ⌜ characterBytes ≤ length (now r) ⌝ }
+    ensures { λ answer. ⌜ successorAs answer ≡ successorOf (now (r .entry)) ⌝ }
+{
+    if r[format::FLAG] == 1 {
+        Successor::Code(r[format::SUCCESSOR])
+    } else {
+        Successor::Nothing
+    }
 }
