@@ -1,2 +1,9 @@
+-- Nodes, their bytes and how far they reach; what becomes of a buffer of nodes; the laws of these. Assumes nothing.
 pub mod Nodes
 pub mod Bounds
+pub mod NodeLaws
+pub mod Buffer
+pub mod BufferLaws
+pub mod Drawn
+pub mod Hull
+pub mod HullLaws

@@ -1,0 +1,33 @@
+-- `move_node` meets its contract, by `head-behind`.
+-- Assumes nothing.
+use native.Mathlib.Omega.{arith}
+use borrow.Author.Needs.{needs}
+use Rattle.nodes.proofs.Moves.{head-behind}
+use Rattle.nodes.proofs.move_node.Statement.{statement}
+use Rattle.nodes.proofs.move_node.Tie as tie
+
+add-add : tie.Need-add-add
+add-add c = search needs
+
+add-requires : tie.Need-add-requires
+add-requires c κs = search needs
+
+add-add-2 : tie.Need-add-add-2
+add-add-2 c = search needs
+
+add-requires-2 : tie.Need-add-requires-2
+add-requires-2 c κs = search needs
+
+same-length : tie.Need-same-length
+same-length c = search needs
+
+returns : tie.Need-returns
+returns c =
+    let second = c .before .before in
+    let first = second .before .before .before .before in
+    let args = first .before .before .before .args in
+    head-behind (args .at) (args .right) (args .up) (args .buf .now) (omega arith) (first .add .ensures) (second .add2 .ensures)
+
+pub move-node-spec : {M : Type 1} → statement M
+move-node-spec =
+    tie.close (tie.spec add-add add-requires add-add-2 add-requires-2 same-length returns)

@@ -1,0 +1,44 @@
+-- `put_rule` meets its contract: the words that it writes are those of the rule's width, at least 0, and of its thickness.
+-- Assumes nothing.
+use borrow.Author.Needs.{needs}
+use Rattle.nodes.proofs.Stores.{rule-bytes}
+use Rattle.nodes.proofs.put_rule.Statement.{statement}
+use Rattle.nodes.proofs.put_rule.Tie as tie
+
+max-requires : tie.Need-max-requires
+max-requires c κs = search needs
+
+word-of-requires : tie.Need-word-of-requires
+word-of-requires c κs = search needs
+
+word-of-requires-2 : tie.Need-word-of-requires-2
+word-of-requires-2 c κs = search needs
+
+put-node-requires : tie.Need-put-node-requires
+put-node-requires c κs = search needs
+
+same-length : tie.Need-same-length
+same-length c = search needs
+
+returns : tie.Need-returns
+returns c =
+    let put = c .before .before in
+    let thickness = put .before in
+    let width = thickness .before in
+    let greatest = width .before .before in
+    let args = greatest .before .before .args in
+    let bytes =
+    rule-bytes (args .x .0) (args .y .0) (args .width .0) (args .thickness .0) (greatest .max .ensures .is)
+    (width .word-of .ensures) (thickness .word-of2 .ensures) in
+    rw bytes at (put .put-node .ensures)
+
+pub put-rule-spec : {M : Type 1} → statement M
+put-rule-spec =
+    tie.close
+    (tie.spec
+    max-requires
+    word-of-requires
+    word-of-requires-2
+    put-node-requires
+    same-length
+    returns)

@@ -1,0 +1,30 @@
+-- `words::store_pair` meets its contract, by `pair-stores`.
+-- Assumes nothing.
+use mathlib.Core.Path.{_∙_}
+use borrow.Author.Needs.{needs}
+use Rattle.nodes.proofs.Stores.{pair-stores}
+use Rattle.nodes.proofs.words.store_pair.Statement.{statement}
+use Rattle.nodes.proofs.words.store_pair.Tie as tie
+
+store-requires : tie.Need-store-requires
+store-requires c κs = search needs
+
+add-store : tie.Need-add-store
+add-store c = search needs
+
+store-requires-2 : tie.Need-store-requires-2
+store-requires-2 c κs = search needs
+
+same-length : tie.Need-same-length
+same-length c = search needs
+
+returns : tie.Need-returns
+returns c =
+    let second = c .before .before in
+    let first = second .before .before .before .before in
+    let args = first .before .before .before .args in
+    second .store2 .ensures ∙ rw (first .store .ensures) (pair-stores (args .b .now) (args .at) (args .p) (args .q))
+
+pub store-pair-spec : {M : Type 1} → statement M
+store-pair-spec =
+    tie.close (tie.spec store-requires add-store store-requires-2 same-length returns)
