@@ -1,0 +1,435 @@
+-- Laws of `read`.
+--     FieldIs, ItemIs      a field, an item, is this tree by its head, with P for "this list of bytes is these items":
+--                          one predicate for every kind; `item-map` changes the P
+--     behind-in, size-fits, size-some     a field and an item lie in their list, and an item takes a byte at least
+--     item-got, got-item   `itemBy` gives an item exactly where `ItemIs` holds, and the place behind it is `itemSize`
+--     read-step            the equation of `read` with no number of steps in it, from `enough`
+--     list-good, good-list a list that is not empty reads exactly where its first item and the rest do
+--     agree                a list that reads with some number of levels reads to the same tree with any number that is
+--                          not less, or not less than the list is long
+-- Assumes nothing.
+use mathlib.Core.Path.{_≡_, refl, sym, ap, ap₂, _∙_}
+use mathlib.Core.Bool.{Bool, true, false}
+use mathlib.Core.List.{List, [], _∷_}
+use Prim.Native.Nat.{ℕ, zero, suc, _+_, _-_, _≤_, _<_, min}
+use native.Mathlib.Omega.{arith}
+use lib.ListN.{length, drop, length-drop}
+use Rattle.formula.specs.declared.Kind.{Kind}
+use Rattle.formula.specs.declared.Kind.the-variants.{Atom, Over, Under, Fraction}
+use Rattle.formula.specs.declared.Opening.{Opening}
+use Rattle.formula.specs.declared.Opening.the-variants.{NoItem, Fields, Kern}
+use Rattle.formula.specs.declared.FieldHead.{FieldHead}
+use Rattle.formula.specs.declared.FieldHead.the-variants.{NoField, Empty, Symbol, Sublist, CutSublist}
+use Rattle.formula.specs.Tree.{Items, Item, Field, nil, cons, noad, kern, empty, symbol, list, openingBytes, listOpeningBytes}
+use Rattle.formula.specs.Heads.{openingOf}
+use Rattle.formula.specs.Reading.{Read, good, fault, Got, got, stopped, _thenAt_, listGot, fieldBy, fieldAt, thirdAt, noadAt, openedBy, itemBy, before, restBy, listBy, readBy, read}
+use Rattle.formula.specs.Places.{headBytes, contents, hasThird, openedBytes, headAt, behind, second, third, thirdEnd, end, itemSize}
+use Rattle.formula.specs.HeadLaws.{head-fits, contents-shorter, opening-fits}
+
+pub by-length : (P : List ℕ → Type 0) → ((s : List ℕ) → ((r : List ℕ) → length r < length s → P r) → P s) →
+    (s : List ℕ) → P s
+by-length P step s = go (suc (length s)) s (omega arith)
+  where
+    go : (f : ℕ) (s : List ℕ) → length s < f → P s
+    go zero s h = absurd (omega arith)
+    go (suc f) s h = step s (λ r l. go f r (omega arith))
+
+-- ---- a field and an item by their heads
+
+-- what may be said of a list of bytes and of items
+abbrev pub Says : Type 1
+Says = List ℕ → Items → Type 0
+
+abbrev pub FieldIs : Says → List ℕ → FieldHead → Field → Type 0
+FieldIs P s NoField f = ⊥
+FieldIs P s Empty f = f ≡ empty
+FieldIs P s (Symbol family code) f = f ≡ symbol family code
+FieldIs P s (Sublist n) f = (l : Items) × P (contents n s) l × (f ≡ list l)
+FieldIs P s CutSublist f = ⊥
+
+module _ (P : Says) (s : List ℕ) where
+  abbrev pub FieldAtIs : ℕ → Field → Type 0
+  FieldAtIs at f = FieldIs P (drop at s) (headAt s at) f
+
+  abbrev pub ThirdIs : Bool → ℕ → Field → Type 0
+  ThirdIs true at f = FieldAtIs at f
+  ThirdIs false at f = f ≡ empty
+
+  pub record NoadIs (kind : Kind) (i : Item) : Type 0 where
+    pub a : Field
+    pub b : Field
+    pub c : Field
+    pub a-is : FieldAtIs (openingBytes kind) a
+    pub b-is : FieldAtIs (second s kind) b
+    pub c-is : ThirdIs (hasThird kind) (third s kind) c
+    pub is : i ≡ noad kind a b c
+
+  abbrev pub ItemIs : Opening → Item → Type 0
+  ItemIs NoItem i = ⊥
+  ItemIs (Fields kind) i = NoadIs kind i
+  ItemIs (Kern n) i = i ≡ kern (n .0)
+
+-- a field is at least one byte long
+pub head-some : (P : Says) (s : List ℕ) (h : FieldHead) (f : Field) → FieldIs P s h f → 0 < headBytes h
+head-some P s NoField f i = absurd i
+head-some P s Empty f i = omega arith
+head-some P s (Symbol family code) f i = omega arith
+head-some P s (Sublist n) f i = omega arith
+head-some P s CutSublist f i = absurd i
+
+module _ (P Q : Says) (s : List ℕ)
+    (to : (r : List ℕ) (l : Items) → length r < length s → P r l → Q r l) where
+  field-map : (at : ℕ) (f : Field) → FieldAtIs P s at f → FieldAtIs Q s at f
+  field-map at f i = go (headAt s at) refl i
+    where
+      go : (h : FieldHead) → headAt s at ≡ h → FieldIs P (drop at s) h f → FieldIs Q (drop at s) h f
+      go NoField e i = i
+      go Empty e i = i
+      go (Symbol family code) e i = i
+      go (Sublist n) e i =
+          let k = contents-shorter (drop at s) n e in
+          (i .0, to (contents n (drop at s)) (i .0) (omega (arith, length-drop at s)) (i .1), i .2)
+      go CutSublist e i = i
+
+  third-map : (has : Bool) (at : ℕ) (f : Field) → ThirdIs P s has at f → ThirdIs Q s has at f
+  third-map true at f i = field-map at f i
+  third-map false at f i = i
+
+  pub item-map : (o : Opening) (i : Item) → ItemIs P s o i → ItemIs Q s o i
+  item-map NoItem i h = h
+  item-map (Fields kind) i h =
+      record {
+        a = h .a;
+        b = h .b;
+        c = h .c;
+        a-is = field-map (openingBytes kind) (h .a) (h .a-is);
+        b-is = field-map (second s kind) (h .b) (h .b-is);
+        c-is = third-map (hasThird kind) (third s kind) (h .c) (h .c-is);
+        is = h .is;
+      }
+  item-map (Kern n) i h = h
+
+-- ---- an item lies in its list
+
+pub behind-in : (s : List ℕ) (at : ℕ) → at ≤ length s → behind s at ≤ length s
+behind-in s at h = omega (arith, head-fits (drop at s) (headAt s at) refl, length-drop at s)
+
+third-end-in : (s : List ℕ) (has : Bool) (at : ℕ) → at ≤ length s → thirdEnd s has at ≤ length s
+third-end-in s true at h = behind-in s at h
+third-end-in s false at h = h
+
+size-by : (s : List ℕ) (o : Opening) → openedBytes o ≤ length s → itemSize s o ≤ length s
+size-by s NoItem h = h
+size-by s (Fields kind) h =
+    third-end-in s (hasThird kind) (third s kind) (behind-in s (second s kind) (behind-in s (openingBytes kind) h))
+size-by s (Kern n) h = h
+
+pub size-fits : (s : List ℕ) → itemSize s (openingOf s) ≤ length s
+size-fits s = size-by s (openingOf s) (opening-fits s (openingOf s) refl)
+
+third-end-some : (s : List ℕ) (has : Bool) (at : ℕ) → 0 < at → 0 < thirdEnd s has at
+third-end-some s true at h = omega arith
+third-end-some s false at h = h
+
+pub size-some : (P : Says) (s : List ℕ) (o : Opening) (i : Item) → ItemIs P s o i → 0 < itemSize s o
+size-some P s NoItem i h = absurd h
+size-some P s (Fields kind) i h =
+    third-end-some s (hasThird kind) (third s kind)
+    (omega (arith, head-some P (drop (openingBytes kind) s) (headAt s (openingBytes kind)) (h .a) (h .a-is)))
+size-some P s (Kern n) i h = omega arith
+
+-- ---- `itemBy` gives an item exactly where `ItemIs` holds
+
+abbrev pub Reader : Type 0
+Reader = ℕ → List ℕ → Read
+
+-- read by R on the level below
+abbrev pub Below : Reader → ℕ → List ℕ → Items → Type 0
+Below R zero r l = ⊥
+Below R (suc levels) r l = R levels r ≡ good l
+
+stopped-got : {A B : Type 0} {number place : ℕ} {a : A} {e : ℕ} → stopped number place ≡ got a e → B
+stopped-got q = let z : _≡_ {A = ℕ} 0 1 = cc in absurd (omega arith)
+
+fault-good : {B : Type 0} {number place : ℕ} {l : Items} → fault number place ≡ good l → B
+fault-good q = let z : _≡_ {A = ℕ} 0 1 = cc in absurd (omega arith)
+
+then-got : {A B : Type 0} (g : Got A) (k : A → ℕ → Got B) (b : B) (e : ℕ) → (g thenAt k) ≡ got b e →
+    (a : A) × (m : ℕ) × (g ≡ got a m) × (k a m ≡ got b e)
+then-got (got a m) k b e q = (a, m, refl, q)
+then-got (stopped number place) k b e q = stopped-got q
+
+list-got : (at n : ℕ) (x : Read) (f : Field) (e : ℕ) → listGot at n x ≡ got f e →
+    (l : Items) × (x ≡ good l) × (f ≡ list l) × (e ≡ at + listOpeningBytes + n)
+unfolding listGot
+list-got at n (good l) f e q = (l, refl, (cc), (cc))
+list-got at n (fault number place) f e q = stopped-got q
+
+module _ (R : Reader) where
+  field-by-got : (levels at : ℕ) (s : List ℕ) (h : FieldHead) (f : Field) (e : ℕ) → fieldBy R levels at s h ≡ got f e →
+      FieldIs (Below R levels) s h f × (e ≡ at + headBytes h)
+  unfolding fieldBy
+  field-by-got levels at s NoField f e q = stopped-got q
+  field-by-got levels at s Empty f e q = ((cc), (cc))
+  field-by-got levels at s (Symbol family code) f e q = ((cc), (cc))
+  field-by-got zero at s (Sublist n) f e q = stopped-got q
+  field-by-got (suc levels) at s (Sublist n) f e q =
+      let g = list-got at n (R levels (contents n s)) f e q in
+      ((g .0, g .1, g .2), omega (arith, g .3))
+  field-by-got zero at s CutSublist f e q = stopped-got q
+  field-by-got (suc levels) at s CutSublist f e q = stopped-got q
+
+  got-field-by : (levels at : ℕ) (s : List ℕ) (h : FieldHead) (f : Field) → FieldIs (Below R levels) s h f →
+      fieldBy R levels at s h ≡ got f (at + headBytes h)
+  unfolding fieldBy listGot
+  got-field-by levels at s NoField f i = absurd i
+  got-field-by levels at s Empty f i = rw i
+  got-field-by levels at s (Symbol family code) f i = rw i
+  got-field-by zero at s (Sublist n) f i = absurd (i .1)
+  got-field-by (suc levels) at s (Sublist n) f i =
+      let e : at + listOpeningBytes + n ≡ at + (listOpeningBytes + n) = omega arith in
+      ap (listGot at n) (i .1) ∙ ap₂ got (sym (i .2)) e
+  got-field-by levels at s CutSublist f i = absurd i
+
+  module _ (levels : ℕ) (s : List ℕ) where
+    field-got : (at : ℕ) (f : Field) (e : ℕ) → fieldAt R levels s at ≡ got f e →
+        FieldAtIs (Below R levels) s at f × (e ≡ behind s at)
+    unfolding fieldAt
+    field-got at f e q = field-by-got levels at (drop at s) (headAt s at) f e q
+
+    got-field : (at : ℕ) (f : Field) → FieldAtIs (Below R levels) s at f → fieldAt R levels s at ≡ got f (behind s at)
+    unfolding fieldAt
+    got-field at f i = got-field-by levels at (drop at s) (headAt s at) f i
+
+    third-got : (kind : Kind) (at : ℕ) (f : Field) (e : ℕ) → thirdAt R levels s kind at ≡ got f e →
+        ThirdIs (Below R levels) s (hasThird kind) at f × (e ≡ thirdEnd s (hasThird kind) at)
+    unfolding thirdAt
+    third-got (Atom class limits) at f e q = field-got at f e q
+    third-got Over at f e q = field-got at f e q
+    third-got Under at f e q = field-got at f e q
+    third-got (Fraction bar) at f e q = ((cc), (cc))
+
+    got-third : (kind : Kind) (at : ℕ) (f : Field) → ThirdIs (Below R levels) s (hasThird kind) at f →
+        thirdAt R levels s kind at ≡ got f (thirdEnd s (hasThird kind) at)
+    unfolding thirdAt
+    got-third (Atom class limits) at f i = got-field at f i
+    got-third Over at f i = got-field at f i
+    got-third Under at f i = got-field at f i
+    got-third (Fraction bar) at f i = rw i
+
+    noad-got : (kind : Kind) (i : Item) (e : ℕ) → noadAt R levels s kind ≡ got i e →
+        NoadIs (Below R levels) s kind i × (e ≡ end s kind)
+    unfolding noadAt
+    noad-got kind i e q =
+        let g₁ = then-got (fieldAt R levels s (openingBytes kind)) _ i e q in
+        let f₁ = field-got (openingBytes kind) (g₁ .0) (g₁ .1) (g₁ .2) in
+        let g₂ = then-got (fieldAt R levels s (g₁ .1)) _ i e (g₁ .3) in
+        let f₂ = field-got (second s kind) (g₂ .0) (g₂ .1) (ap (fieldAt R levels s) (sym (f₁ .1)) ∙ g₂ .2) in
+        let g₃ = then-got (thirdAt R levels s kind (g₂ .1)) _ i e (g₂ .3) in
+        let f₃ = third-got kind (third s kind) (g₃ .0) (g₃ .1) (ap (thirdAt R levels s kind) (sym (f₂ .1)) ∙ g₃ .2) in (
+          record {
+            a = g₁ .0;
+            b = g₂ .0;
+            c = g₃ .0;
+            a-is = f₁ .0;
+            b-is = f₂ .0;
+            c-is = f₃ .0;
+            is = (cc);
+          },
+          (cc),
+        )
+
+    got-noad : (kind : Kind) (i : Item) → NoadIs (Below R levels) s kind i → noadAt R levels s kind ≡ got i (end s kind)
+    unfolding noadAt
+    got-noad kind i h =
+        let a = got-field (openingBytes kind) (h .a) (h .a-is) in
+        let b = got-field (second s kind) (h .b) (h .b-is) in
+        let c = got-third kind (third s kind) (h .c) (h .c-is) in
+        rw (a, b, c, h .is)
+
+    pub item-got : (i : Item) (e : ℕ) → itemBy R levels s ≡ got i e →
+        ItemIs (Below R levels) s (openingOf s) i × (e ≡ itemSize s (openingOf s))
+    unfolding itemBy openedBy
+    item-got i e q = go (openingOf s) q
+      where
+        go : (o : Opening) → openedBy R levels s o ≡ got i e → ItemIs (Below R levels) s o i × (e ≡ itemSize s o)
+        go NoItem q = stopped-got q
+        go (Fields kind) q = noad-got kind i e q
+        go (Kern n) q = ((cc), (cc))
+
+    pub got-item : (i : Item) → ItemIs (Below R levels) s (openingOf s) i →
+        itemBy R levels s ≡ got i (itemSize s (openingOf s))
+    unfolding itemBy openedBy
+    got-item i h = go (openingOf s) h
+      where
+        go : (o : Opening) → ItemIs (Below R levels) s o i → openedBy R levels s o ≡ got i (itemSize s o)
+        go NoItem h = absurd h
+        go (Fields kind) h = got-noad kind i h
+        go (Kern n) h = rw h
+
+-- ---- one answer, whatever the number of steps
+
+then-after : {A B : Type 0} (g : Got A) (k k′ : A → ℕ → Got B) → ((a : A) (m : ℕ) → k a m ≡ k′ a m) →
+    (g thenAt k) ≡ (g thenAt k′)
+then-after (got a m) k k′ h = h a m
+then-after (stopped number place) k k′ h = refl
+
+then-same : {A B : Type 0} (g g′ : Got A) (k k′ : A → ℕ → Got B) → g ≡ g′ → ((a : A) (m : ℕ) → k a m ≡ k′ a m) →
+    (g thenAt k) ≡ (g′ thenAt k′)
+then-same g g′ k k′ e h = rw e (then-after g′ k k′ h)
+
+module _ (R R′ : Reader) (levels : ℕ) (s : List ℕ)
+    (same : (d : ℕ) (r : List ℕ) → length r < length s → R d r ≡ R′ d r) where
+  field-same : (at : ℕ) → fieldAt R levels s at ≡ fieldAt R′ levels s at
+  unfolding fieldAt fieldBy
+  field-same at = go levels (headAt s at) refl
+    where
+      go : (levels : ℕ) (h : FieldHead) → headAt s at ≡ h →
+          fieldBy R levels at (drop at s) h ≡ fieldBy R′ levels at (drop at s) h
+      go levels NoField e = refl
+      go levels Empty e = refl
+      go levels (Symbol family code) e = refl
+      go zero (Sublist n) e = refl
+      go (suc levels) (Sublist n) e =
+          let k = contents-shorter (drop at s) n e in
+          ap (listGot at n) (same levels (contents n (drop at s)) (omega (arith, length-drop at s)))
+      go zero CutSublist e = refl
+      go (suc levels) CutSublist e = refl
+
+  third-same : (kind : Kind) (at : ℕ) → thirdAt R levels s kind at ≡ thirdAt R′ levels s kind at
+  unfolding thirdAt
+  third-same (Atom class limits) at = field-same at
+  third-same Over at = field-same at
+  third-same Under at = field-same at
+  third-same (Fraction bar) at = refl
+
+  noad-same : (kind : Kind) → noadAt R levels s kind ≡ noadAt R′ levels s kind
+  unfolding noadAt
+  noad-same kind =
+      then-same _ _ _ _ (field-same (openingBytes kind)) (λ a m.
+      then-same _ _ _ _ (field-same m) (λ b m.
+      then-same _ _ _ _ (third-same kind m) (λ c m. refl)))
+
+  item-same : itemBy R levels s ≡ itemBy R′ levels s
+  unfolding itemBy openedBy
+  item-same = go (openingOf s)
+    where
+      go : (o : Opening) → openedBy R levels s o ≡ openedBy R′ levels s o
+      go NoItem = refl
+      go (Fields kind) = noad-same kind
+      go (Kern n) = refl
+
+  rest-same : (g : Got Item) → itemBy R′ levels s ≡ g → restBy R levels s g ≡ restBy R′ levels s g
+  unfolding restBy
+  rest-same (got i size) e =
+      let is = item-got R′ levels s i size e in
+      let some = size-some (Below R′ levels) s (openingOf s) i (is .0) in
+      ap (before i size) (same levels (drop size s) (omega (arith, length-drop size s, is .1, size-fits s)))
+  rest-same (stopped number place) e = refl
+
+list-same : (R R′ : Reader) (levels : ℕ) (s : List ℕ) →
+    ((d : ℕ) (r : List ℕ) → length r < length s → R d r ≡ R′ d r) → listBy R levels s ≡ listBy R′ levels s
+unfolding listBy
+list-same R R′ levels [] same = refl
+list-same R R′ levels (b ∷ s) same =
+    ap (restBy R levels (b ∷ s)) (item-same R R′ levels (b ∷ s) same) ∙ rest-same R R′ levels (b ∷ s) same _ refl
+
+-- with more steps than bytes their number makes no difference
+pub enough : (f g levels : ℕ) (s : List ℕ) → length s < f → length s < g → readBy f levels s ≡ readBy g levels s
+unfolding readBy
+enough zero g levels s h k = absurd (omega arith)
+enough (suc f) zero levels s h k = absurd (omega arith)
+enough (suc f) (suc g) levels s h k =
+    list-same (readBy f) (readBy g) levels s (λ d r l. enough f g d r (omega arith) (omega arith))
+
+pub read-step : (levels : ℕ) (s : List ℕ) → read levels s ≡ listBy read levels s
+unfolding read readBy
+read-step levels s =
+    list-same (readBy (length s)) read levels s (λ d r l. enough (length s) (suc (length r)) d r l (omega arith))
+
+-- ---- a list that is not empty
+
+pub read-none : (levels : ℕ) (s : List ℕ) → length s ≡ 0 → read levels s ≡ good nil
+unfolding listBy
+read-none levels [] h = read-step levels []
+read-none levels (b ∷ s) h = absurd (omega arith)
+
+pub read-some : (levels : ℕ) (s : List ℕ) → 0 < length s → read levels s ≡ restBy read levels s (itemBy read levels s)
+unfolding listBy
+read-some levels [] h = absurd (omega arith)
+read-some levels (b ∷ s) h = read-step levels (b ∷ s)
+
+-- the items of a list that is not empty: the first, and those of the rest
+pub record ListIs (levels : ℕ) (s : List ℕ) (l : Items) : Type 0 where
+  pub first : Item
+  pub others : Items
+  pub first-is : ItemIs (Below read levels) s (openingOf s) first
+  pub others-are : read levels (drop (itemSize s (openingOf s)) s) ≡ good others
+  pub is : l ≡ cons first others
+
+before-good : (i : Item) (size : ℕ) (x : Read) (l : Items) → before i size x ≡ good l →
+    (r : Items) × (x ≡ good r) × (l ≡ cons i r)
+unfolding before
+before-good i size (good r) l e = (r, refl, (cc))
+before-good i size (fault number place) l e = fault-good e
+
+pub list-good : (levels : ℕ) (s : List ℕ) (l : Items) → 0 < length s → read levels s ≡ good l → ListIs levels s l
+unfolding restBy
+list-good levels s l pos e = go (itemBy read levels s) refl (sym (read-some levels s pos) ∙ e)
+  where
+    go : (g : Got Item) → itemBy read levels s ≡ g → restBy read levels s g ≡ good l → ListIs levels s l
+    go (got i size) q e =
+        let is = item-got read levels s i size q in
+        let b = before-good i size (read levels (drop size s)) l e in
+        record {
+          first = i;
+          others = b .0;
+          first-is = is .0;
+          others-are = ap (λ (k : ℕ). read levels (drop k s)) (sym (is .1)) ∙ b .1;
+          is = b .2;
+        }
+    go (stopped number place) q e = fault-good e
+
+pub good-list : (levels : ℕ) (s : List ℕ) (l : Items) → 0 < length s → ListIs levels s l → read levels s ≡ good l
+unfolding restBy before
+good-list levels s l pos h =
+    read-some levels s pos
+    ∙ ap (restBy read levels s) (got-item read levels s (h .first) (h .first-is))
+    ∙ ap (before (h .first) (itemSize s (openingOf s))) (h .others-are)
+    ∙ ap good (sym (h .is))
+
+-- ---- the number of levels
+
+Agrees : List ℕ → Type 0
+Agrees s = (d e : ℕ) (l : Items) → read d s ≡ good l → min d (length s) ≤ e → read e s ≡ good l
+
+agree-step : (s : List ℕ) → ((r : List ℕ) → length r < length s → Agrees r) → Agrees s
+unfolding Agrees
+agree-step s ih d e l q h = go (length s) refl
+  where
+    below : (d e : ℕ) → min d (length s) ≤ e →
+        (r : List ℕ) (l : Items) → length r < length s → Below read d r l → Below read e r l
+    below zero e h r l k b = absurd b
+    below (suc d) zero h r l k b = absurd (omega arith)
+    below (suc d) (suc e) h r l k b = ih r k d e l b (omega arith)
+
+    go : (n : ℕ) → length s ≡ n → read e s ≡ good l
+    go zero z = read-none e s z ∙ sym (read-none d s z) ∙ q
+    go (suc n) z =
+        let g = list-good d s l (omega arith) q in
+        let o = openingOf s in
+        let some = size-some (Below read d) s o (g .first) (g .first-is) in
+        let fits = size-fits s in
+        let rest = drop (itemSize s o) s in
+        let k : length rest ≡ length s - itemSize s o = length-drop (itemSize s o) s in
+        good-list e s l (omega arith) (record {
+          first = g .first;
+          others = g .others;
+          first-is = item-map (Below read d) (Below read e) s (below d e h) o (g .first) (g .first-is);
+          others-are = ih rest (omega arith) d e (g .others) (g .others-are) (omega arith);
+          is = g .is;
+        })
+
+pub agree : (s : List ℕ) (d e : ℕ) (l : Items) → read d s ≡ good l → min d (length s) ≤ e → read e s ≡ good l
+unfolding Agrees
+agree = by-length Agrees agree-step
