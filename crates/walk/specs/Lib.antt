@@ -1,3 +1,6 @@
 pub mod Setting
 pub mod Missing
 pub mod Fitting
+pub mod Frames
+pub mod Paths
+pub mod FieldInPlace
