@@ -4,3 +4,4 @@ pub mod Fitting
 pub mod Frames
 pub mod Paths
 pub mod FieldInPlace
+pub mod FieldAlone
