@@ -1,3 +1,4 @@
 mod BenchTable
 mod Definitions
 mod Examples
+mod Accepting
