@@ -19,15 +19,14 @@ use Rattle.formula.specs.declared.Bar.{Bar}
 use Rattle.formula.specs.declared.Bar.the-variants.{Default, Without}
 use Rattle.formula.specs.declared.Kind.{Kind}
 use Rattle.formula.specs.declared.Kind.the-variants.{Atom, Over, Under, Fraction}
+use Rattle.formula.specs.declared.Mark.{Mark}
+use Rattle.formula.specs.declared.Mark.the-variants.{AT, OV, UN, FR, KN, Unknown}
 use Rattle.formula.specs.declared.FieldHead.{FieldHead}
 use Rattle.formula.specs.declared.FieldHead.the-variants.{NoField, Empty, Symbol, Sublist, CutSublist}
 use Rattle.formula.specs.declared.Opening.{Opening}
 use Rattle.formula.specs.declared.Opening.the-variants.{NoItem, Fields, Kern}
 
 -- ---- an item
-
-pub data Mark : Type 0 where
-  AT OV UN FR KN unknown : Mark
 
 -- the letters of the marks, in ASCII
 unfoldable pub markOf : ℕ → ℕ → Mark
@@ -44,7 +43,7 @@ markOf a b =
                       elim (eqb a 70 && eqb b 82) [
                         | true ↦ FR
                         | false ↦
-                            elim (eqb a 75 && eqb b 78) [ true ↦ KN | false ↦ unknown ]
+                            elim (eqb a 75 && eqb b 78) [ true ↦ KN | false ↦ Unknown ]
                       ]
                 ]
           ]
@@ -115,7 +114,7 @@ opens OV s = Fields Over
 opens UN s = Fields Under
 opens FR s = fractionOpening s
 opens KN s = kernOpening s
-opens unknown s = NoItem
+opens Unknown s = NoItem
 
 unfoldable pub openingOf : List ℕ → Opening
 openingOf [] = NoItem

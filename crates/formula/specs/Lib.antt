@@ -1,3 +1,6 @@
 pub mod Tree
 pub mod Heads
 pub mod Reading
+pub mod Verdicts
+pub mod Places
+pub mod ReadingLaws

@@ -1,6 +1,9 @@
-// The formula's bytes. What they mean, and where they break a rule, is defined in specs/Tree.antt and specs/Reading.antt.
+// The formula's bytes. What they mean, and where they break a rule, is defined in specs/Tree.antt, specs/Heads.antt and specs/Reading.antt.
 
 use scaled::Sp;
+
+pub mod heads;
+pub mod reading;
 
 // The class of an atom, by which it is spaced.
 pub enum Class {
@@ -35,6 +38,16 @@ pub enum Kind {
     Fraction(Bar),
 }
 
+// The two letters with which an item opens.
+pub enum Mark {
+    AT,
+    OV,
+    UN,
+    FR,
+    KN,
+    Unknown,
+}
+
 // What an item says before its fields.
 pub enum Opening {
     NoItem,
@@ -49,4 +62,16 @@ pub enum FieldHead {
     Symbol(u8, u8),
     Sublist(usize),
     CutSublist,
+}
+
+// What reading a list comes to: a fault has its number and its place.
+pub enum Verdict {
+    Good,
+    Fault(u8, usize),
+}
+
+// What reading an item or a field comes to: the place behind it, or a fault.
+pub enum Step {
+    Next(usize),
+    Stop(u8, usize),
 }

@@ -1,0 +1,334 @@
+-- What the reader says of a reading, by the reading's own steps.
+--     later, verdict-step     a list: what its first item says, and then what the rest says
+--     StepIn, Placed          places lie in the list, and a part that is read ends behind its start: `field-in`, `item-in`, `placed`
+--     field-step ..           a field, by its head; `noad-stop` .. an item, by its fields
+--     list-next ..            a turn of the loop over a list's items
+-- Assumes nothing.
+use mathlib.Core.Path.{_≡_, refl, sym, subst, ap, ap₂, _∙_}
+use mathlib.Core.Bool.{Bool, true, false}
+use mathlib.Core.List.{List}
+use Prim.Native.Nat.{ℕ, zero, suc, _+_, _-_, _≤_, _<_}
+use native.Mathlib.Omega.{arith}
+use lib.ListN.{length, take, drop, length-take, length-drop}
+use lib.Seq.{drop-drop}
+use Rattle.formula.specs.declared.Kind.{Kind}
+use Rattle.formula.specs.declared.Kind.the-variants.{Atom, Over, Under, Fraction}
+use Rattle.formula.specs.declared.Opening.{Opening}
+use Rattle.formula.specs.declared.Opening.the-variants.{NoItem, Fields, Kern}
+use Rattle.formula.specs.declared.FieldHead.{FieldHead}
+use Rattle.formula.specs.declared.FieldHead.the-variants.{NoField, Empty, Symbol, Sublist, CutSublist}
+use Rattle.formula.specs.declared.Verdict.{Verdict}
+use Rattle.formula.specs.declared.Verdict.the-variants.{Good, Fault}
+use Rattle.formula.specs.declared.Step.{Step}
+use Rattle.formula.specs.declared.Step.the-variants.{Next, Stop}
+use Rattle.formula.specs.Tree.{Item, Field, noad, openingBytes, listOpeningBytes}
+use Rattle.formula.specs.Heads.{openingOf, fieldHead}
+use Rattle.formula.specs.Reading.{Read, good, fault, Got, got, stopped, _thenAt_, unreadableNumber, tooDeepNumber, listGot, fieldBy, fieldAt, thirdAt, noadAt, openedBy, itemBy, before, restBy, read}
+use Rattle.formula.specs.Verdicts.{told, stepOf}
+use Rattle.formula.specs.Places.{headBytes, contents, hasThird, headAt, openedBytes}
+use Rattle.formula.specs.ReadingLaws.{by-length, head-fits, opening-fits, contents-shorter, read-none, read-some}
+use Rattle.formula.proofs.HeadLaws.{tail-part}
+
+-- ---- a list
+
+abbrev pub later : ℕ → Verdict → Verdict
+later k Good = Good
+later k (Fault number place) = Fault number (k + place)
+
+abbrev goOn : ℕ → List ℕ → Step → Verdict
+goOn levels s (Next k) = later k (told (read levels (drop k s)))
+goOn levels s (Stop number place) = Fault number place
+
+told-before : (i : Item) (size : ℕ) (x : Read) → told (before i size x) ≡ later size (told x)
+unfolding told before
+told-before i size (good l) = refl
+told-before i size (fault number place) = refl
+
+verdict-step : (levels : ℕ) (s : List ℕ) → 0 < length s → told (read levels s) ≡ goOn levels s (stepOf (itemBy read levels s))
+unfolding told stepOf restBy
+verdict-step levels s pos = ap told (read-some levels s pos) ∙ go (itemBy read levels s)
+  where
+    go : (g : Got Item) → told (restBy read levels s g) ≡ goOn levels s (stepOf g)
+    go (got i size) = told-before i size (read levels (drop size s))
+    go (stopped number place) = refl
+
+-- ---- places lie in the list
+
+abbrev pub Placed : ℕ → Verdict → Type 0
+Placed n Good = Unit {0}
+Placed n (Fault number place) = place ≤ n
+
+-- from lo on, and up to hi
+abbrev pub StepIn : ℕ → ℕ → Step → Type 0
+StepIn lo hi (Next k) = (lo < k) × (k ≤ hi)
+StepIn lo hi (Stop number place) = place ≤ hi
+
+then-in : {A B : Type 0} (lo hi : ℕ) (g : Got A) (k : A → ℕ → Got B) → StepIn lo hi (stepOf g) →
+    ((a : A) (m : ℕ) → lo < m → m ≤ hi → StepIn 0 hi (stepOf (k a m))) → StepIn 0 hi (stepOf (g thenAt k))
+unfolding stepOf
+then-in lo hi (got a m) k h f = f a m (h .0) (h .1)
+then-in lo hi (stopped number place) k h f = h
+
+module _ (s : List ℕ) (ih : (r : List ℕ) → length r < length s → (levels : ℕ) → Placed (length r) (told (read levels r))) where
+  field-by-in : (levels at : ℕ) → at ≤ length s → StepIn at (length s) (stepOf (fieldAt read levels s at))
+  unfolding fieldAt fieldBy listGot stepOf told
+  field-by-in levels at l = go levels (headAt s at) refl
+    where
+      inside : (at n : ℕ) (x : Read) → at + (listOpeningBytes + n) ≤ length s → Placed n (told x) →
+          StepIn at (length s) (stepOf (listGot at n x))
+      inside at n (good l) h p = omega arith
+      inside at n (fault number place) h p = omega arith
+
+      go : (levels : ℕ) (h : FieldHead) → headAt s at ≡ h → StepIn at (length s) (stepOf (fieldBy read levels at (drop at s) h))
+      go levels NoField e = omega arith
+      go levels Empty e = omega (arith, length-drop at s, head-fits (drop at s) Empty e)
+      go levels (Symbol family code) e = omega (arith, length-drop at s, head-fits (drop at s) (Symbol family code) e)
+      go zero (Sublist n) e = l
+      go (suc levels) (Sublist n) e =
+          let r = contents n (drop at s) in
+          let k = contents-shorter (drop at s) n e in
+          let fits = head-fits (drop at s) (Sublist n) e in
+          inside at n (read levels r) (omega (arith, length-drop at s))
+          (subst (λ (m : ℕ). Placed m (told (read levels r))) (k .0) (ih r (omega (arith, length-drop at s)) levels))
+      go zero CutSublist e = l
+      go (suc levels) CutSublist e = omega arith
+
+  third-in : (levels : ℕ) (kind : Kind) (at : ℕ) → 0 < at → at ≤ length s → StepIn 0 (length s) (stepOf (thirdAt read levels s kind at))
+  unfolding thirdAt stepOf
+  third-in levels kind at pos l = go kind
+    where
+      wide : (x : Step) → StepIn at (length s) x → StepIn 0 (length s) x
+      wide (Next k) h = omega arith
+      wide (Stop number place) h = h
+
+      field : StepIn 0 (length s) (stepOf (fieldAt read levels s at))
+      field = wide (stepOf (fieldAt read levels s at)) (field-by-in levels at l)
+
+      go : (kind : Kind) → StepIn 0 (length s) (stepOf (thirdAt read levels s kind at))
+      go (Atom class limits) = field
+      go Over = field
+      go Under = field
+      go (Fraction bar) = (pos, l)
+
+  item-by-in : (levels : ℕ) → StepIn 0 (length s) (stepOf (itemBy read levels s))
+  unfolding itemBy openedBy noadAt stepOf
+  item-by-in levels = go (openingOf s) (opening-fits s (openingOf s) refl)
+    where
+      go : (o : Opening) → openedBytes o ≤ length s → StepIn 0 (length s) (stepOf (openedBy read levels s o))
+      go NoItem h = omega arith
+      go (Fields kind) h =
+          then-in (openingBytes kind) (length s) (fieldAt read levels s (openingBytes kind)) _ (field-by-in levels (openingBytes kind) h) (λ a m p q.
+          then-in m (length s) (fieldAt read levels s m) _ (field-by-in levels m q) (λ b m p q.
+          then-in 0 (length s) (thirdAt read levels s kind m) _ (third-in levels kind m (omega arith) q) (λ c m p q. (p, q))))
+      go (Kern n) h = omega arith
+
+  placed-by : (levels : ℕ) → Placed (length s) (told (read levels s))
+  unfolding told
+  placed-by levels = go (length s) refl
+    where
+      rest : (x : Step) → StepIn 0 (length s) x → Placed (length s) (goOn levels s x)
+      rest (Next k) h =
+          let l : length (drop k s) ≡ length s - k = length-drop k s in
+          on k (told (read levels (drop k s))) (h .1) (subst (λ (m : ℕ). Placed m (told (read levels (drop k s)))) l (ih (drop k s) (omega arith) levels))
+        where
+          on : (k : ℕ) (v : Verdict) → k ≤ length s → Placed (length s - k) v → Placed (length s) (later k v)
+          on k Good h p = tt
+          on k (Fault number place) h p = omega arith
+      rest (Stop number place) h = h
+
+      go : (n : ℕ) → length s ≡ n → Placed (length s) (told (read levels s))
+      go zero z = rw (read-none levels s z) tt
+      go (suc n) z = rw (verdict-step levels s (omega arith)) (rest (stepOf (itemBy read levels s)) (item-by-in levels))
+
+pub placed : (s : List ℕ) (levels : ℕ) → Placed (length s) (told (read levels s))
+placed = by-length (λ s. (levels : ℕ) → Placed (length s) (told (read levels s))) placed-by
+
+pub field-in : (s : List ℕ) (levels at : ℕ) → at ≤ length s → StepIn at (length s) (stepOf (fieldAt read levels s at))
+field-in s = field-by-in s (λ r l. placed r)
+
+pub item-in : (s : List ℕ) (levels : ℕ) → StepIn 0 (length s) (stepOf (itemBy read levels s))
+item-in s = item-by-in s (λ r l. placed r)
+
+pub fault-in : (s : List ℕ) (levels number place : ℕ) → told (read levels s) ≡ Fault number place → place ≤ length s
+fault-in s levels number place e = subst (Placed (length s)) e (placed s levels)
+
+pub next-in : (s : List ℕ) (levels at m : ℕ) → at ≤ length s → stepOf (fieldAt read levels s at) ≡ Next m → m ≤ length s
+next-in s levels at m l e =
+    let b : StepIn at (length s) (Next m) = subst (StepIn at (length s)) e (field-in s levels at l) in
+    b .1
+
+-- ---- a field, by its head
+
+-- what n bytes of a list that start at a place of their item say of the field
+abbrev pub inside : ℕ → ℕ → Verdict → Step
+inside start n Good = Next (start + n)
+inside start n (Fault number place) = Stop number (start + place)
+
+told-inside : (at n : ℕ) (x : Read) → stepOf (listGot at n x) ≡ inside (at + listOpeningBytes) n (told x)
+unfolding told stepOf listGot
+told-inside at n (good l) = refl
+told-inside at n (fault number place) = refl
+
+module _ (levels at : ℕ) (s : List ℕ) where
+  -- the bytes that the code's `&s[at..]` holds
+  abbrev rest : List ℕ
+  rest = take (length s - at) (drop at s)
+
+  pub field-step : (h : FieldHead) → fieldHead rest ≡ h →
+      stepOf (fieldAt read levels s at) ≡ stepOf (fieldBy read levels at (drop at s) h)
+  unfolding fieldAt
+  field-step h e = ap (λ (h : FieldHead). stepOf (fieldBy read levels at (drop at s) h)) (ap fieldHead (sym (tail-part s at)) ∙ e)
+
+  pub field-fits : (h : FieldHead) → fieldHead rest ≡ h → at ≤ length s → at + headBytes h ≤ length s
+  field-fits h e l = omega (arith, head-fits (drop at s) h (ap fieldHead (sym (tail-part s at)) ∙ e), length-drop at s)
+
+  pub field-deep : (n : ℕ) → fieldHead rest ≡ Sublist n → levels ≡ 0 →
+      stepOf (fieldAt read levels s at) ≡ Stop tooDeepNumber at
+  unfolding fieldBy stepOf
+  field-deep n e z = field-step (Sublist n) e ∙ ap (λ (d : ℕ). stepOf (fieldBy read d at (drop at s) (Sublist n))) z
+
+  pub cut-deep : fieldHead rest ≡ CutSublist → levels ≡ 0 → stepOf (fieldAt read levels s at) ≡ Stop tooDeepNumber at
+  unfolding fieldBy stepOf
+  cut-deep e z = field-step CutSublist e ∙ ap (λ (d : ℕ). stepOf (fieldBy read d at (drop at s) CutSublist)) z
+
+  pub cut-short : fieldHead rest ≡ CutSublist → 0 < levels → stepOf (fieldAt read levels s at) ≡ Stop unreadableNumber 0
+  unfolding fieldBy stepOf
+  cut-short e pos = field-step CutSublist e ∙ go levels pos
+    where
+      go : (d : ℕ) → 0 < d → stepOf (fieldBy read d at (drop at s) CutSublist) ≡ Stop unreadableNumber 0
+      go zero pos = absurd (omega arith)
+      go (suc d) pos = refl
+
+  -- the bytes that the code's `&s[start..end]` holds
+  part-is : (n : ℕ) → let start = at + listOpeningBytes in take (start + n - start) (drop start s) ≡ contents n (drop at s)
+  part-is n =
+      let e : at + listOpeningBytes + n - (at + listOpeningBytes) ≡ n = omega arith in
+      rw (e, drop-drop)
+
+  pub field-list : (n : ℕ) (v : Verdict) → fieldHead rest ≡ Sublist n → 0 < levels →
+      let start = at + listOpeningBytes in
+      told (read (levels - 1) (take (start + n - start) (drop start s))) ≡ v → stepOf (fieldAt read levels s at) ≡ inside start n v
+  unfolding fieldBy stepOf
+  field-list n v e pos h = field-step (Sublist n) e ∙ go levels pos (rw (part-is n) at h)
+    where
+      go : (d : ℕ) → 0 < d → told (read (d - 1) (contents n (drop at s))) ≡ v →
+          stepOf (fieldBy read d at (drop at s) (Sublist n)) ≡ inside (at + listOpeningBytes) n v
+      go zero pos h = absurd (omega arith)
+      go (suc d) pos h =
+          let e : suc d - 1 ≡ d = omega arith in
+          told-inside at n (read d (contents n (drop at s))) ∙ ap (inside (at + listOpeningBytes) n) (rw e at h)
+
+-- ---- an item, by its fields
+
+then-stop : {A B : Type 0} (g : Got A) (k : A → ℕ → Got B) (number place : ℕ) → stepOf g ≡ Stop number place →
+    stepOf (g thenAt k) ≡ Stop number place
+unfolding stepOf
+then-stop (got a m) k number place e = let z : _≡_ {A = ℕ} 0 1 = cc in absurd (omega arith)
+then-stop (stopped n p) k number place e = e
+
+then-next : {A B : Type 0} (g : Got A) (k : A → ℕ → Got B) (m : ℕ) (x : Step) → stepOf g ≡ Next m →
+    ((a : A) → stepOf (k a m) ≡ x) → stepOf (g thenAt k) ≡ x
+unfolding stepOf
+then-next (got a n) k m x e h = let z : n ≡ m = cc in rw z (h a)
+then-next (stopped n p) k m x e h = let z : _≡_ {A = ℕ} 0 1 = cc in absurd (omega arith)
+
+then-last : {A B : Type 0} (g : Got A) (k : A → B) → stepOf (g thenAt λ a m. got (k a) m) ≡ stepOf g
+unfolding stepOf
+then-last (got a m) k = refl
+then-last (stopped number place) k = refl
+
+module _ (levels : ℕ) (s : List ℕ) (kind : Kind) where
+  pub noad-first : (number place : ℕ) → stepOf (fieldAt read levels s (openingBytes kind)) ≡ Stop number place →
+      stepOf (noadAt read levels s kind) ≡ Stop number place
+  unfolding noadAt
+  noad-first number place e = then-stop (fieldAt read levels s (openingBytes kind)) _ number place e
+
+  module _ (m : ℕ) (first : stepOf (fieldAt read levels s (openingBytes kind)) ≡ Next m) where
+    pub noad-second : (number place : ℕ) → stepOf (fieldAt read levels s m) ≡ Stop number place →
+        stepOf (noadAt read levels s kind) ≡ Stop number place
+    unfolding noadAt
+    noad-second number place e =
+        then-next (fieldAt read levels s (openingBytes kind)) _ m _ first (λ a. then-stop (fieldAt read levels s m) _ number place e)
+
+    noad-third : (e : ℕ) → stepOf (fieldAt read levels s m) ≡ Next e →
+        stepOf (noadAt read levels s kind) ≡ stepOf (thirdAt read levels s kind e)
+    unfolding noadAt
+    noad-third e second =
+        then-next (fieldAt read levels s (openingBytes kind)) _ m _ first (λ a.
+        then-next (fieldAt read levels s m) _ e _ second (λ b. then-last (thirdAt read levels s kind e) (noad kind a b)))
+
+    pub noad-three : (e : ℕ) → stepOf (fieldAt read levels s m) ≡ Next e → hasThird kind ≡ true →
+        stepOf (noadAt read levels s kind) ≡ stepOf (fieldAt read levels s e)
+    unfolding thirdAt stepOf
+    noad-three e second h = noad-third e second ∙ go kind h
+      where
+        go : (kind : Kind) → hasThird kind ≡ true → stepOf (thirdAt read levels s kind e) ≡ stepOf (fieldAt read levels s e)
+        go (Atom class limits) h = refl
+        go Over h = refl
+        go Under h = refl
+        go (Fraction bar) h = let z : _≡_ {A = ℕ} 0 1 = cc in absurd (omega arith)
+
+    pub noad-two : (e : ℕ) → stepOf (fieldAt read levels s m) ≡ Next e → hasThird kind ≡ false →
+        stepOf (noadAt read levels s kind) ≡ Next e
+    unfolding thirdAt stepOf
+    noad-two e second h = noad-third e second ∙ go kind h
+      where
+        go : (kind : Kind) → hasThird kind ≡ false → stepOf (thirdAt read levels s kind e) ≡ Next e
+        go (Atom class limits) h = let z : _≡_ {A = ℕ} 0 1 = cc in absurd (omega arith)
+        go Over h = let z : _≡_ {A = ℕ} 0 1 = cc in absurd (omega arith)
+        go Under h = let z : _≡_ {A = ℕ} 0 1 = cc in absurd (omega arith)
+        go (Fraction bar) h = refl
+
+pub item-step : (levels : ℕ) (s : List ℕ) (o : Opening) → openingOf s ≡ o →
+    stepOf (itemBy read levels s) ≡ stepOf (openedBy read levels s o)
+unfolding itemBy
+item-step levels s o e = ap (λ (o : Opening). stepOf (openedBy read levels s o)) e
+
+-- ---- a turn of the loop over a list's items
+
+later-later : (k j : ℕ) (v : Verdict) → later k (later j v) ≡ later (k + j) v
+later-later k j Good = refl
+later-later k j (Fault number place) = ap (Fault number) (omega arith)
+
+pub later-zero : (v : Verdict) → later 0 v ≡ v
+later-zero Good = refl
+later-zero (Fault number place) = ap (Fault number) (omega arith)
+
+module _ (levels : ℕ) (s : List ℕ) (at : ℕ) (low : at < length s)
+    (inv : told (read levels s) ≡ later at (told (read levels (drop at s)))) (x : Step)
+    (said : x ≡ stepOf (itemBy read levels (take (length s - at) (drop at s)))) where
+  item-said : stepOf (itemBy read levels (drop at s)) ≡ x
+  item-said = sym (rw tail-part at said)
+
+  item-bounds : StepIn 0 (length (drop at s)) x
+  item-bounds = subst (StepIn 0 (length (drop at s))) item-said (item-in (drop at s) levels)
+
+  list-said : told (read levels s) ≡ later at (goOn levels (drop at s) x)
+  list-said =
+      let pos : 0 < length (drop at s) = omega (arith, length-drop at s) in
+      inv ∙ ap (later at) (verdict-step levels (drop at s) pos ∙ ap (goOn levels (drop at s)) item-said)
+
+  pub list-next : (k : ℕ) → x ≡ Next k →
+      (0 < k) × (at + k ≤ length s) × (told (read levels s) ≡ later (at + k) (told (read levels (drop (at + k) s))))
+  list-next k e =
+      let b : StepIn 0 (length (drop at s)) (Next k) = subst (StepIn 0 (length (drop at s))) e item-bounds in
+      let l : length (drop at s) ≡ length s - at = length-drop at s in
+      (
+        b .0,
+        omega arith,
+        list-said ∙ ap (λ (x : Step). later at (goOn levels (drop at s) x)) e
+        ∙ later-later at k (told (read levels (drop k (drop at s))))
+        ∙ ap (λ (r : List ℕ). later (at + k) (told (read levels r))) (drop-drop k at s),
+      )
+
+  pub list-stop : (number place : ℕ) → x ≡ Stop number place →
+      (at + place ≤ length s) × (told (read levels s) ≡ Fault number (at + place))
+  list-stop number place e =
+      let b : StepIn 0 (length (drop at s)) (Stop number place) = subst (StepIn 0 (length (drop at s))) e item-bounds in
+      let l : length (drop at s) ≡ length s - at = length-drop at s in
+      (omega arith, list-said ∙ ap (λ (x : Step). later at (goOn levels (drop at s) x)) e)
+
+pub list-done : (levels : ℕ) (s : List ℕ) (at : ℕ) → length s ≤ at →
+    told (read levels s) ≡ later at (told (read levels (drop at s))) → told (read levels s) ≡ Good
+unfolding told
+list-done levels s at h inv = inv ∙ ap (λ (x : Read). later at (told x)) (read-none levels (drop at s) (omega (arith, length-drop at s)))

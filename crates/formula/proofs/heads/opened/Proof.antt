@@ -1,0 +1,91 @@
+-- `opened` meets its contract: each arm knows the mark.
+-- Assumes nothing.
+use Rattle.formula.specs.declared.Opening.{Opening}
+use Rattle.formula.specs.declared.Mark.{Mark}
+use Prim.Native.Nat.{ℕ}
+use mathlib.Core.List.{List}
+use mathlib.Core.Path.{_≡_, refl}
+use Rattle.formula.specs.Heads.{opens}
+use mathlib.Core.Path.{sym, ap, _∙_}
+use borrow.Author.Needs.{needs}
+use Rattle.formula.proofs.heads.opened.Statement.{statement}
+use Rattle.formula.proofs.heads.opened.Tie as tie
+use Rattle.formula.proofs.heads.opened.Reads as reads
+use Rattle.formula.proofs.heads.opened.Lts as lts
+use Rattle.formula.proofs.heads.atom_opening.Reads as atom-opening-reads
+use Rattle.formula.proofs.heads.fraction_opening.Reads as fraction-opening-reads
+use Rattle.formula.proofs.heads.kern_opening.Reads as kern-opening-reads
+
+arm : {m m′ : Mark} {r : Opening} (s : List ℕ) → m ≡ m′ → r ≡ opens m′ s → r ≡ opens m s
+arm s e h = rw e h
+
+enum-told : tie.Need-enum-told
+enum-told c = search needs
+
+atom-opening-requires : tie.Need-atom-opening-requires
+atom-opening-requires c κs = search needs
+
+enum-told-2 : tie.Need-enum-told-2
+enum-told-2 c = search needs
+
+enum-told-3 : tie.Need-enum-told-3
+enum-told-3 c = search needs
+
+enum-told-4 : tie.Need-enum-told-4
+enum-told-4 c = search needs
+
+fraction-opening-requires : tie.Need-fraction-opening-requires
+fraction-opening-requires c κs = search needs
+
+enum-told-5 : tie.Need-enum-told-5
+enum-told-5 c = search needs
+
+kern-opening-requires : tie.Need-kern-opening-requires
+kern-opening-requires c κs = search needs
+
+enum-told-6 : tie.Need-enum-told-6
+enum-told-6 c = search needs
+
+returns : tie.Need-returns
+unfolding opens
+returns c = arm (c .before .before .before .before .args .s .now) (c .before .enum-told .given .1) (c .atom-opening .ensures)
+
+returns-2 : tie.Need-returns-2
+unfolding opens
+returns-2 c = arm (c .before .before .before .args .s .now) (c .enum-told2 .given .1) refl
+
+returns-3 : tie.Need-returns-3
+unfolding opens
+returns-3 c = arm (c .before .before .before .args .s .now) (c .enum-told3 .given .1) refl
+
+returns-4 : tie.Need-returns-4
+unfolding opens
+returns-4 c = arm (c .before .before .before .before .args .s .now) (c .before .enum-told4 .given .1) (c .fraction-opening .ensures)
+
+returns-5 : tie.Need-returns-5
+unfolding opens
+returns-5 c = arm (c .before .before .before .before .args .s .now) (c .before .enum-told5 .given .1) (c .kern-opening .ensures)
+
+returns-6 : tie.Need-returns-6
+unfolding opens
+returns-6 c = arm (c .before .before .before .args .s .now) (c .enum-told6 .given .1) refl
+
+pub opened-spec : {M : Type 1} → statement M
+opened-spec =
+    tie.close
+    (tie.spec
+    enum-told
+    atom-opening-requires
+    enum-told-2
+    enum-told-3
+    enum-told-4
+    fraction-opening-requires
+    enum-told-5
+    kern-opening-requires
+    enum-told-6
+    returns
+    returns-2
+    returns-3
+    returns-4
+    returns-5
+    returns-6)

@@ -1,0 +1,133 @@
+-- A readable list, walked by its heads alone: where its items and their fields stand, how many bytes each takes, and
+-- which tree each is. A list of bytes stands here for what goes from an item's first byte to the end of its list.
+--     Readable, treeOf     of a list, with no number of levels: a list nests less deep than it is long
+--     headBytes            the bytes of a field, by its head
+--     fieldOf, GoodField   a field, from its kind byte on
+--     second, third, end   the places of an item's fields, and the place behind it
+--     itemSize, itemOf, GoodItem     an item, by its opening
+-- That they say what `read` says is shown in `ReadingLaws`.
+-- Assumes nothing.
+use mathlib.Core.Bool.{Bool, true, false}
+use mathlib.Core.List.{List}
+use Prim.Native.Nat.{ℕ, _+_}
+use lib.IntN.{pos}
+use lib.ListN.{length, take, drop}
+use Rattle.formula.specs.declared.Kind.{Kind}
+use Rattle.formula.specs.declared.Kind.the-variants.{Atom, Over, Under, Fraction}
+use Rattle.formula.specs.declared.Opening.{Opening}
+use Rattle.formula.specs.declared.Opening.the-variants.{NoItem, Fields, Kern}
+use Rattle.formula.specs.declared.FieldHead.{FieldHead}
+use Rattle.formula.specs.declared.FieldHead.the-variants.{NoField, Empty, Symbol, Sublist, CutSublist}
+use Rattle.formula.specs.Tree.{Items, Item, Field, nil, noad, kern, empty, symbol, list, openingBytes, kernBytes, symbolBytes, listOpeningBytes}
+use Rattle.formula.specs.Heads.{openingOf, fieldHead}
+use Rattle.formula.specs.Reading.{Read, good, fault, read}
+
+-- ---- a list
+
+abbrev pub treeIn : Read → Items
+treeIn (good l) = l
+treeIn (fault number place) = nil
+
+abbrev pub IsGood : Read → Type 0
+IsGood (good l) = Unit {0}
+IsGood (fault number place) = ⊥
+
+unfoldable pub Readable : List ℕ → Type 0
+Readable s = IsGood (read (length s) s)
+
+unfoldable pub treeOf : List ℕ → Items
+treeOf s = treeIn (read (length s) s)
+
+-- ---- a field, from its kind byte on
+
+abbrev pub headBytes : FieldHead → ℕ
+headBytes NoField = 0
+headBytes Empty = 1
+headBytes (Symbol family code) = symbolBytes
+headBytes (Sublist n) = listOpeningBytes + n
+headBytes CutSublist = 0
+
+-- the n bytes of a list field
+abbrev pub contents : ℕ → List ℕ → List ℕ
+contents n s = take n (drop listOpeningBytes s)
+
+abbrev pub fieldOf : List ℕ → FieldHead → Field
+fieldOf s NoField = empty
+fieldOf s Empty = empty
+fieldOf s (Symbol family code) = symbol family code
+fieldOf s (Sublist n) = list (treeOf (contents n s))
+fieldOf s CutSublist = empty
+
+abbrev pub GoodField : List ℕ → FieldHead → Type 0
+GoodField s NoField = ⊥
+GoodField s Empty = Unit {0}
+GoodField s (Symbol family code) = Unit {0}
+GoodField s (Sublist n) = Readable (contents n s)
+GoodField s CutSublist = ⊥
+
+-- ---- an item
+
+-- a fraction has two fields, any other kind three
+abbrev pub hasThird : Kind → Bool
+hasThird (Atom class limits) = true
+hasThird Over = true
+hasThird Under = true
+hasThird (Fraction bar) = false
+
+-- the bytes before the fields
+abbrev pub openedBytes : Opening → ℕ
+openedBytes NoItem = 0
+openedBytes (Fields kind) = openingBytes kind
+openedBytes (Kern n) = kernBytes
+
+module _ (s : List ℕ) where
+  abbrev pub headAt : ℕ → FieldHead
+  headAt at = fieldHead (drop at s)
+
+  -- the place behind the field that stands at a place
+  abbrev pub behind : ℕ → ℕ
+  behind at = at + headBytes (headAt at)
+
+  abbrev pub second : Kind → ℕ
+  second kind = behind (openingBytes kind)
+
+  abbrev pub third : Kind → ℕ
+  third kind = behind (second kind)
+
+  -- the place behind a third field, if there is one
+  abbrev pub thirdEnd : Bool → ℕ → ℕ
+  thirdEnd true at = behind at
+  thirdEnd false at = at
+
+  abbrev pub end : Kind → ℕ
+  end kind = thirdEnd (hasThird kind) (third kind)
+
+  abbrev pub itemSize : Opening → ℕ
+  itemSize NoItem = 0
+  itemSize (Fields kind) = end kind
+  itemSize (Kern n) = kernBytes
+
+  abbrev pub fieldIn : ℕ → Field
+  fieldIn at = fieldOf (drop at s) (headAt at)
+
+  abbrev pub thirdIn : Bool → ℕ → Field
+  thirdIn true at = fieldIn at
+  thirdIn false at = empty
+
+  abbrev pub itemOf : Opening → Item
+  itemOf NoItem = kern (pos 0)
+  itemOf (Fields kind) = noad kind (fieldIn (openingBytes kind)) (fieldIn (second kind)) (thirdIn (hasThird kind) (third kind))
+  itemOf (Kern n) = kern (n .0)
+
+  abbrev pub GoodFieldAt : ℕ → Type 0
+  GoodFieldAt at = GoodField (drop at s) (headAt at)
+
+  abbrev pub GoodThird : Bool → ℕ → Type 0
+  GoodThird true at = GoodFieldAt at
+  GoodThird false at = Unit {0}
+
+  abbrev pub GoodItem : Opening → Type 0
+  GoodItem NoItem = ⊥
+  GoodItem (Fields kind) =
+      GoodFieldAt (openingBytes kind) × GoodFieldAt (second kind) × GoodThird (hasThird kind) (third kind)
+  GoodItem (Kern n) = Unit {0}

@@ -1,0 +1,297 @@
+// What stands at the head of an item and of a field. Each function is total: any bytes may come.
+
+ghost use mathlib.Core.Path.{_≡_};
+ghost use mathlib.Core.Bool.{_&&_};
+ghost use mathlib.Core.Option.{some};
+ghost use Prim.Native.Nat.{_^_, _≤_, _<_};
+ghost use lib.Dec.{eqb};
+ghost use lib.ListN.{length, getElem?};
+ghost use Rattle.scaled.specs.Words.{littleEndian, signedWord};
+ghost use Rattle.formula.specs.Tree.{openingBytes};
+ghost use Rattle.formula.specs.Heads.{markOf, classes, limitKinds, isOp, isDisplayOnly, atomOf, atomOpening, fractionOpening, kernWithin, kernOpening, opens, openingOf, symbolHead, listHead, fieldHead};
+ghost use Rattle.formula.specs.Places.{headBytes, hasThird};
+use scaled::Sp;
+use crate::{Class, Limits, Bar, Kind, Mark, Opening, FieldHead};
+
+const GREATEST_KERN: i64 = 8_388_607;
+const GREATEST_FAMILY: u8 = 15;
+
+// What opens with the first byte of s.
+pub fn opening(s: &[u8]) -> Opening
+    ensures { λ r. ⌜ r ≡ openingOf (now (s .entry)) ⌝ }
+{
+    if s.len() < 2 {
+        return Opening::NoItem;
+    }
+    opened(mark(s[0], s[1]), &s[2..])
+}
+
+// What opens behind a mark.
+fn opened(mark: Mark, s: &[u8]) -> Opening
+    ensures { λ r. ⌜ r ≡ opens mark (now (s .entry)) ⌝ }
+{
+    match mark {
+        Mark::AT => atom_opening(s),
+        Mark::OV => Opening::Fields(Kind::Over),
+        Mark::UN => Opening::Fields(Kind::Under),
+        Mark::FR => fraction_opening(s),
+        Mark::KN => kern_opening(s),
+        Mark::Unknown => Opening::NoItem,
+    }
+}
+
+// How many bytes an item has before its fields.
+pub fn opening_bytes(kind: Kind) -> usize
+    ensures { λ r. ⌜ r ≡ openingBytes kind ⌝ }
+{
+    match kind {
+        Kind::Atom(_, _) => 4,
+        Kind::Over => 2,
+        Kind::Under => 2,
+        Kind::Fraction(_) => 3,
+    }
+}
+
+// A fraction has two fields, any other kind three.
+pub fn has_third(kind: Kind) -> bool
+    ensures { λ r. ⌜ r ≡ hasThird kind ⌝ }
+{
+    match kind {
+        Kind::Atom(_, _) => true,
+        Kind::Over => true,
+        Kind::Under => true,
+        Kind::Fraction(_) => false,
+    }
+}
+
+fn both(a: u8, b: u8, x: u8, y: u8) -> bool
+    ensures { λ r. ⌜ r ≡ (eqb a x && eqb b y) ⌝ }
+{
+    if a == x { b == y } else { false }
+}
+
+fn mark(a: u8, b: u8) -> Mark
+    ensures { λ r. ⌜ r ≡ markOf a b ⌝ }
+{
+    if both(a, b, b'A', b'T') {
+        return Mark::AT;
+    }
+    if both(a, b, b'O', b'V') {
+        return Mark::OV;
+    }
+    if both(a, b, b'U', b'N') {
+        return Mark::UN;
+    }
+    if both(a, b, b'F', b'R') {
+        return Mark::FR;
+    }
+    if both(a, b, b'K', b'N') {
+        return Mark::KN;
+    }
+    Mark::Unknown
+}
+
+fn atom_opening(s: &[u8]) -> Opening
+    ensures { λ r. ⌜ r ≡ atomOpening (now (s .entry)) ⌝ }
+{
+    if s.len() < 2 {
+        return Opening::NoItem;
+    }
+    atom(s[0], s[1])
+}
+
+// Limits are 0 unless the class is Op.
+fn atom(class: u8, limits: u8) -> Opening
+    ensures { λ r. ⌜ r ≡ atomOf (getElem? classes class) (getElem? limitKinds limits) ⌝ }
+{
+    if class > 7 {
+        return Opening::NoItem;
+    }
+    if limits > 2 {
+        return Opening::NoItem;
+    }
+    let c = class_of(class);
+    let l = limits_of(limits);
+    if is_op(c) {
+        return Opening::Fields(Kind::Atom(c, l));
+    }
+    if is_display_only(l) {
+        return Opening::Fields(Kind::Atom(c, l));
+    }
+    Opening::NoItem
+}
+
+fn class_of(n: u8) -> Class
+    requires { ⌜ n < 8 ⌝ }
+    ensures { λ r. ⌜ getElem? classes n ≡ some r ⌝ }
+{
+    match n {
+        0 => Class::Ord,
+        1 => Class::Op,
+        2 => Class::Bin,
+        3 => Class::Rel,
+        4 => Class::Open,
+        5 => Class::Close,
+        6 => Class::Punct,
+        _ => Class::Inner,
+    }
+}
+
+fn limits_of(n: u8) -> Limits
+    requires { ⌜ n < 3 ⌝ }
+    ensures { λ r. ⌜ getElem? limitKinds n ≡ some r ⌝ }
+{
+    match n {
+        0 => Limits::DisplayOnly,
+        1 => Limits::Always,
+        _ => Limits::Never,
+    }
+}
+
+pub fn is_op(class: Class) -> bool
+    ensures { λ r. ⌜ r ≡ isOp class ⌝ }
+{
+    match class {
+        Class::Ord => false,
+        Class::Op => true,
+        Class::Bin => false,
+        Class::Rel => false,
+        Class::Open => false,
+        Class::Close => false,
+        Class::Punct => false,
+        Class::Inner => false,
+    }
+}
+
+fn is_display_only(limits: Limits) -> bool
+    ensures { λ r. ⌜ r ≡ isDisplayOnly limits ⌝ }
+{
+    match limits {
+        Limits::DisplayOnly => true,
+        Limits::Always => false,
+        Limits::Never => false,
+    }
+}
+
+fn fraction_opening(s: &[u8]) -> Opening
+    ensures { λ r. ⌜ r ≡ fractionOpening (now (s .entry)) ⌝ }
+{
+    if s.len() == 0 {
+        return Opening::NoItem;
+    }
+    let bar = s[0];
+    if bar == 0 {
+        return Opening::Fields(Kind::Fraction(Bar::Default));
+    }
+    if bar == 1 {
+        return Opening::Fields(Kind::Fraction(Bar::Without));
+    }
+    Opening::NoItem
+}
+
+fn kern_opening(s: &[u8]) -> Opening
+    ensures { λ r. ⌜ r ≡ kernOpening (now (s .entry)) ⌝ }
+{
+    if s.len() < 4 {
+        return Opening::NoItem;
+    }
+    kern(signed(word(s)))
+}
+
+fn kern(n: Sp) -> Opening
+    ensures { λ r. ⌜ r ≡ kernWithin (n .0) ⌝ }
+{
+    if n.less(Sp(-GREATEST_KERN)) {
+        return Opening::NoItem;
+    }
+    if Sp(GREATEST_KERN).less(n) {
+        return Opening::NoItem;
+    }
+    Opening::Kern(n)
+}
+
+// The number whose four-byte two's complement is w.
+fn signed(w: u32) -> Sp
+    ensures { λ r. ⌜ r .0 ≡ signedWord w ⌝ }
+{
+    if w < 2147483648 {
+        Sp(w as i64)
+    } else {
+        Sp(w as i64 - 4294967296)
+    }
+}
+
+fn wide(b: u8) -> u32
+    ensures { λ r. ⌜ (r ≡ b) × (r < 256) ⌝ }
+{
+    b as u32
+}
+
+// The number of the first four bytes.
+fn word(s: &[u8]) -> u32
+    requires { ⌜ 4 ≤ length (now s) ⌝ }
+    ensures { λ r. ⌜ r ≡ littleEndian 4 (now (s .entry)) ⌝ }
+{
+    wide(s[0]) + wide(s[1]) * 256 + wide(s[2]) * 65536 + wide(s[3]) * 16777216
+}
+
+// What the field says whose kind byte is the first of s; s goes to the end of the list that holds the item.
+pub fn field_head(s: &[u8]) -> FieldHead
+    ensures { λ r. ⌜ r ≡ fieldHead (now (s .entry)) ⌝ }
+{
+    if s.len() == 0 {
+        return FieldHead::NoField;
+    }
+    let kind = s[0];
+    let rest = &s[1..];
+    if kind == 0 {
+        return FieldHead::Empty;
+    }
+    if kind == 1 {
+        return symbol_head(rest);
+    }
+    if kind == 2 {
+        return list_head(rest);
+    }
+    FieldHead::NoField
+}
+
+// How many bytes a field has, by its head.
+pub fn field_bytes(head: FieldHead) -> usize
+    requires { ⌜ headBytes head < 2 ^ 32 ⌝ }
+    ensures { λ r. ⌜ r ≡ headBytes head ⌝ }
+{
+    match head {
+        FieldHead::NoField => 0,
+        FieldHead::Empty => 1,
+        FieldHead::Symbol(_, _) => 3,
+        FieldHead::Sublist(n) => 3 + n,
+        FieldHead::CutSublist => 0,
+    }
+}
+
+fn symbol_head(s: &[u8]) -> FieldHead
+    ensures { λ r. ⌜ r ≡ symbolHead (now (s .entry)) ⌝ }
+{
+    if s.len() < 2 {
+        return FieldHead::NoField;
+    }
+    let family = s[0];
+    if family > GREATEST_FAMILY {
+        return FieldHead::NoField;
+    }
+    FieldHead::Symbol(family, s[1])
+}
+
+fn list_head(s: &[u8]) -> FieldHead
+    ensures { λ r. ⌜ r ≡ listHead (now (s .entry)) ⌝ }
+{
+    if s.len() < 2 {
+        return FieldHead::CutSublist;
+    }
+    let n = (wide(s[0]) + wide(s[1]) * 256) as usize;
+    if n > s.len() - 2 {
+        return FieldHead::CutSublist;
+    }
+    FieldHead::Sublist(n)
+}

@@ -1,0 +1,107 @@
+// The reading of a formula: the first fault in reading order, or none. Nothing is copied and nothing written.
+
+ghost use mathlib.Core.Path.{_≡_};
+ghost use Prim.Native.Nat.{_≤_};
+ghost use lib.ListN.{length};
+ghost use Rattle.formula.specs.declared.Opening.the-variants.{Fields};
+ghost use Rattle.formula.specs.Heads.{openingOf};
+ghost use Rattle.formula.specs.Reading.{fieldAt, noadAt, itemBy, read, readFormula};
+ghost use Rattle.formula.specs.Verdicts.{told, stepOf};
+use crate::{Kind, Opening, FieldHead, Verdict, Step};
+use crate::heads::{opening, opening_bytes, has_third, field_head};
+
+const FORMULA_LIMIT: usize = 4_096;
+const DEPTH_LIMIT: usize = 16;
+const UNREADABLE: u8 = 3;
+const TOO_DEEP: u8 = 4;
+
+// The formula itself is the first level.
+pub fn read_formula(s: &[u8]) -> Verdict
+    ensures { λ r. ⌜ r ≡ told (readFormula (now (s .entry))) ⌝ }
+{
+    if s.len() > FORMULA_LIMIT {
+        return Verdict::Fault(UNREADABLE, 0);
+    }
+    read_list(s, DEPTH_LIMIT - 1)
+}
+
+// Reads a list whole; `levels` is how many levels may still be entered below it.
+pub fn read_list(s: &[u8], levels: usize) -> Verdict
+    ensures { λ r. ⌜ r ≡ told (read levels (now (s .entry))) ⌝ }
+{
+    let mut at: usize = 0;
+    while at < s.len() {
+        let r = read_item(&s[at..], levels);
+        match r {
+            Step::Next(size) => {
+                at += size;
+            }
+            Step::Stop(number, place) => {
+                return Verdict::Fault(number, at + place);
+            }
+        }
+    }
+    Verdict::Good
+}
+
+// Reads the item whose first byte is the first of s, which goes to the end of its list.
+fn read_item(s: &[u8], levels: usize) -> Step
+    ensures { λ r. ⌜ r ≡ stepOf (itemBy read levels (now (s .entry))) ⌝ }
+{
+    let o = opening(s);
+    match o {
+        Opening::NoItem => Step::Stop(UNREADABLE, 0),
+        Opening::Fields(kind) => read_noad(s, kind, levels),
+        Opening::Kern(_) => Step::Next(6),
+    }
+}
+
+// Reads the fields of such an item, in order.
+fn read_noad(s: &[u8], kind: Kind, levels: usize) -> Step
+    requires { ⌜ openingOf (now s) ≡ Fields kind ⌝ }
+    ensures { λ r. ⌜ r ≡ stepOf (noadAt read levels (now (s .entry)) kind) ⌝ }
+{
+    let a = read_field(s, opening_bytes(kind), levels);
+    let Step::Next(second) = a else {
+        return a;
+    };
+    let b = read_field(s, second, levels);
+    let Step::Next(third) = b else {
+        return b;
+    };
+    if has_third(kind) {
+        return read_field(s, third, levels);
+    }
+    Step::Next(third)
+}
+
+// Reads the field whose kind byte stands at `at` of its item.
+fn read_field(s: &[u8], at: usize, levels: usize) -> Step
+    requires { ⌜ at ≤ length (now s) ⌝ }
+    ensures { λ r. ⌜ r ≡ stepOf (fieldAt read levels (now (s .entry)) at) ⌝ }
+{
+    let h = field_head(&s[at..]);
+    match h {
+        FieldHead::NoField => Step::Stop(UNREADABLE, 0),
+        FieldHead::Empty => Step::Next(at + 1),
+        FieldHead::Symbol(_, _) => Step::Next(at + 3),
+        FieldHead::Sublist(n) => {
+            if levels == 0 {
+                return Step::Stop(TOO_DEEP, at);
+            }
+            let start = at + 3;
+            let end = start + n;
+            let v = read_list(&s[start..end], levels - 1);
+            match v {
+                Verdict::Good => Step::Next(end),
+                Verdict::Fault(number, place) => Step::Stop(number, start + place),
+            }
+        }
+        FieldHead::CutSublist => {
+            if levels == 0 {
+                return Step::Stop(TOO_DEEP, at);
+            }
+            Step::Stop(UNREADABLE, 0)
+        }
+    }
+}
