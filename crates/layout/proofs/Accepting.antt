@@ -88,18 +88,25 @@ module _ (style : ℕ) (table formula : List ℕ) (s : Style) (l : Items) (style
       ∙ ap (ifPresent F s l) (h .none-missing)
       ∙ ap (λ (t : Bool). ifFits t (setList F s l)) (h .fits)
 
--- ---- what is made of a box
+-- ---- what is made of a box, by the count that measuring gives
 
 module _ (style : ℕ) (table formula : List ℕ) (b : Box) (is : resultOf style table formula ≡ boxed b) where
   pub measured-boxed : measured style table formula ≡ accepted b
   unfolding measured measuredBy
   measured-boxed = ap measuredBy is
 
-  pub set-boxed : (room : ℕ) → bytesInNode * length (b .nodes) ≤ room → setting style table formula room ≡ accepted b
-  unfolding setting setBy hasRoom
-  set-boxed room h = ap (setBy room) is ∙ rw (le-leb (bytesInNode * length (b .nodes)) room h, setBy)
+  room-is : (bytes : ℕ) → bytesInNode * measured style table formula .count ≤ bytes → hasRoom bytes b ≡ true
+  unfolding hasRoom
+  room-is bytes h = le-leb (bytesInNode * length (b .nodes)) bytes (rw measured-boxed at h)
 
-  pub buffer-boxed : (buffer : List ℕ) → bytesInNode * length (b .nodes) ≤ length buffer →
-      bufferAfter style table formula buffer ≡ bytesOf (b .nodes) ++ drop (bytesInNode * length (b .nodes)) buffer
-  unfolding bufferAfter bufferBy hasRoom
-  buffer-boxed buffer h = ap (bufferBy buffer) is ∙ rw (le-leb (bytesInNode * length (b .nodes)) (length buffer) h, bufferBy)
+  pub set-boxed : (room : ℕ) → bytesInNode * measured style table formula .count ≤ room →
+      setting style table formula room ≡ measured style table formula
+  unfolding setting setBy
+  set-boxed room h = ap (setBy room) is ∙ rw (room-is room h, setBy) (sym measured-boxed)
+
+  pub buffer-boxed : (buffer : List ℕ) →
+      let bytes = bytesInNode * measured style table formula .count in
+      bytes ≤ length buffer → bufferAfter style table formula buffer ≡ bytesOf (b .nodes) ++ drop bytes buffer
+  unfolding bufferAfter bufferBy
+  buffer-boxed buffer h =
+      ap (bufferBy buffer) is ∙ rw (room-is (length buffer) h, bufferBy) (rw measured-boxed)

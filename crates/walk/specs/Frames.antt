@@ -8,15 +8,18 @@ use mathlib.Core.List.{List, [], _∷_, _++_, append-nil, append-assoc}
 use lib.IntN.{ℤ, pos, _+ℤ_, +ℤ-idr, +ℤ-assoc}
 use Rattle.rules.specs.Boxes.{Place, origin}
 use Rattle.nodes.specs.Nodes.{Node, glyph, rule, movedNode, moved}
-use Rattle.walk.specs.Setting.{movedTo}
 
 pub record Frame : Type 0 where
   pub before : List Node
   pub distance : Place
   pub after : List Node
 
+-- every node moved by one distance
+abbrev pub movedBy : Place → List Node → List Node
+movedBy d ns = moved (d .across) (d .up) ns
+
 abbrev pub framed : Frame → List Node → List Node
-framed f ns = f .before ++ (movedTo (f .distance) ns ++ f .after)
+framed f ns = f .before ++ (movedBy (f .distance) ns ++ f .after)
 
 abbrev pub bare : Frame
 bare = record { before = []; distance = origin; after = [] }
@@ -28,9 +31,9 @@ further p q = record { across = q .across +ℤ p .across; up = q .up +ℤ p .up 
 abbrev pub nest : Frame → Frame → Frame
 nest o f =
     record {
-      before = o .before ++ movedTo (o .distance) (f .before);
+      before = o .before ++ movedBy (o .distance) (f .before);
       distance = further (o .distance) (f .distance);
-      after = movedTo (o .distance) (f .after) ++ o .after;
+      after = movedBy (o .distance) (f .after) ++ o .after;
     }
 
 -- ---- moving nodes
