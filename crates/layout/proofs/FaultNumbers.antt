@@ -1,9 +1,8 @@
 -- A fault of the reading has a number other than 0, which is an acceptance's: so a formula that is accepted reads.
 -- Assumes nothing.
-use mathlib.Core.Path.{_≡_, refl}
 use mathlib.Core.Bool.{Bool, true, false}
 use mathlib.Core.List.{List, [], _∷_}
-use Prim.Native.Nat.{ℕ, zero, suc, _<_}
+use Prim.Native.Nat.{ℕ, zero, suc, _-_, _<_}
 use native.Mathlib.Omega.{arith}
 use lib.Dec.{ltb}
 use lib.ListN.{length, take, drop}
@@ -13,9 +12,9 @@ use Rattle.formula.specs.declared.Opening.{Opening}
 use Rattle.formula.specs.declared.Opening.the-variants.{NoItem, Fields, Kern}
 use Rattle.formula.specs.declared.FieldHead.{FieldHead}
 use Rattle.formula.specs.declared.FieldHead.the-variants.{NoField, Empty, Symbol, Sublist, CutSublist}
-use Rattle.formula.specs.Tree.{Items, Item, Field, openingBytes, listOpeningBytes}
+use Rattle.formula.specs.Tree.{Item, openingBytes, listOpeningBytes}
 use Rattle.formula.specs.Heads.{openingOf, fieldHead}
-use Rattle.formula.specs.Reading.{Read, good, fault, Got, got, stopped, _thenAt_, listGot, fieldBy, fieldAt, thirdAt, noadAt, openedBy, itemBy, before, restBy, listBy, readBy, read, formulaLimit, depthLimit, readFormula}
+use Rattle.formula.specs.Reading.{Read, good, fault, Got, got, stopped, _thenAt_, listGot, fieldBy, fieldAt, thirdAt, noadAt, openedBy, itemBy, before, restBy, listBy, readBy, read, formulaLimit, depthLimit, unreadableNumber, readFormula}
 
 abbrev pub Numbered : Read → Type 0
 Numbered (good l) = Unit {0}
@@ -95,6 +94,6 @@ pub formula-numbered : (s : List ℕ) → Numbered (readFormula s)
 unfolding readFormula read
 formula-numbered s = go (ltb formulaLimit (length s))
   where
-    go : (t : Bool) → Numbered (elim t [ true ↦ fault 3 0 | false ↦ readBy (suc (length s)) 15 s ])
+    go : (t : Bool) → Numbered (elim t [ true ↦ fault unreadableNumber 0 | false ↦ read (depthLimit - 1) s ])
     go true = omega arith
-    go false = readBy-numbered (suc (length s)) 15 s
+    go false = readBy-numbered (suc (length s)) (depthLimit - 1) s

@@ -3,25 +3,25 @@
 --     field-reads      if the formula reads to the tree that has the list l at the path p, those bytes read to l
 -- A list at the path's end is read with fewer levels than the formula, and reads to the same tree with as many (`agree`).
 -- Assumes nothing.
-use mathlib.Core.Path.{_≡_, refl, sym, subst, ap, ap₂, _∙_}
+use mathlib.Core.Path.{_≡_, refl, sym, subst, ap, _∙_}
 use mathlib.Core.Bool.{Bool, true, false}
 use mathlib.Core.List.{List, [], _∷_}
-use Prim.Native.Nat.{ℕ, zero, suc, _+_, _-_, _≤_, _<_, min}
+use Prim.Native.Nat.{ℕ, zero, suc, _+_, _-_, _≤_, _<_}
 use native.Mathlib.Omega.{arith}
 use lib.Dec.{ltb}
 use lib.ListN.{length, take, drop, length-take, length-drop}
-use lib.Seq.{take-all, take-take, drop-drop, drop-nil, take-nil}
+use lib.Seq.{take-all, take-take, drop-drop}
 use borrow.Author.Tests.{ltb-false, le-ltb}
 use Rattle.formula.specs.declared.Kind.{Kind}
 use Rattle.formula.specs.declared.Opening.{Opening}
 use Rattle.formula.specs.declared.Opening.the-variants.{NoItem, Fields, Kern}
 use Rattle.formula.specs.declared.FieldHead.{FieldHead}
 use Rattle.formula.specs.declared.FieldHead.the-variants.{NoField, Empty, Symbol, Sublist, CutSublist}
-use Rattle.formula.specs.Tree.{Items, Item, Field, nil, cons, noad, kern, empty, symbol, list, openingBytes, listOpeningBytes, itemsBytes, itemBytes, fieldBytes}
+use Rattle.formula.specs.Tree.{Items, Item, Field, nil, cons, noad, kern, list, openingBytes, listOpeningBytes, itemsBytes, itemBytes, fieldBytes}
 use Rattle.formula.specs.Heads.{openingOf, fieldHead}
-use Rattle.formula.specs.Reading.{Read, good, fault, read, formulaLimit, depthLimit, unreadableNumber, readFormula}
+use Rattle.formula.specs.Reading.{good, fault, read, formulaLimit, depthLimit, unreadableNumber, readFormula}
 use Rattle.formula.specs.Places.{headBytes, contents, hasThird, headAt, second, third, itemSize}
-use Rattle.formula.specs.ReadingLaws.{FieldIs, FieldAtIs, ThirdIs, NoadIs, ItemIs, Below, ListIs, size-fits, size-some, contents-shorter, read-none, list-good, agree, readable-of, tree-is, items-bytes}
+use Rattle.formula.specs.ReadingLaws.{FieldIs, FieldAtIs, ThirdIs, NoadIs, ItemIs, Below, ListIs, size-fits, contents-shorter, read-none, list-good, agree, readable-of, tree-is, items-bytes}
 use Rattle.walk.specs.Paths.{Arm, inFirst, inSecond, inThird, holding, fieldPlace, Step, join, listWith, stepPlace, Path, whole, into, fill, placeOf}
 
 abbrev pub fieldPart : Path → Items → List ℕ → List ℕ
@@ -42,7 +42,7 @@ part-of-part s K k N zero long = refl
 part-of-part s K k N (suc n) long =
     let r = drop K s in
     let h : k + suc n ≤ N =
-        omega (arith, length-take (suc n) (drop k (take N r)), length-drop k (take N r), length-take N r)
+    omega (arith, length-take (suc n) (drop k (take N r)), length-drop k (take N r), length-take N r)
     in
     take-within k (suc n) N r h ∙ ap (take (suc n)) (drop-drop k K s)
 
@@ -162,7 +162,7 @@ module _ (levels : ℕ) where
       let size = itemSize s (openingOf s) in
       let rest : itemsBytes (g .others) ≡ length (drop size s) = written levels (drop size s) (g .others) (g .others-are) in
       let all : itemBytes (g .first) + itemsBytes (g .others) ≡ length s =
-          ap itemsBytes (sym (g .is)) ∙ written levels s l e
+      ap itemsBytes (sym (g .is)) ∙ written levels s l e
       in
       omega (arith, size-fits s, length-drop size s)
 
@@ -232,6 +232,6 @@ field-reads formula p l e =
     let r = read-formula formula (fill p l) e in
     let rest = drop (placeOf p) formula in
     let short : length (fieldPart p l formula) ≤ formulaLimit =
-        omega (arith, r .0, length-take (itemsBytes l) rest, length-drop (placeOf p) formula)
+    omega (arith, r .0, length-take (itemsBytes l) rest, length-drop (placeOf p) formula)
     in
     formula-read (fieldPart p l formula) l short (path-reads (depthLimit - 1) formula p l (r .1))

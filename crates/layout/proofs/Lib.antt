@@ -1,8 +1,8 @@
 mod BenchTable
 mod Definitions
 mod Examples
-mod Accepting
-mod FieldBytes
-mod MovedBytes
 mod FaultNumbers
+mod Accepting
+mod MovedBytes
+mod FieldBytes
 mod Demand3

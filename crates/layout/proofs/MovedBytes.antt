@@ -1,7 +1,7 @@
 -- Nodes in a buffer: one list of nodes behind another, and a run of nodes that is moved.
 --     moved-node-bytes    of a moved node's 18 bytes, only those of x and y change: the mark and the last eight stay
 -- Assumes nothing.
-use mathlib.Core.Path.{_≡_, refl, sym, ap, ap₂, _∙_}
+use mathlib.Core.Path.{_≡_, refl, sym, ap, _∙_}
 use mathlib.Core.List.{List, [], _∷_, _++_, append-assoc}
 use Prim.Native.Nat.{ℕ, suc}
 use lib.IntN.{ℤ, _+ℤ_}

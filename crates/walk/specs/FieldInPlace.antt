@@ -7,22 +7,21 @@
 -- nodes come in one order. What a list adds behind an item goes by the item's class and size alone (`setItems-behind`).
 -- Assumes nothing.
 use mathlib.Core.Path.{_≡_, refl, sym, ap, ap₂, _∙_}
-use mathlib.Core.Bool.{Bool, true, false}
-use mathlib.Core.List.{List, [], _∷_, _++_, append-nil, append-assoc}
-use mathlib.Core.Option.{Option, none, some}
-use lib.IntN.{ℤ, pos, _+ℤ_}
+use mathlib.Core.Bool.{false}
+use mathlib.Core.List.{List, [], _++_, append-nil, append-assoc}
+use mathlib.Core.Option.{none, some}
+use lib.IntN.{pos, _+ℤ_}
 use Rattle.font.specs.Font.{Font}
-use Rattle.formula.specs.declared.Class.{Class}
 use Rattle.formula.specs.declared.Kind.{Kind}
-use Rattle.formula.specs.Tree.{Items, Item, Field, nil, cons, noad, kern, list}
+use Rattle.formula.specs.Tree.{Items, Item, Field, nil, cons, noad, kern}
 use Rattle.rules.specs.declared.Style.{Style}
 use Rattle.rules.specs.Classes.{Neighbour, classOf, changedClass}
 use Rattle.rules.specs.Spacing.{spaceBefore}
-use Rattle.rules.specs.Boxes.{Size, Shape, box, Place, Arranged, at}
+use Rattle.rules.specs.Boxes.{Size, box, Place, Arranged, at}
 use Rattle.rules.specs.Arrange.{arrange, firstStyle, secondStyle, thirdStyle, enlarges}
-use Rattle.nodes.specs.Nodes.{Node, moved}
+use Rattle.nodes.specs.Nodes.{Node}
 use Rattle.walk.specs.Setting.{Box, Part, Line, start, movedTo, ruleNodes, itemNodes, itemBox, placed, nextClass, setItems, setItem, setField, setList}
-use Rattle.walk.specs.Frames.{Frame, framed, bare, nest, framed-bare, framed-nest}
+use Rattle.walk.specs.Frames.{Frame, movedBy, framed, bare, nest, framed-bare, framed-nest}
 use Rattle.walk.specs.Paths.{Arm, inFirst, inSecond, inThird, holding, fieldStyle, Step, join, holder, listWith, stepStyle, Path, whole, into, fill, styleAt}
 
 abbrev pub listPart : Box → Part
@@ -91,13 +90,21 @@ module _ (F : Font) (s : Style) (kind : Kind) where
   size-used right line (inSecond x z) l = refl
   size-used right line (inThird x y) l = refl
 
-  pub item-in-place : (g : Arm) (b : Box) →
-      itemAround g b
-      ≡ record { size = arrangedAround g (b .size) .size; nodes = framed (itemFrame g (b .size)) (b .nodes) }
+  item-size : (g : Arm) (b : Box) → itemAround g b .size ≡ arrangedAround g (b .size) .size
+  unfolding itemBox
+  item-size (inFirst y z) b = refl
+  item-size (inSecond x z) b = refl
+  item-size (inThird x y) b = refl
+
+  item-nodes : (g : Arm) (b : Box) → itemAround g b .nodes ≡ framed (itemFrame g (b .size)) (b .nodes)
   unfolding itemBox itemNodes
-  item-in-place (inFirst y z) b = ap (sized (arrangedAround (inFirst y z) (b .size) .size)) (simp append-assoc)
-  item-in-place (inSecond x z) b = ap (sized (arrangedAround (inSecond x z) (b .size) .size)) (simp append-assoc)
-  item-in-place (inThird x y) b = ap (sized (arrangedAround (inThird x y) (b .size) .size)) (simp (append-assoc, append-nil))
+  item-nodes (inFirst y z) b = simp append-assoc
+  item-nodes (inSecond x z) b = simp append-assoc
+  item-nodes (inThird x y) b = simp (append-assoc, append-nil)
+
+  pub item-in-place : (g : Arm) (b : Box) →
+      itemAround g b ≡ sized (arrangedAround g (b .size) .size) (framed (itemFrame g (b .size)) (b .nodes))
+  item-in-place g b = ap₂ sized (item-size g b) (item-nodes g b)
 
 -- ---- a line is a fold: what stands so far is left alone, and what is added goes by the last class and the width
 
@@ -166,7 +173,7 @@ module _ (F : Font) (s : Style) where
 
     lineUpTo-behind : (b : Box) →
         lineUpTo b
-        ≡ behind (lineBefore .box .nodes ++ movedTo itemPlace (b .nodes)) (withoutNodes (lineUpTo (sized (b .size) [])))
+        ≡ behind (lineBefore .box .nodes ++ movedBy itemPlace (b .nodes)) (withoutNodes (lineUpTo (sized (b .size) [])))
     unfolding placed
     lineUpTo-behind b = simp append-nil
 
@@ -192,10 +199,10 @@ module _ (F : Font) (s : Style) where
 
     line-behind-item : (b : Box) →
         setItems F s none (lineUpTo b) (t .after)
-        ≡ behind (lineBefore .box .nodes ++ movedTo itemPlace (b .nodes)) (lineAfter (b .size))
+        ≡ behind (lineBefore .box .nodes ++ movedBy itemPlace (b .nodes)) (lineAfter (b .size))
     line-behind-item b =
         ap (λ (m : Line). setItems F s none m (t .after)) (lineUpTo-behind b)
-        ∙ setItems-behind none (lineBefore .box .nodes ++ movedTo itemPlace (b .nodes))
+        ∙ setItems-behind none (lineBefore .box .nodes ++ movedBy itemPlace (b .nodes))
         (withoutNodes (lineUpTo (sized (b .size) []))) (t .after)
 
     pub list-in-place : (l : Items) →
@@ -205,7 +212,7 @@ module _ (F : Font) (s : Style) where
         let b = itemAround F s (t .kind) (t .arm) (setList F (stepStyle t s) l) in
         ap (λ (m : Line). m .box) (line-through-item l ∙ line-behind-item b)
         ∙ ap (sized (lineAfter (b .size) .box .size))
-        (append-assoc (lineBefore .box .nodes) (movedTo itemPlace (b .nodes)) (lineAfter (b .size) .box .nodes))
+        (append-assoc (lineBefore .box .nodes) (movedBy itemPlace (b .nodes)) (lineAfter (b .size) .box .nodes))
 
 -- ---- the whole, by the path to a list of the size z within it
 
@@ -251,3 +258,12 @@ module _ (F : Font) where
         ∙ ap (boxAround p) (step-in-place (styleAt s p) t l)
         ∙ ap (sized (sizeAround (into p t) (b .size)))
         (framed-nest (frame p (stepSize (styleAt s p) t (b .size))) (stepFrame (styleAt s p) t (b .size)) (b .nodes))
+
+    -- another list of the size that the first has
+    pub same-frame : (p : Path) (l m : Items) →
+        let size = setList F (styleAt s p) l .size in
+        setList F (styleAt s p) m .size ≡ size →
+        setList F s (fill p m) ≡ sized (sizeAround p size) (framed (frame p size) (setList F (styleAt s p) m .nodes))
+    same-frame p l m e =
+        let ns = setList F (styleAt s p) m .nodes in
+        field-in-place p m ∙ ap (λ (z : Size). sized (sizeAround p z) (framed (frame p z) ns)) e

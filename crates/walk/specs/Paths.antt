@@ -9,7 +9,7 @@
 -- Assumes nothing.
 use Prim.Native.Nat.{ℕ, _+_}
 use Rattle.formula.specs.declared.Kind.{Kind}
-use Rattle.formula.specs.Tree.{Items, Item, Field, nil, cons, noad, kern, list, openingBytes, listOpeningBytes, itemsBytes, fieldBytes}
+use Rattle.formula.specs.Tree.{Items, Item, Field, nil, cons, noad, list, openingBytes, listOpeningBytes, itemsBytes, fieldBytes}
 use Rattle.rules.specs.declared.Style.{Style}
 use Rattle.rules.specs.Arrange.{firstStyle, secondStyle, thirdStyle}
 
