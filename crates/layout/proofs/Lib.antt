@@ -6,3 +6,4 @@ mod Accepting
 mod MovedBytes
 mod FieldBytes
 mod Demand3
+mod FieldExample
