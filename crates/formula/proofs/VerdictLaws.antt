@@ -4,12 +4,12 @@
 --     field-step ..           a field, by its head; `noad-stop` .. an item, by its fields
 --     list-next ..            a turn of the loop over a list's items
 -- Assumes nothing.
-use mathlib.Core.Path.{_≡_, refl, sym, subst, ap, ap₂, _∙_}
-use mathlib.Core.Bool.{Bool, true, false}
+use mathlib.Core.Path.{_≡_, refl, sym, subst, ap, _∙_}
+use mathlib.Core.Bool.{true, false}
 use mathlib.Core.List.{List}
 use Prim.Native.Nat.{ℕ, zero, suc, _+_, _-_, _≤_, _<_}
 use native.Mathlib.Omega.{arith}
-use lib.ListN.{length, take, drop, length-take, length-drop}
+use lib.ListN.{length, take, drop, length-drop}
 use lib.Seq.{drop-drop}
 use Rattle.formula.specs.declared.Kind.{Kind}
 use Rattle.formula.specs.declared.Kind.the-variants.{Atom, Over, Under, Fraction}
@@ -21,13 +21,14 @@ use Rattle.formula.specs.declared.Verdict.{Verdict}
 use Rattle.formula.specs.declared.Verdict.the-variants.{Good, Fault}
 use Rattle.formula.specs.declared.Step.{Step}
 use Rattle.formula.specs.declared.Step.the-variants.{Next, Stop}
-use Rattle.formula.specs.Tree.{Item, Field, noad, openingBytes, listOpeningBytes}
+use Rattle.formula.specs.Tree.{Item, noad, openingBytes, listOpeningBytes}
 use Rattle.formula.specs.Heads.{openingOf, fieldHead}
 use Rattle.formula.specs.Reading.{Read, good, fault, Got, got, stopped, _thenAt_, unreadableNumber, tooDeepNumber, listGot, fieldBy, fieldAt, thirdAt, noadAt, openedBy, itemBy, before, restBy, read}
 use Rattle.formula.specs.Verdicts.{told, stepOf}
 use Rattle.formula.specs.Places.{headBytes, contents, hasThird, headAt, openedBytes}
-use Rattle.formula.specs.ReadingLaws.{by-length, head-fits, opening-fits, contents-shorter, read-none, read-some}
-use Rattle.formula.proofs.HeadLaws.{tail-part}
+use Rattle.formula.specs.HeadLaws.{head-fits, contents-shorter, opening-fits}
+use Rattle.formula.specs.ReadingLaws.{by-length, read-none, read-some}
+use Rattle.formula.proofs.FirstBytes.{tail-part}
 
 -- ---- a list
 

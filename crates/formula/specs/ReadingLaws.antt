@@ -1,45 +1,30 @@
--- Laws of reading. In order:
---     by-length            induction on a list's length
---     head-fits, opening-fits     what a head speaks of lies in its list
---     FieldIs, ItemIs      that a field, an item, is the tree it is, by its head alone, with P for "this list is these items":
---                          one predicate for every kind of field and item; `item-map` changes the P
+-- Laws of `read`.
+--     FieldIs, ItemIs      a field, an item, is this tree by its head, with P for "this list of bytes is these items":
+--                          one predicate for every kind; `item-map` changes the P
+--     size-fits, size-some an item lies in its list, and takes a byte at least
 --     item-got, got-item   `itemBy` gives an item exactly where `ItemIs` holds, and the place behind it is `itemSize`
---     read-step            the equation of `read`, with no number of steps in it
---     list-good, good-list the same of a list that is not empty
---     agree                a list that reads with some levels reads to the same tree with any number that is no less,
---                          or no less than its length
---     known, readable-of, tree-is    the same for `Readable` and `treeOf`
---     step                 a readable list that is not empty is its first item and a readable rest
---     items-bytes          a readable list is as long as its tree is written, and its first item likewise
+--     read-step            the equation of `read` with no number of steps in it, from `enough`
+--     list-good, good-list a list that is not empty reads exactly where its first item and the rest do
+--     agree                a list that reads with some number of levels reads to the same tree with any number that is not less,
+--                          or not less than the list is long
 -- Assumes nothing.
-use mathlib.Core.Path.{_≡_, refl, sym, subst, ap, ap₂, _∙_}
-use mathlib.Core.Bool.{Bool, true, false, _&&_, _||_}
+use mathlib.Core.Path.{_≡_, refl, sym, ap, ap₂, _∙_}
+use mathlib.Core.Bool.{Bool, true, false}
 use mathlib.Core.List.{List, [], _∷_}
-use mathlib.Core.Option.{Option, none, some}
 use Prim.Native.Nat.{ℕ, zero, suc, _+_, _-_, _≤_, _<_, min}
 use native.Mathlib.Omega.{arith}
-use lib.Dec.{leb, ltb, eqb}
-use lib.IntN.{ℤ, natAbs}
-use lib.ListN.{length, take, drop, getElem?, length-take, length-drop}
-use borrow.Author.Tests.{leb-true, ltb-false}
-use Rattle.scaled.specs.Words.{littleEndian, signedWord}
+use lib.ListN.{length, drop, length-drop}
 use Rattle.formula.specs.declared.Kind.{Kind}
 use Rattle.formula.specs.declared.Kind.the-variants.{Atom, Over, Under, Fraction}
-use Rattle.formula.specs.declared.Class.{Class}
-use Rattle.formula.specs.declared.Limits.{Limits}
-use Rattle.formula.specs.declared.Bar.{Bar}
-use Rattle.formula.specs.declared.Mark.{Mark}
-use Rattle.formula.specs.declared.Mark.the-variants.{AT, OV, UN, FR, KN, Unknown}
 use Rattle.formula.specs.declared.Opening.{Opening}
 use Rattle.formula.specs.declared.Opening.the-variants.{NoItem, Fields, Kern}
 use Rattle.formula.specs.declared.FieldHead.{FieldHead}
 use Rattle.formula.specs.declared.FieldHead.the-variants.{NoField, Empty, Symbol, Sublist, CutSublist}
-use Rattle.formula.specs.declared.Verdict.the-variants.{Good, Fault}
-use Rattle.formula.specs.Tree.{Items, Item, Field, nil, cons, noad, kern, empty, symbol, list, openingBytes, kernBytes, symbolBytes, listOpeningBytes, itemsBytes, itemBytes, fieldBytes}
-use Rattle.formula.specs.Heads.{markOf, classes, limitKinds, bars, isOp, isDisplayOnly, atomOf, atomOpening, fractionOf, fractionOpening, greatestKern, kernWithin, kernOpening, opens, openingOf, greatestFamily, symbolHead, listHead, fieldHead}
-use Rattle.formula.specs.Reading.{formulaLimit, depthLimit, unreadableNumber, Read, good, fault, Got, got, stopped, unreadable, _thenAt_, listGot, fieldBy, fieldAt, thirdAt, noadAt, openedBy, itemBy, before, restBy, listBy, readBy, read, readFormula}
-use Rattle.formula.specs.Verdicts.{told}
-use Rattle.formula.specs.Places.{treeIn, IsGood, Readable, treeOf, headBytes, contents, fieldOf, GoodField, hasThird, openedBytes, headAt, behind, second, third, thirdEnd, end, itemSize, fieldIn, thirdIn, itemOf, GoodFieldAt, GoodThird, GoodItem}
+use Rattle.formula.specs.Tree.{Items, Item, Field, nil, cons, noad, kern, empty, symbol, list, openingBytes, listOpeningBytes}
+use Rattle.formula.specs.Heads.{openingOf}
+use Rattle.formula.specs.Reading.{Read, good, fault, Got, got, stopped, _thenAt_, listGot, fieldBy, fieldAt, thirdAt, noadAt, openedBy, itemBy, before, restBy, listBy, readBy, read}
+use Rattle.formula.specs.Places.{headBytes, contents, hasThird, openedBytes, headAt, behind, second, third, thirdEnd, end, itemSize}
+use Rattle.formula.specs.HeadLaws.{head-fits, contents-shorter, opening-fits}
 
 pub by-length : (P : List ℕ → Type 0) → ((s : List ℕ) → ((r : List ℕ) → length r < length s → P r) → P s) →
     (s : List ℕ) → P s
@@ -48,91 +33,6 @@ by-length P step s = go (suc (length s)) s (omega arith)
     go : (f : ℕ) (s : List ℕ) → length s < f → P s
     go zero s h = absurd (omega arith)
     go (suc f) s h = step s (λ r l. go f r (omega arith))
-
--- a choice by a test
-either : {A : Type 0} (P : A → Type 0) (t : Bool) {a b : A} → (t ≡ true → P a) → (t ≡ false → P b) →
-    P (elim t [ true ↦ a | false ↦ b ])
-either P true f g = f refl
-either P false f g = g refl
-
--- ---- what a head speaks of lies in its list
-
-HeadIn : List ℕ → FieldHead → Type 0
-HeadIn s h = headBytes h ≤ length s
-
-symbol-fits : (kind : ℕ) (s : List ℕ) → HeadIn (kind ∷ s) (symbolHead s)
-unfolding symbolHead HeadIn
-symbol-fits kind [] = omega arith
-symbol-fits kind (family ∷ []) = omega arith
-symbol-fits kind (family ∷ code ∷ s) =
-    either (HeadIn (kind ∷ family ∷ code ∷ s)) (leb family greatestFamily) (λ e. omega arith) (λ e. omega arith)
-
-list-fits : (kind : ℕ) (s : List ℕ) → HeadIn (kind ∷ s) (listHead s)
-unfolding listHead HeadIn
-list-fits kind [] = omega arith
-list-fits kind (low ∷ []) = omega arith
-list-fits kind (low ∷ high ∷ s) =
-    let n = littleEndian 2 (low ∷ high ∷ []) in
-    either (HeadIn (kind ∷ low ∷ high ∷ s)) (leb n (length s)) (λ e. omega (arith, leb-true n (length s) e)) (λ e. omega arith)
-
-head-in : (s : List ℕ) → HeadIn s (fieldHead s)
-unfolding fieldHead HeadIn
-head-in [] = omega arith
-head-in (kind ∷ s) =
-    let P = HeadIn (kind ∷ s) in
-    either P (eqb kind 0) (λ e. omega arith) (λ e.
-    either P (eqb kind 1) (λ e. symbol-fits kind s) (λ e.
-    either P (eqb kind 2) (λ e. list-fits kind s) (λ e. omega arith)))
-
-pub head-fits : (s : List ℕ) (h : FieldHead) → fieldHead s ≡ h → headBytes h ≤ length s
-unfolding HeadIn
-head-fits s h e = subst (HeadIn s) e (head-in s)
-
-OpeningIn : List ℕ → Opening → Type 0
-OpeningIn s o = openedBytes o ≤ length s
-
-atom-in : (s : List ℕ) (class : Option Class) (limits : Option Limits) → 4 ≤ length s → OpeningIn s (atomOf class limits)
-unfolding atomOf OpeningIn
-atom-in s none limits h = omega arith
-atom-in s (some class) none h = omega arith
-atom-in s (some class) (some limits) h = either (OpeningIn s) (isOp class || isDisplayOnly limits) (λ e. h) (λ e. omega arith)
-
-fraction-in : (s : List ℕ) (bar : Option Bar) → 3 ≤ length s → OpeningIn s (fractionOf bar)
-unfolding fractionOf OpeningIn
-fraction-in s none h = omega arith
-fraction-in s (some bar) h = h
-
-kern-in : (s : List ℕ) (n : ℤ) → kernBytes ≤ length s → OpeningIn s (kernWithin n)
-unfolding kernWithin OpeningIn
-kern-in s n h = either (OpeningIn s) (leb (natAbs n) greatestKern) (λ e. h) (λ e. omega arith)
-
-opens-in : (a b : ℕ) (m : Mark) (s : List ℕ) → OpeningIn (a ∷ b ∷ s) (opens m s)
-unfolding opens atomOpening fractionOpening kernOpening OpeningIn
-opens-in a b AT [] = omega arith
-opens-in a b AT (c ∷ []) = omega arith
-opens-in a b AT (c ∷ d ∷ s) =
-    atom-in (a ∷ b ∷ c ∷ d ∷ s) (getElem? classes c) (getElem? limitKinds d) (omega arith)
-opens-in a b OV s = omega arith
-opens-in a b UN s = omega arith
-opens-in a b FR [] = omega arith
-opens-in a b FR (c ∷ s) = fraction-in (a ∷ b ∷ c ∷ s) (getElem? bars c) (omega arith)
-opens-in a b KN [] = omega arith
-opens-in a b KN (c ∷ []) = omega arith
-opens-in a b KN (c ∷ d ∷ []) = omega arith
-opens-in a b KN (c ∷ d ∷ e ∷ []) = omega arith
-opens-in a b KN (c ∷ d ∷ e ∷ f ∷ s) =
-    kern-in (a ∷ b ∷ c ∷ d ∷ e ∷ f ∷ s) (signedWord (littleEndian 4 (c ∷ d ∷ e ∷ f ∷ s))) (omega arith)
-opens-in a b Unknown s = omega arith
-
-opening-in : (s : List ℕ) → OpeningIn s (openingOf s)
-unfolding openingOf OpeningIn
-opening-in [] = omega arith
-opening-in (a ∷ []) = omega arith
-opening-in (a ∷ b ∷ s) = opens-in a b (markOf a b) s
-
-pub opening-fits : (s : List ℕ) (o : Opening) → openingOf s ≡ o → openedBytes o ≤ length s
-unfolding OpeningIn
-opening-fits s o e = subst (OpeningIn s) e (opening-in s)
 
 -- ---- a field and an item by their heads
 
@@ -173,12 +73,6 @@ head-some P s (Symbol family code) f i = omega arith
 head-some P s (Sublist n) f i = omega arith
 head-some P s CutSublist f i = absurd i
 
--- a list field's bytes are fewer than those of what holds it
-pub contents-shorter : (s : List ℕ) (n : ℕ) → fieldHead s ≡ Sublist n → (length (contents n s) ≡ n) × (n < length s)
-contents-shorter s n e =
-    let fits = head-fits s (Sublist n) e in
-    (omega (arith, length-take n (drop listOpeningBytes s), length-drop listOpeningBytes s), omega arith)
-
 module _ (P Q : List ℕ → Items → Type 0) (s : List ℕ) (to : (r : List ℕ) (l : Items) → length r < length s → P r l → Q r l) where
   field-map : (at : ℕ) (f : Field) → FieldAtIs P s at f → FieldAtIs Q s at f
   field-map at f i = go (headAt s at) refl i
@@ -192,7 +86,7 @@ module _ (P Q : List ℕ → Items → Type 0) (s : List ℕ) (to : (r : List �
           (i .0, to (contents n (drop at s)) (i .0) (omega (arith, length-drop at s)) (i .1), i .2)
       go CutSublist e i = i
 
-  third-map : (some : Bool) (at : ℕ) (f : Field) → ThirdIs P s some at f → ThirdIs Q s some at f
+  third-map : (has : Bool) (at : ℕ) (f : Field) → ThirdIs P s has at f → ThirdIs Q s has at f
   third-map true at f i = field-map at f i
   third-map false at f i = i
 
@@ -215,7 +109,7 @@ module _ (P Q : List ℕ → Items → Type 0) (s : List ℕ) (to : (r : List �
 behind-in : (s : List ℕ) (at : ℕ) → at ≤ length s → behind s at ≤ length s
 behind-in s at h = omega (arith, head-fits (drop at s) (headAt s at) refl, length-drop at s)
 
-third-end-in : (s : List ℕ) (some : Bool) (at : ℕ) → at ≤ length s → thirdEnd s some at ≤ length s
+third-end-in : (s : List ℕ) (has : Bool) (at : ℕ) → at ≤ length s → thirdEnd s has at ≤ length s
 third-end-in s true at h = behind-in s at h
 third-end-in s false at h = h
 
@@ -228,7 +122,7 @@ size-by s (Kern n) h = h
 pub size-fits : (s : List ℕ) → itemSize s (openingOf s) ≤ length s
 size-fits s = size-by s (openingOf s) (opening-fits s (openingOf s) refl)
 
-third-end-some : (s : List ℕ) (some : Bool) (at : ℕ) → 0 < at → 0 < thirdEnd s some at
+third-end-some : (s : List ℕ) (has : Bool) (at : ℕ) → 0 < at → 0 < thirdEnd s has at
 third-end-some s true at h = omega arith
 third-end-some s false at h = h
 
@@ -246,30 +140,36 @@ abbrev pub Below : (ℕ → List ℕ → Read) → ℕ → List ℕ → Items �
 Below R zero r l = ⊥
 Below R (suc levels) r l = R levels r ≡ good l
 
+stopped-got : {A B : Type 0} {number place : ℕ} {a : A} {e : ℕ} → stopped number place ≡ got a e → B
+stopped-got q = let z : _≡_ {A = ℕ} 0 1 = cc in absurd (omega arith)
+
+fault-good : {B : Type 0} {number place : ℕ} {l : Items} → fault number place ≡ good l → B
+fault-good q = let z : _≡_ {A = ℕ} 0 1 = cc in absurd (omega arith)
+
 then-got : {A B : Type 0} (g : Got A) (k : A → ℕ → Got B) (b : B) (e : ℕ) → (g thenAt k) ≡ got b e →
     (a : A) × (m : ℕ) × (g ≡ got a m) × (k a m ≡ got b e)
 then-got (got a m) k b e q = (a, m, refl, q)
-then-got (stopped number place) k b e q = let z : _≡_ {A = ℕ} 0 1 = cc in absurd (omega arith)
+then-got (stopped number place) k b e q = stopped-got q
 
 list-got : (at n : ℕ) (x : Read) (f : Field) (e : ℕ) → listGot at n x ≡ got f e →
     (l : Items) × (x ≡ good l) × (f ≡ list l) × (e ≡ at + listOpeningBytes + n)
 unfolding listGot
 list-got at n (good l) f e q = (l, refl, (cc), (cc))
-list-got at n (fault number place) f e q = let z : _≡_ {A = ℕ} 0 1 = cc in absurd (omega arith)
+list-got at n (fault number place) f e q = stopped-got q
 
 module _ (R : ℕ → List ℕ → Read) where
   field-by-got : (levels at : ℕ) (s : List ℕ) (h : FieldHead) (f : Field) (e : ℕ) → fieldBy R levels at s h ≡ got f e →
       FieldIs (Below R levels) s h f × (e ≡ at + headBytes h)
   unfolding fieldBy
-  field-by-got levels at s NoField f e q = let z : _≡_ {A = ℕ} 0 1 = cc in absurd (omega arith)
+  field-by-got levels at s NoField f e q = stopped-got q
   field-by-got levels at s Empty f e q = ((cc), (cc))
   field-by-got levels at s (Symbol family code) f e q = ((cc), (cc))
-  field-by-got zero at s (Sublist n) f e q = let z : _≡_ {A = ℕ} 0 1 = cc in absurd (omega arith)
+  field-by-got zero at s (Sublist n) f e q = stopped-got q
   field-by-got (suc levels) at s (Sublist n) f e q =
       let g = list-got at n (R levels (contents n s)) f e q in
       ((g .0, g .1, g .2), omega (arith, g .3))
-  field-by-got zero at s CutSublist f e q = let z : _≡_ {A = ℕ} 0 1 = cc in absurd (omega arith)
-  field-by-got (suc levels) at s CutSublist f e q = let z : _≡_ {A = ℕ} 0 1 = cc in absurd (omega arith)
+  field-by-got zero at s CutSublist f e q = stopped-got q
+  field-by-got (suc levels) at s CutSublist f e q = stopped-got q
 
   got-field-by : (levels at : ℕ) (s : List ℕ) (h : FieldHead) (f : Field) → FieldIs (Below R levels) s h f →
       fieldBy R levels at s h ≡ got f (at + headBytes h)
@@ -343,7 +243,7 @@ module _ (R : ℕ → List ℕ → Read) where
     item-got i e q = go (openingOf s) q
       where
         go : (o : Opening) → openedBy R levels s o ≡ got i e → ItemIs (Below R levels) s o i × (e ≡ itemSize s o)
-        go NoItem q = let z : _≡_ {A = ℕ} 0 1 = cc in absurd (omega arith)
+        go NoItem q = stopped-got q
         go (Fields kind) q = noad-got kind i e q
         go (Kern n) q = ((cc), (cc))
 
@@ -459,7 +359,7 @@ before-good : (i : Item) (size : ℕ) (x : Read) (l : Items) → before i size x
     (r : Items) × (x ≡ good r) × (l ≡ cons i r)
 unfolding before
 before-good i size (good r) l e = (r, refl, (cc))
-before-good i size (fault number place) l e = let z : _≡_ {A = ℕ} 0 1 = cc in absurd (omega arith)
+before-good i size (fault number place) l e = fault-good e
 
 pub list-good : (levels : ℕ) (s : List ℕ) (l : Items) → 0 < length s → read levels s ≡ good l → ListIs levels s l
 unfolding restBy
@@ -476,7 +376,7 @@ list-good levels s l pos e = go (itemBy read levels s) refl (sym (read-some leve
           others-are = ap (λ (k : ℕ). read levels (drop k s)) (sym (is .1)) ∙ b .1;
           is = b .2;
         }
-    go (stopped number place) q e = let z : _≡_ {A = ℕ} 0 1 = cc in absurd (omega arith)
+    go (stopped number place) q e = fault-good e
 
 pub good-list : (levels : ℕ) (s : List ℕ) (l : Items) → 0 < length s → ListIs levels s l → read levels s ≡ good l
 unfolding restBy before
@@ -520,182 +420,3 @@ agree-step s ih d e l q h = go (length s) refl
 pub agree : (s : List ℕ) (d e : ℕ) (l : Items) → read d s ≡ good l → min d (length s) ≤ e → read e s ≡ good l
 unfolding Agrees
 agree = by-length Agrees agree-step
-
--- ---- a readable list
-
-pub known : (s : List ℕ) → Readable s → read (length s) s ≡ good (treeOf s)
-unfolding Readable treeOf
-known s h = go (read (length s) s) h
-  where
-    go : (x : Read) → IsGood x → x ≡ good (treeIn x)
-    go (good l) h = refl
-    go (fault number place) h = absurd h
-
-own : (s : List ℕ) (d : ℕ) (l : Items) → read d s ≡ good l → read (length s) s ≡ good l
-own s d l e = agree s d (length s) l e (omega arith)
-
-pub readable-of : (s : List ℕ) (d : ℕ) (l : Items) → read d s ≡ good l → Readable s
-unfolding Readable
-readable-of s d l e = subst IsGood (sym (own s d l e)) tt
-
-pub tree-is : (s : List ℕ) (d : ℕ) (l : Items) → read d s ≡ good l → treeOf s ≡ l
-unfolding treeOf
-tree-is s d l e = ap treeIn (own s d l e)
-
-pub tree-none : (s : List ℕ) → length s ≡ 0 → Readable s × (treeOf s ≡ nil)
-tree-none s h = (readable-of s 0 nil (read-none 0 s h), tree-is s 0 nil (read-none 0 s h))
-
-Known : List ℕ → Items → Type 0
-Known r l = Readable r × (treeOf r ≡ l)
-
-field-known : (s : List ℕ) (h : FieldHead) (f : Field) → FieldIs Known s h f → GoodField s h × (f ≡ fieldOf s h)
-unfolding Known
-field-known s NoField f i = absurd i
-field-known s Empty f i = (tt, i)
-field-known s (Symbol family code) f i = (tt, i)
-field-known s (Sublist n) f i = (i .1 .0, i .2 ∙ ap list (sym (i .1 .1)))
-field-known s CutSublist f i = absurd i
-
-third-known : (s : List ℕ) (some : Bool) (at : ℕ) (f : Field) → ThirdIs Known s some at f →
-    GoodThird s some at × (f ≡ thirdIn s some at)
-third-known s true at f i = field-known (drop at s) (headAt s at) f i
-third-known s false at f i = (tt, i)
-
-item-known : (s : List ℕ) (o : Opening) (i : Item) → ItemIs Known s o i → GoodItem s o × (i ≡ itemOf s o)
-item-known s NoItem i h = absurd h
-item-known s (Fields kind) i h =
-    let first = openingBytes kind in
-    let a = field-known (drop first s) (headAt s first) (h .a) (h .a-is) in
-    let b = field-known (drop (second s kind) s) (headAt s (second s kind)) (h .b) (h .b-is) in
-    let c = third-known s (hasThird kind) (third s kind) (h .c) (h .c-is) in
-    ((a .0, b .0, c .0), (cc))
-item-known s (Kern n) i h = (tt, h)
-
-below-known : (d : ℕ) (r : List ℕ) (l : Items) → Below read d r l → Known r l
-unfolding Known
-below-known zero r l h = absurd h
-below-known (suc d) r l h = (readable-of r d l h, tree-is r d l h)
-
--- what a readable list that opens with o is
-pub record Stepped (s : List ℕ) (o : Opening) : Type 0 where
-  pub some : 0 < itemSize s o
-  pub fits : itemSize s o ≤ length s
-  pub item : GoodItem s o
-  pub rest : Readable (drop (itemSize s o) s)
-  pub tree : treeOf s ≡ cons (itemOf s o) (treeOf (drop (itemSize s o) s))
-
-step-by : (s : List ℕ) → Readable s → 0 < length s → Stepped s (openingOf s)
-step-by s r pos =
-    let d = length s in
-    let o = openingOf s in
-    let rest = drop (itemSize s o) s in
-    let g = list-good d s (treeOf s) pos (known s r) in
-    let i = item-known s o (g .first) (item-map (Below read d) Known s (λ r l k. below-known d r l) o (g .first) (g .first-is)) in
-    record {
-      some = size-some (Below read d) s o (g .first) (g .first-is);
-      fits = size-fits s;
-      item = i .0;
-      rest = readable-of rest d (g .others) (g .others-are);
-      tree = g .is ∙ ap₂ cons (i .1) (sym (tree-is rest d (g .others) (g .others-are)));
-    }
-
-pub step : (s : List ℕ) (o : Opening) → openingOf s ≡ o → Readable s → 0 < length s → Stepped s o
-step s o e r pos = subst (Stepped s) e (step-by s r pos)
-
--- ---- the bytes that a tree is written in
-
-module _ (s : List ℕ) (ih : (r : List ℕ) → length r < length s → Readable r → itemsBytes (treeOf r) ≡ length r) where
-  field-by-bytes : (at : ℕ) → GoodFieldAt s at → fieldBytes (fieldIn s at) ≡ headBytes (headAt s at)
-  unfolding fieldBytes
-  field-by-bytes at g = go (headAt s at) refl g
-    where
-      go : (h : FieldHead) → headAt s at ≡ h → GoodField (drop at s) h → fieldBytes (fieldOf (drop at s) h) ≡ headBytes h
-      go NoField e g = absurd g
-      go Empty e g = refl
-      go (Symbol family code) e g = refl
-      go (Sublist n) e g =
-          let k = contents-shorter (drop at s) n e in
-          omega (arith, ih (contents n (drop at s)) (omega (arith, length-drop at s)) g)
-      go CutSublist e g = absurd g
-
-  item-by-bytes : (o : Opening) → GoodItem s o → itemBytes (itemOf s o) ≡ itemSize s o
-  unfolding itemBytes fieldBytes
-  item-by-bytes NoItem g = absurd g
-  item-by-bytes (Fields kind) g =
-      let a = field-by-bytes (openingBytes kind) (g .0) in
-      let b = field-by-bytes (second s kind) (g .1) in
-      go kind a b (g .2)
-    where
-      go : (kind : Kind) → fieldBytes (fieldIn s (openingBytes kind)) ≡ headBytes (headAt s (openingBytes kind)) →
-          fieldBytes (fieldIn s (second s kind)) ≡ headBytes (headAt s (second s kind)) →
-          GoodThird s (hasThird kind) (third s kind) → itemBytes (itemOf s (Fields kind)) ≡ itemSize s (Fields kind)
-      go (Atom class limits) a b g = omega (arith, field-by-bytes (third s (Atom class limits)) g)
-      go Over a b g = omega (arith, field-by-bytes (third s Over) g)
-      go Under a b g = omega (arith, field-by-bytes (third s Under) g)
-      go (Fraction bar) a b g = omega arith
-  item-by-bytes (Kern n) g = refl
-
-Written : List ℕ → Type 0
-Written s = Readable s → itemsBytes (treeOf s) ≡ length s
-
-written-step : (s : List ℕ) → ((r : List ℕ) → length r < length s → Written r) → Written s
-unfolding Written itemsBytes
-written-step s ih r = go (length s) refl
-  where
-    go : (n : ℕ) → length s ≡ n → itemsBytes (treeOf s) ≡ length s
-    go zero z = ap itemsBytes (tree-none s z .1) ∙ sym z
-    go (suc n) z =
-        let p = step-by s r (omega arith) in
-        let size = itemSize s (openingOf s) in
-        let k : length (drop size s) ≡ length s - size = length-drop size s in
-        ap itemsBytes (p .tree)
-        ∙ omega (arith, p .some, p .fits, item-by-bytes s ih (openingOf s) (p .item), ih (drop size s) (omega arith) (p .rest))
-
-pub items-bytes : (s : List ℕ) → Readable s → itemsBytes (treeOf s) ≡ length s
-unfolding Written
-items-bytes = by-length Written written-step
-
-pub item-bytes : (s : List ℕ) (o : Opening) → GoodItem s o → itemBytes (itemOf s o) ≡ itemSize s o
-item-bytes s = item-by-bytes s (λ r l. items-bytes r)
-
-pub field-bytes : (s : List ℕ) (at : ℕ) → GoodFieldAt s at → fieldBytes (fieldIn s at) ≡ headBytes (headAt s at)
-field-bytes s = field-by-bytes s (λ r l. items-bytes r)
-
--- ---- a formula
-
-told-good : (x : Read) → told x ≡ Good → (l : Items) × (x ≡ good l)
-unfolding told
-told-good (good l) e = (l, refl)
-told-good (fault number place) e = let z : _≡_ {A = ℕ} 0 1 = cc in absurd (omega arith)
-
--- the formula is small, readable, and its tree is that of its bytes
-pub record FormulaIs (s : List ℕ) : Type 0 where
-  pub small : length s ≤ formulaLimit
-  pub readable : Readable s
-  pub is : readFormula s ≡ good (treeOf s)
-
-pub formula-good : (s : List ℕ) → told (readFormula s) ≡ Good → FormulaIs s
-unfolding readFormula told
-formula-good s e = go (ltb formulaLimit (length s)) refl e
-  where
-    by : Bool → Read
-    by t = elim t [ true ↦ fault unreadableNumber 0 | false ↦ read (depthLimit - 1) s ]
-
-    go : (t : Bool) → ltb formulaLimit (length s) ≡ t → told (by t) ≡ Good → FormulaIs s
-    go true q e = let z : _≡_ {A = ℕ} 0 1 = cc in absurd (omega arith)
-    go false q e =
-        let l = told-good (read (depthLimit - 1) s) e in
-        record {
-          small = ltb-false formulaLimit (length s) q;
-          readable = readable-of s (depthLimit - 1) (l .0) (l .1);
-          is = ap by q ∙ l .1 ∙ ap good (sym (tree-is s (depthLimit - 1) (l .0) (l .1)));
-        }
-
-pub formula-fault : (s : List ℕ) (number place : ℕ) → told (readFormula s) ≡ Fault number place →
-    readFormula s ≡ fault number place
-unfolding told
-formula-fault s number place e = go (readFormula s) e
-  where
-    go : (x : Read) → told x ≡ Fault number place → x ≡ fault number place
-    go (good l) e = let z : _≡_ {A = ℕ} 0 1 = cc in absurd (omega arith)
-    go (fault n p) e = cc

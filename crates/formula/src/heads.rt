@@ -3,10 +3,10 @@
 ghost use mathlib.Core.Path.{_≡_};
 ghost use mathlib.Core.Bool.{_&&_};
 ghost use mathlib.Core.Option.{some};
-ghost use Prim.Native.Nat.{_^_, _≤_, _<_};
+ghost use Prim.Native.Nat.{_+_, _*_, _^_, _<_};
 ghost use lib.Dec.{eqb};
-ghost use lib.ListN.{length, getElem?};
-ghost use Rattle.scaled.specs.Words.{littleEndian, signedWord};
+ghost use lib.ListN.{getElem?};
+ghost use Rattle.scaled.specs.Words.{signedWord};
 ghost use Rattle.formula.specs.Tree.{openingBytes};
 ghost use Rattle.formula.specs.Heads.{markOf, classes, limitKinds, isOp, isDisplayOnly, atomOf, atomOpening, fractionOpening, kernWithin, kernOpening, opens, openingOf, symbolHead, listHead, fieldHead};
 ghost use Rattle.formula.specs.Places.{headBytes, hasThird};
@@ -195,7 +195,7 @@ fn kern_opening(s: &[u8]) -> Opening
     if s.len() < 4 {
         return Opening::NoItem;
     }
-    kern(signed(word(s)))
+    kern(signed(word(s[0], s[1], s[2], s[3])))
 }
 
 fn kern(n: Sp) -> Opening
@@ -214,25 +214,24 @@ fn kern(n: Sp) -> Opening
 fn signed(w: u32) -> Sp
     ensures { λ r. ⌜ r .0 ≡ signedWord w ⌝ }
 {
-    if w < 2147483648 {
+    if w < 2_147_483_648 {
         Sp(w as i64)
     } else {
-        Sp(w as i64 - 4294967296)
+        Sp(w as i64 - 4_294_967_296)
     }
 }
 
-fn wide(b: u8) -> u32
-    ensures { λ r. ⌜ (r ≡ b) × (r < 256) ⌝ }
+// The number of four bytes, and of two.
+fn word(a: u8, b: u8, c: u8, d: u8) -> u32
+    ensures { λ r. ⌜ r ≡ a + 256 * (b + 256 * (c + 256 * d)) ⌝ }
 {
-    b as u32
+    (a as u32) + (b as u32) * 256 + (c as u32) * 65_536 + (d as u32) * 16_777_216
 }
 
-// The number of the first four bytes.
-fn word(s: &[u8]) -> u32
-    requires { ⌜ 4 ≤ length (now s) ⌝ }
-    ensures { λ r. ⌜ r ≡ littleEndian 4 (now (s .entry)) ⌝ }
+fn short(a: u8, b: u8) -> usize
+    ensures { λ r. ⌜ r ≡ a + 256 * b ⌝ }
 {
-    wide(s[0]) + wide(s[1]) * 256 + wide(s[2]) * 65536 + wide(s[3]) * 16777216
+    (a as usize) + (b as usize) * 256
 }
 
 // What the field says whose kind byte is the first of s; s goes to the end of the list that holds the item.
@@ -258,7 +257,7 @@ pub fn field_head(s: &[u8]) -> FieldHead
 
 // How many bytes a field has, by its head.
 pub fn field_bytes(head: FieldHead) -> usize
-    requires { ⌜ headBytes head < 2 ^ 32 ⌝ }
+    requires { ⌜ headBytes head < 2 ^ 64 ⌝ }
     ensures { λ r. ⌜ r ≡ headBytes head ⌝ }
 {
     match head {
@@ -289,7 +288,7 @@ fn list_head(s: &[u8]) -> FieldHead
     if s.len() < 2 {
         return FieldHead::CutSublist;
     }
-    let n = (wide(s[0]) + wide(s[1]) * 256) as usize;
+    let n = short(s[0], s[1]);
     if n > s.len() - 2 {
         return FieldHead::CutSublist;
     }

@@ -1,20 +1,12 @@
 -- `atom` meets its contract: the two numbers stand in their lists or past them, and `is_op` and `is_display_only` decide the rest.
 -- Assumes nothing.
-use lib.ListN.{getElem?}
-use Rattle.formula.proofs.HeadLaws.{past, atom-none}
-use Rattle.formula.proofs.HeadLaws.{past}
-use Rattle.formula.specs.Heads.{classes, limitKinds, isOp, isDisplayOnly, atomOf}
-use native.Mathlib.Omega.{arith}
 use mathlib.Core.Path.{sym, _∙_}
+use lib.ListN.{getElem?}
 use borrow.Author.Needs.{needs}
+use Rattle.formula.specs.Heads.{classes, limitKinds, atomOf}
+use Rattle.formula.proofs.FirstBytes.{past, atom-none}
 use Rattle.formula.proofs.heads.atom.Statement.{statement}
 use Rattle.formula.proofs.heads.atom.Tie as tie
-use Rattle.formula.proofs.heads.atom.Reads as reads
-use Rattle.formula.proofs.heads.atom.Lts as lts
-use Rattle.formula.proofs.heads.class_of.Reads as class-of-reads
-use Rattle.formula.proofs.heads.is_display_only.Reads as is-display-only-reads
-use Rattle.formula.proofs.heads.is_op.Reads as is-op-reads
-use Rattle.formula.proofs.heads.limits_of.Reads as limits-of-reads
 
 returns : tie.Need-returns
 unfolding atomOf
@@ -35,18 +27,28 @@ is-op-requires c κs = search needs
 
 returns-3 : tie.Need-returns-3
 unfolding atomOf
-returns-3 c = simp (c .before .before .before .class-of .ensures, c .before .before .limits-of .ensures, sym (c .before .is-op .ensures) ∙ c .if3 .taken)
+returns-3 c =
+    let limits = c .before .before in
+    simp (limits .before .class-of .ensures, limits .limits-of .ensures, sym (c .before .is-op .ensures) ∙ c .if3 .taken)
 
 is-display-only-requires : tie.Need-is-display-only-requires
 is-display-only-requires c κs = search needs
 
 returns-4 : tie.Need-returns-4
 unfolding atomOf
-returns-4 c = simp (c .before .before .before .before .before .class-of .ensures, c .before .before .before .before .limits-of .ensures, sym (c .before .before .before .is-op .ensures) ∙ c .before .before .if3 .left, sym (c .before .is-display-only .ensures) ∙ c .if4 .taken)
+returns-4 c =
+    let op = c .before .before in
+    let limits = op .before .before in
+    let class = limits .before in
+    simp (class .class-of .ensures, limits .limits-of .ensures, sym (op .before .is-op .ensures) ∙ op .if3 .left, sym (c .before .is-display-only .ensures) ∙ c .if4 .taken)
 
 returns-5 : tie.Need-returns-5
 unfolding atomOf
-returns-5 c = simp (c .before .before .before .before .before .class-of .ensures, c .before .before .before .before .limits-of .ensures, sym (c .before .before .before .is-op .ensures) ∙ c .before .before .if3 .left, sym (c .before .is-display-only .ensures) ∙ c .if4 .left)
+returns-5 c =
+    let op = c .before .before in
+    let limits = op .before .before in
+    let class = limits .before in
+    simp (class .class-of .ensures, limits .limits-of .ensures, sym (op .before .is-op .ensures) ∙ op .if3 .left, sym (c .before .is-display-only .ensures) ∙ c .if4 .left)
 
 pub atom-spec : {M : Type 1} → statement M
 atom-spec =

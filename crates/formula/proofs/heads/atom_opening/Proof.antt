@@ -1,16 +1,13 @@
 -- `atom_opening` meets its contract: of two bytes or more it is what `atom` says of the first two.
 -- Assumes nothing.
-use Rattle.formula.specs.declared.Opening.the-variants.{NoItem}
-use Rattle.formula.proofs.HeadLaws.{two, short-two}
-use Rattle.formula.specs.Heads.{atomOpening}
-use native.Mathlib.Omega.{arith}
 use mathlib.Core.Path.{refl, sym, ap, _∙_}
+use native.Mathlib.Omega.{arith}
 use borrow.Author.Needs.{needs}
+use Rattle.formula.specs.declared.Opening.the-variants.{NoItem}
+use Rattle.formula.specs.Heads.{atomOpening}
+use Rattle.formula.proofs.FirstBytes.{two, short-two}
 use Rattle.formula.proofs.heads.atom_opening.Statement.{statement}
 use Rattle.formula.proofs.heads.atom_opening.Tie as tie
-use Rattle.formula.proofs.heads.atom_opening.Reads as reads
-use Rattle.formula.proofs.heads.atom_opening.Lts as lts
-use Rattle.formula.proofs.heads.atom.Reads as atom-reads
 
 returns : tie.Need-returns
 unfolding atomOpening

@@ -3,8 +3,6 @@
 use borrow.Author.Tests.{eq-eqb, ne-eqb}
 use Rattle.formula.proofs.heads.both.Statement.{statement}
 use Rattle.formula.proofs.heads.both.Tie as tie
-use Rattle.formula.proofs.heads.both.Reads as reads
-use Rattle.formula.proofs.heads.both.Lts as lts
 
 returns : tie.Need-returns
 returns c = simp (eq-eqb _ _ (c .if1 .taken))

@@ -1,13 +1,11 @@
 -- `field_bytes` meets its contract.
 -- Assumes nothing.
-use Rattle.formula.specs.Places.{headBytes}
 use mathlib.Core.Path.{sym, ap}
 use native.Mathlib.Omega.{arith}
 use borrow.Author.Needs.{needs}
+use Rattle.formula.specs.Places.{headBytes}
 use Rattle.formula.proofs.heads.field_bytes.Statement.{statement}
 use Rattle.formula.proofs.heads.field_bytes.Tie as tie
-use Rattle.formula.proofs.heads.field_bytes.Reads as reads
-use Rattle.formula.proofs.heads.field_bytes.Lts as lts
 
 enum-told : tie.Need-enum-told
 enum-told c = search needs

@@ -1,17 +1,14 @@
 -- `fraction_opening` meets its contract: the bar byte, of a list that has one, is 0, 1 or neither.
 -- Assumes nothing.
-use lib.ListN.{getElem?, getD}
-use Rattle.formula.specs.declared.Opening.the-variants.{NoItem}
-use Rattle.formula.proofs.HeadLaws.{one, short-one, past}
-use Rattle.formula.specs.Heads.{bars, fractionOf, fractionOpening}
-use lib.ListN.{getElem?}
+use mathlib.Core.Path.{refl, sym, ap, _∙_}
 use native.Mathlib.Omega.{arith}
-use mathlib.Core.Path.{_≡_, refl, sym, ap, _∙_}
+use lib.ListN.{getD}
 use borrow.Author.Needs.{needs}
+use Rattle.formula.specs.declared.Opening.the-variants.{NoItem}
+use Rattle.formula.specs.Heads.{bars, fractionOf, fractionOpening}
+use Rattle.formula.proofs.FirstBytes.{one, short-one, past}
 use Rattle.formula.proofs.heads.fraction_opening.Statement.{statement}
 use Rattle.formula.proofs.heads.fraction_opening.Tie as tie
-use Rattle.formula.proofs.heads.fraction_opening.Reads as reads
-use Rattle.formula.proofs.heads.fraction_opening.Lts as lts
 
 returns : tie.Need-returns
 unfolding fractionOpening
@@ -30,7 +27,8 @@ returns-3 c = sym (ap fractionOpening (one (c .before .before .before .before .a
 
 returns-4 : tie.Need-returns-4
 unfolding fractionOpening fractionOf
-returns-4 c = let s = c .before .before .before .before .args .s .now in
+returns-4 c =
+    let s = c .before .before .before .before .args .s .now in
     sym (ap fractionOpening (one s (omega arith)) ∙ ap fractionOf (past bars (getD s 0 0) (omega arith)))
 
 pub fraction-opening-spec : {M : Type 1} → statement M

@@ -1,20 +1,14 @@
 -- `opened` meets its contract: each arm knows the mark.
 -- Assumes nothing.
-use Rattle.formula.specs.declared.Opening.{Opening}
-use Rattle.formula.specs.declared.Mark.{Mark}
-use Prim.Native.Nat.{ℕ}
-use mathlib.Core.List.{List}
 use mathlib.Core.Path.{_≡_, refl}
-use Rattle.formula.specs.Heads.{opens}
-use mathlib.Core.Path.{sym, ap, _∙_}
+use mathlib.Core.List.{List}
+use Prim.Native.Nat.{ℕ}
 use borrow.Author.Needs.{needs}
+use Rattle.formula.specs.declared.Mark.{Mark}
+use Rattle.formula.specs.declared.Opening.{Opening}
+use Rattle.formula.specs.Heads.{opens}
 use Rattle.formula.proofs.heads.opened.Statement.{statement}
 use Rattle.formula.proofs.heads.opened.Tie as tie
-use Rattle.formula.proofs.heads.opened.Reads as reads
-use Rattle.formula.proofs.heads.opened.Lts as lts
-use Rattle.formula.proofs.heads.atom_opening.Reads as atom-opening-reads
-use Rattle.formula.proofs.heads.fraction_opening.Reads as fraction-opening-reads
-use Rattle.formula.proofs.heads.kern_opening.Reads as kern-opening-reads
 
 arm : {m m′ : Mark} {r : Opening} (s : List ℕ) → m ≡ m′ → r ≡ opens m′ s → r ≡ opens m s
 arm s e h = rw e h

@@ -1,17 +1,13 @@
 -- `opening` meets its contract: of two bytes or more it is what opens behind their mark.
 -- Assumes nothing.
-use Rattle.formula.specs.declared.Opening.the-variants.{NoItem}
-use Rattle.formula.proofs.HeadLaws.{two, short-two, tail-part}
-use Rattle.formula.specs.Heads.{opens, openingOf}
-use native.Mathlib.Omega.{arith}
 use mathlib.Core.Path.{refl, sym, ap, ap₂, _∙_}
+use native.Mathlib.Omega.{arith}
 use borrow.Author.Needs.{needs}
+use Rattle.formula.specs.declared.Opening.the-variants.{NoItem}
+use Rattle.formula.specs.Heads.{opens, openingOf}
+use Rattle.formula.proofs.FirstBytes.{two, short-two, tail-part}
 use Rattle.formula.proofs.heads.opening.Statement.{statement}
 use Rattle.formula.proofs.heads.opening.Tie as tie
-use Rattle.formula.proofs.heads.opening.Reads as reads
-use Rattle.formula.proofs.heads.opening.Lts as lts
-use Rattle.formula.proofs.heads.mark.Reads as mark-reads
-use Rattle.formula.proofs.heads.opened.Reads as opened-reads
 
 returns : tie.Need-returns
 unfolding openingOf
@@ -40,7 +36,8 @@ opened-requires c κs = search needs
 
 returns-2 : tie.Need-returns-2
 unfolding openingOf
-returns-2 c = let s = c .before .before .before .before .before .before .before .args .s .now in
+returns-2 c =
+    let s = c .before .before .before .before .before .before .before .args .s .now in
     c .opened .ensures ∙ ap₂ opens (c .before .before .mark .ensures) (tail-part s 2) ∙ sym (ap openingOf (two s (omega arith)))
 
 pub opening-spec : {M : Type 1} → statement M

@@ -1,16 +1,14 @@
 -- `symbol_head` meets its contract: the family is tested.
 -- Assumes nothing.
-use Rattle.formula.specs.declared.FieldHead.the-variants.{NoField}
-use Rattle.formula.proofs.HeadLaws.{two, short-two}
-use Rattle.formula.specs.Heads.{symbolHead}
-use borrow.Author.Tests.{le-leb, lt-leb}
-use native.Mathlib.Omega.{arith}
 use mathlib.Core.Path.{refl, sym, ap, _∙_}
+use native.Mathlib.Omega.{arith}
+use borrow.Author.Tests.{le-leb, lt-leb}
 use borrow.Author.Needs.{needs}
+use Rattle.formula.specs.declared.FieldHead.the-variants.{NoField}
+use Rattle.formula.specs.Heads.{symbolHead}
+use Rattle.formula.proofs.FirstBytes.{two, short-two}
 use Rattle.formula.proofs.heads.symbol_head.Statement.{statement}
 use Rattle.formula.proofs.heads.symbol_head.Tie as tie
-use Rattle.formula.proofs.heads.symbol_head.Reads as reads
-use Rattle.formula.proofs.heads.symbol_head.Lts as lts
 
 returns : tie.Need-returns
 unfolding symbolHead

@@ -1,21 +1,21 @@
-use Prim.Native.Nat.{ℕ, _+_, _-_, _*_, _≤_, _<_}
 use mathlib.Core.Path.{_≡_, sym, ap, _∙_}
-use mathlib.Core.Bool.{true, false}
+use Prim.Native.Nat.{ℕ, _+_, _-_, _*_, _≤_, _<_}
 use native.Mathlib.Omega.{arith}
-use borrow.Author.Needs.{needs}
 use lib.ListN.{length, take, drop}
-use Rattle.formula.specs.declared.Opening.the-variants.{NoItem, Fields, Kern}
-use Rattle.formula.specs.declared.FieldHead.the-variants.{NoField, Empty, Symbol, Sublist, CutSublist}
-use Rattle.formula.specs.declared.Verdict.the-variants.{Good, Fault}
-use Rattle.formula.specs.declared.Step.the-variants.{Next, Stop}
-use Rattle.formula.specs.Tree.{openingBytes}
-use Rattle.formula.specs.Heads.{openingOf, fieldHead}
-use Rattle.formula.specs.Reading.{fieldBy, fieldAt, openedBy, read}
-use Rattle.formula.specs.Verdicts.{told, stepOf}
-use Rattle.formula.specs.ReadingLaws.{opening-fits}
-use Rattle.formula.proofs.VerdictLaws.{later, later-zero, fault-in, next-in, field-step, field-fits, field-deep, cut-deep, cut-short, field-list, noad-first, noad-second, noad-three, noad-two, item-step, list-next, list-stop, list-done}
+use borrow.Author.Needs.{needs}
 use borrow.Fn.Kinds.{In}
 use borrow.Fn.PlainCycle.{Measures, is, falls, and}
+use Rattle.formula.specs.declared.Opening.the-variants.{NoItem, Fields, Kern}
+use Rattle.formula.specs.declared.FieldHead.the-variants.{NoField, Empty, Symbol, Sublist}
+use Rattle.formula.specs.declared.Verdict.the-variants.{Good, Fault}
+use Rattle.formula.specs.Tree.{openingBytes}
+use Rattle.formula.specs.Heads.{fieldHead}
+use Rattle.formula.specs.Reading.{fieldBy, fieldAt, openedBy, read}
+use Rattle.formula.specs.Verdicts.{told, stepOf}
+use Rattle.formula.specs.HeadLaws.{opening-fits}
+use Rattle.formula.proofs.VerdictLaws.{later, later-zero, fault-in, next-in, field-step, field-fits, field-deep, cut-deep, cut-short, field-list, noad-first, noad-second, noad-three, noad-two, item-step, list-next, list-stop, list-done}
+use Rattle.formula.proofs.reading.+read_field+read_item+read_list+read_noad.{statement}
+use Rattle.formula.proofs.reading.+read_field+read_item+read_list+read_noad.Tie.{close}
 use Rattle.formula.proofs.reading.read_field.Reads as read-field
 use Rattle.formula.proofs.reading.read_field.Kinds as read-field-kinds
 use Rattle.formula.proofs.reading.+read_field+read_item+read_list+read_noad.Lts-read_field as read-field-lts
@@ -32,8 +32,6 @@ use Rattle.formula.proofs.heads.field_head.Reads as field-head-reads
 use Rattle.formula.proofs.heads.has_third.Reads as has-third-reads
 use Rattle.formula.proofs.heads.opening.Reads as opening-reads
 use Rattle.formula.proofs.heads.opening_bytes.Reads as opening-bytes-reads
-use Rattle.formula.proofs.reading.+read_field+read_item+read_list+read_noad.{statement}
-use Rattle.formula.proofs.reading.+read_field+read_item+read_list+read_noad.Tie.{close}
 
 abbrev μ-read-field : Measures 1 read-field-kinds.ps ℕ
 μ-read-field κs a = 4 * length (a .0 .now)

@@ -1,0 +1,208 @@
+-- Laws of a readable list, for a walk over its bytes.
+--     known, readable-of, tree-is     `Readable` and `treeOf` say what `read` says, with whatever number of levels it reads
+--     step                 a list that is not empty is its first item, given by its opening, and a readable rest.
+--                          A list field of that item is `Readable` by itself, and the field is the list of its tree
+--     items-bytes, item-bytes, field-bytes     a list, an item and a field are as long as their tree is written
+--     formula-good, formula-fault     what the verdict of a formula says of its reading
+-- Assumes nothing.
+use mathlib.Core.Path.{_≡_, refl, sym, subst, ap, ap₂, _∙_}
+use mathlib.Core.Bool.{Bool, true, false}
+use mathlib.Core.List.{List}
+use Prim.Native.Nat.{ℕ, zero, suc, _-_, _≤_, _<_}
+use native.Mathlib.Omega.{arith}
+use lib.Dec.{ltb}
+use lib.ListN.{length, drop, length-drop}
+use borrow.Author.Tests.{ltb-false}
+use Rattle.formula.specs.declared.Kind.{Kind}
+use Rattle.formula.specs.declared.Kind.the-variants.{Atom, Over, Under, Fraction}
+use Rattle.formula.specs.declared.Opening.{Opening}
+use Rattle.formula.specs.declared.Opening.the-variants.{NoItem, Fields, Kern}
+use Rattle.formula.specs.declared.FieldHead.{FieldHead}
+use Rattle.formula.specs.declared.FieldHead.the-variants.{NoField, Empty, Symbol, Sublist, CutSublist}
+use Rattle.formula.specs.declared.Verdict.the-variants.{Good, Fault}
+use Rattle.formula.specs.Tree.{Items, Item, Field, nil, cons, list, openingBytes, itemsBytes, itemBytes, fieldBytes}
+use Rattle.formula.specs.Heads.{openingOf}
+use Rattle.formula.specs.Reading.{formulaLimit, depthLimit, unreadableNumber, Read, good, fault, read, readFormula}
+use Rattle.formula.specs.Verdicts.{told}
+use Rattle.formula.specs.Places.{treeIn, IsGood, Readable, treeOf, headBytes, contents, fieldOf, GoodField, hasThird, headAt, second, third, itemSize, fieldIn, thirdIn, itemOf, GoodFieldAt, GoodThird, GoodItem}
+use Rattle.formula.specs.HeadLaws.{contents-shorter}
+use Rattle.formula.specs.ReadingLaws.{by-length, FieldIs, ThirdIs, ItemIs, item-map, size-fits, size-some, Below, read-none, list-good, agree}
+
+-- ---- a readable list
+
+pub known : (s : List ℕ) → Readable s → read (length s) s ≡ good (treeOf s)
+unfolding Readable treeOf
+known s h = go (read (length s) s) h
+  where
+    go : (x : Read) → IsGood x → x ≡ good (treeIn x)
+    go (good l) h = refl
+    go (fault number place) h = absurd h
+
+own : (s : List ℕ) (d : ℕ) (l : Items) → read d s ≡ good l → read (length s) s ≡ good l
+own s d l e = agree s d (length s) l e (omega arith)
+
+pub readable-of : (s : List ℕ) (d : ℕ) (l : Items) → read d s ≡ good l → Readable s
+unfolding Readable
+readable-of s d l e = subst IsGood (sym (own s d l e)) tt
+
+pub tree-is : (s : List ℕ) (d : ℕ) (l : Items) → read d s ≡ good l → treeOf s ≡ l
+unfolding treeOf
+tree-is s d l e = ap treeIn (own s d l e)
+
+pub tree-none : (s : List ℕ) → length s ≡ 0 → Readable s × (treeOf s ≡ nil)
+tree-none s h = (readable-of s 0 nil (read-none 0 s h), tree-is s 0 nil (read-none 0 s h))
+
+Known : List ℕ → Items → Type 0
+Known r l = Readable r × (treeOf r ≡ l)
+
+field-known : (s : List ℕ) (h : FieldHead) (f : Field) → FieldIs Known s h f → GoodField s h × (f ≡ fieldOf s h)
+unfolding Known
+field-known s NoField f i = absurd i
+field-known s Empty f i = (tt, i)
+field-known s (Symbol family code) f i = (tt, i)
+field-known s (Sublist n) f i = (i .1 .0, i .2 ∙ ap list (sym (i .1 .1)))
+field-known s CutSublist f i = absurd i
+
+third-known : (s : List ℕ) (has : Bool) (at : ℕ) (f : Field) → ThirdIs Known s has at f →
+    GoodThird s has at × (f ≡ thirdIn s has at)
+third-known s true at f i = field-known (drop at s) (headAt s at) f i
+third-known s false at f i = (tt, i)
+
+item-known : (s : List ℕ) (o : Opening) (i : Item) → ItemIs Known s o i → GoodItem s o × (i ≡ itemOf s o)
+item-known s NoItem i h = absurd h
+item-known s (Fields kind) i h =
+    let first = openingBytes kind in
+    let a = field-known (drop first s) (headAt s first) (h .a) (h .a-is) in
+    let b = field-known (drop (second s kind) s) (headAt s (second s kind)) (h .b) (h .b-is) in
+    let c = third-known s (hasThird kind) (third s kind) (h .c) (h .c-is) in
+    ((a .0, b .0, c .0), (cc))
+item-known s (Kern n) i h = (tt, h)
+
+below-known : (d : ℕ) (r : List ℕ) (l : Items) → Below read d r l → Known r l
+unfolding Known
+below-known zero r l h = absurd h
+below-known (suc d) r l h = (readable-of r d l h, tree-is r d l h)
+
+-- what a readable list that opens with o is
+pub record Stepped (s : List ℕ) (o : Opening) : Type 0 where
+  pub some : 0 < itemSize s o
+  pub fits : itemSize s o ≤ length s
+  pub item : GoodItem s o
+  pub rest : Readable (drop (itemSize s o) s)
+  pub tree : treeOf s ≡ cons (itemOf s o) (treeOf (drop (itemSize s o) s))
+
+step-by : (s : List ℕ) → Readable s → 0 < length s → Stepped s (openingOf s)
+step-by s r pos =
+    let d = length s in
+    let o = openingOf s in
+    let rest = drop (itemSize s o) s in
+    let g = list-good d s (treeOf s) pos (known s r) in
+    let i = item-known s o (g .first) (item-map (Below read d) Known s (λ r l k. below-known d r l) o (g .first) (g .first-is)) in
+    record {
+      some = size-some (Below read d) s o (g .first) (g .first-is);
+      fits = size-fits s;
+      item = i .0;
+      rest = readable-of rest d (g .others) (g .others-are);
+      tree = g .is ∙ ap₂ cons (i .1) (sym (tree-is rest d (g .others) (g .others-are)));
+    }
+
+pub step : (s : List ℕ) (o : Opening) → openingOf s ≡ o → Readable s → 0 < length s → Stepped s o
+step s o e r pos = subst (Stepped s) e (step-by s r pos)
+
+-- ---- the bytes that a tree is written in
+
+module _ (s : List ℕ) (ih : (r : List ℕ) → length r < length s → Readable r → itemsBytes (treeOf r) ≡ length r) where
+  field-by-bytes : (at : ℕ) → GoodFieldAt s at → fieldBytes (fieldIn s at) ≡ headBytes (headAt s at)
+  unfolding fieldBytes
+  field-by-bytes at g = go (headAt s at) refl g
+    where
+      go : (h : FieldHead) → headAt s at ≡ h → GoodField (drop at s) h → fieldBytes (fieldOf (drop at s) h) ≡ headBytes h
+      go NoField e g = absurd g
+      go Empty e g = refl
+      go (Symbol family code) e g = refl
+      go (Sublist n) e g =
+          let k = contents-shorter (drop at s) n e in
+          omega (arith, ih (contents n (drop at s)) (omega (arith, length-drop at s)) g)
+      go CutSublist e g = absurd g
+
+  item-by-bytes : (o : Opening) → GoodItem s o → itemBytes (itemOf s o) ≡ itemSize s o
+  unfolding itemBytes fieldBytes
+  item-by-bytes NoItem g = absurd g
+  item-by-bytes (Fields kind) g =
+      let a = field-by-bytes (openingBytes kind) (g .0) in
+      let b = field-by-bytes (second s kind) (g .1) in
+      go kind a b (g .2)
+    where
+      go : (kind : Kind) → fieldBytes (fieldIn s (openingBytes kind)) ≡ headBytes (headAt s (openingBytes kind)) →
+          fieldBytes (fieldIn s (second s kind)) ≡ headBytes (headAt s (second s kind)) →
+          GoodThird s (hasThird kind) (third s kind) → itemBytes (itemOf s (Fields kind)) ≡ itemSize s (Fields kind)
+      go (Atom class limits) a b g = omega (arith, field-by-bytes (third s (Atom class limits)) g)
+      go Over a b g = omega (arith, field-by-bytes (third s Over) g)
+      go Under a b g = omega (arith, field-by-bytes (third s Under) g)
+      go (Fraction bar) a b g = omega arith
+  item-by-bytes (Kern n) g = refl
+
+Written : List ℕ → Type 0
+Written s = Readable s → itemsBytes (treeOf s) ≡ length s
+
+written-step : (s : List ℕ) → ((r : List ℕ) → length r < length s → Written r) → Written s
+unfolding Written itemsBytes
+written-step s ih r = go (length s) refl
+  where
+    go : (n : ℕ) → length s ≡ n → itemsBytes (treeOf s) ≡ length s
+    go zero z = ap itemsBytes (tree-none s z .1) ∙ sym z
+    go (suc n) z =
+        let p = step-by s r (omega arith) in
+        let size = itemSize s (openingOf s) in
+        let k : length (drop size s) ≡ length s - size = length-drop size s in
+        ap itemsBytes (p .tree)
+        ∙ omega (arith, p .some, p .fits, item-by-bytes s ih (openingOf s) (p .item), ih (drop size s) (omega arith) (p .rest))
+
+pub items-bytes : (s : List ℕ) → Readable s → itemsBytes (treeOf s) ≡ length s
+unfolding Written
+items-bytes = by-length Written written-step
+
+pub item-bytes : (s : List ℕ) (o : Opening) → GoodItem s o → itemBytes (itemOf s o) ≡ itemSize s o
+item-bytes s = item-by-bytes s (λ r l. items-bytes r)
+
+pub field-bytes : (s : List ℕ) (at : ℕ) → GoodFieldAt s at → fieldBytes (fieldIn s at) ≡ headBytes (headAt s at)
+field-bytes s = field-by-bytes s (λ r l. items-bytes r)
+
+-- ---- a formula
+
+told-good : (x : Read) → told x ≡ Good → (l : Items) × (x ≡ good l)
+unfolding told
+told-good (good l) e = (l, refl)
+told-good (fault number place) e = let z : _≡_ {A = ℕ} 0 1 = cc in absurd (omega arith)
+
+-- the formula is small, readable, and its tree is that of its bytes
+pub record FormulaIs (s : List ℕ) : Type 0 where
+  pub small : length s ≤ formulaLimit
+  pub readable : Readable s
+  pub is : readFormula s ≡ good (treeOf s)
+
+pub formula-good : (s : List ℕ) → told (readFormula s) ≡ Good → FormulaIs s
+unfolding readFormula told
+formula-good s e = go (ltb formulaLimit (length s)) refl e
+  where
+    by : Bool → Read
+    by t = elim t [ true ↦ fault unreadableNumber 0 | false ↦ read (depthLimit - 1) s ]
+
+    go : (t : Bool) → ltb formulaLimit (length s) ≡ t → told (by t) ≡ Good → FormulaIs s
+    go true q e = let z : _≡_ {A = ℕ} 0 1 = cc in absurd (omega arith)
+    go false q e =
+        let l = told-good (read (depthLimit - 1) s) e in
+        record {
+          small = ltb-false formulaLimit (length s) q;
+          readable = readable-of s (depthLimit - 1) (l .0) (l .1);
+          is = ap by q ∙ l .1 ∙ ap good (sym (tree-is s (depthLimit - 1) (l .0) (l .1)));
+        }
+
+pub formula-fault : (s : List ℕ) (number place : ℕ) → told (readFormula s) ≡ Fault number place →
+    readFormula s ≡ fault number place
+unfolding told
+formula-fault s number place e = go (readFormula s) e
+  where
+    go : (x : Read) → told x ≡ Fault number place → x ≡ fault number place
+    go (good l) e = let z : _≡_ {A = ℕ} 0 1 = cc in absurd (omega arith)
+    go (fault n p) e = cc
