@@ -1,5 +1,5 @@
 -- The bytes of a list field, as a formula: they read to the field's list.
---     fieldPart       the bytes of the formula from the field's place on, as many as its list is written in
+--     fieldPart        the bytes of the formula from the field's place on, as many as its list is written in
 --     field-reads      if the formula reads to the tree that has the list l at the path p, those bytes read to l
 -- A list at the path's end is read with fewer levels than the formula, and reads to the same tree with as many (`agree`).
 -- Assumes nothing.
@@ -21,7 +21,9 @@ use Rattle.formula.specs.Tree.{Items, Item, Field, nil, cons, noad, kern, list,
 use Rattle.formula.specs.Heads.{openingOf, fieldHead}
 use Rattle.formula.specs.Reading.{good, fault, read, formulaLimit, depthLimit, unreadableNumber, readFormula}
 use Rattle.formula.specs.Places.{headBytes, contents, hasThird, headAt, second, third, itemSize}
-use Rattle.formula.specs.ReadingLaws.{FieldIs, FieldAtIs, ThirdIs, NoadIs, ItemIs, Below, ListIs, size-fits, contents-shorter, read-none, list-good, agree, readable-of, tree-is, items-bytes}
+use Rattle.formula.specs.HeadLaws.{contents-shorter}
+use Rattle.formula.specs.ReadingLaws.{FieldIs, FieldAtIs, ThirdIs, NoadIs, ItemIs, Below, ListIs, size-fits, read-none, list-good, agree}
+use Rattle.formula.specs.PlacesLaws.{readable-of, tree-is, items-bytes}
 use Rattle.walk.specs.Paths.{Arm, inFirst, inSecond, inThird, holding, fieldPlace, Step, join, listWith, stepPlace, Path, whole, into, fill, placeOf}
 
 abbrev pub fieldPart : Path → Items → List ℕ → List ℕ
@@ -56,6 +58,10 @@ inner-reads zero s l b = absurd b
 inner-reads (suc levels) s l b = agree s levels (suc levels) l b (omega arith)
 
 module _ (levels : ℕ) where
+  -- at a place of s stand the bytes of l, and read to l on the level below
+  abbrev Inside : List ℕ → ℕ → Items → Type 0
+  Inside s place l = Below read levels (take (itemsBytes l) (drop place s)) l
+
   -- ---- a field, by its head
 
   -- a list field's two bytes of length say how long its tree is written
@@ -75,7 +81,7 @@ module _ (levels : ℕ) where
   field-length s CutSublist f e i = absurd i
 
   list-inside : (s : List ℕ) (h : FieldHead) (l : Items) → fieldHead s ≡ h → FieldIs (Below read levels) s h (list l) →
-      Below read levels (take (itemsBytes l) (drop listOpeningBytes s)) l
+      Inside s listOpeningBytes l
   list-inside s NoField l e i = absurd i
   list-inside s Empty l e i = let z : _≡_ {A = ℕ} 0 1 = cc in absurd (omega arith)
   list-inside s (Symbol family code) l e i = let z : _≡_ {A = ℕ} 0 1 = cc in absurd (omega arith)
@@ -89,7 +95,7 @@ module _ (levels : ℕ) where
 
   module _ (s : List ℕ) where
     list-at : (at place : ℕ) (f : Field) (l : Items) → FieldAtIs (Below read levels) s at f → f ≡ list l → at ≡ place →
-        Below read levels (take (itemsBytes l) (drop (place + listOpeningBytes) s)) l
+        Inside s (place + listOpeningBytes) l
     list-at at place f l i is there =
         let inside = list-inside (drop at s) (headAt s at) l refl (subst (FieldAtIs (Below read levels) s at) is i) in
         let r = drop-drop listOpeningBytes at s ∙ ap (λ (k : ℕ). drop (k + listOpeningBytes) s) there in
@@ -99,16 +105,16 @@ module _ (levels : ℕ) where
     length-at at f i = field-length (drop at s) (headAt s at) f refl i
 
     third-at : (there : Bool) (at place : ℕ) (f : Field) (l : Items) → ThirdIs (Below read levels) s there at f →
-        f ≡ list l → at ≡ place → Below read levels (take (itemsBytes l) (drop (place + listOpeningBytes) s)) l
+        f ≡ list l → at ≡ place → Inside s (place + listOpeningBytes) l
     third-at true at place f l i is e = list-at at place f l i is e
     third-at false at place f l i is e = let z : _≡_ {A = ℕ} 0 1 = cc in absurd (omega arith)
 
     noad-inside : (kind found : Kind) (g : Arm) (l : Items) → NoadIs (Below read levels) s found (holding kind g l) →
-        Below read levels (take (itemsBytes l) (drop (fieldPlace kind g + listOpeningBytes) s)) l
+        Inside s (fieldPlace kind g + listOpeningBytes) l
     noad-inside kind found g l h = go g (h .is)
       where
         go : (g : Arm) → holding kind g l ≡ noad found (h .a) (h .b) (h .c) →
-            Below read levels (take (itemsBytes l) (drop (fieldPlace kind g + listOpeningBytes) s)) l
+            Inside s (fieldPlace kind g + listOpeningBytes) l
         go (inFirst y z) is =
             let k : found ≡ kind = cc in
             let a : h .a ≡ list l = cc in
@@ -131,7 +137,7 @@ module _ (levels : ℕ) where
 
     item-inside : (kind : Kind) (g : Arm) (l : Items) (i : Item) → i ≡ holding kind g l → (o : Opening) →
         ItemIs (Below read levels) s o i →
-        Below read levels (take (itemsBytes l) (drop (fieldPlace kind g + listOpeningBytes) s)) l
+        Inside s (fieldPlace kind g + listOpeningBytes) l
     item-inside kind g l i is NoItem h = absurd h
     item-inside kind g l i is (Fields found) h =
         noad-inside kind found g l (subst (NoadIs (Below read levels) s found) is h)
@@ -168,8 +174,7 @@ module _ (levels : ℕ) where
 
   module _ (kind : Kind) (g : Arm) (l after : Items) where
     items-inside : (before : Items) (s : List ℕ) → read levels s ≡ good (join before (cons (holding kind g l) after)) →
-        let place = itemsBytes before + (fieldPlace kind g + listOpeningBytes) in
-        Below read levels (take (itemsBytes l) (drop place s)) l
+        Inside s (itemsBytes before + (fieldPlace kind g + listOpeningBytes)) l
     unfolding itemsBytes
     items-inside nil s e =
         let q = list-good levels s _ (some-bytes s (holding kind g l) after e) e in
