@@ -3,3 +3,8 @@ mod Definitions
 mod Examples
 mod FaultNumbers
 mod Agreement
+mod Accepting
+mod MovedBytes
+mod FieldBytes
+mod Demand3
+mod FieldExample

@@ -1,4 +1,10 @@
+-- The box of a list, what is missing and what is too large; laws of these; and how a field stands in the whole.
+-- Assumes nothing.
 pub mod Setting
 pub mod Missing
 pub mod Fitting
 pub mod MissingLaws
+pub mod Frames
+pub mod Paths
+pub mod FieldInPlace
+pub mod FieldAlone
