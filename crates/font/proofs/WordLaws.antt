@@ -4,6 +4,7 @@
 --     words-turn        the words of the rest: a turn of `are_small`
 --     pieces-turn       the records of the rest: a turn of the loops over records
 --     parameter-word    a parameter of a table's font, by where its word stands in the table: a turn of `row`
+--     number-beyond, size-beyond    beyond the last number and the last size it is 0
 -- Each turn takes one element off the front; where it stands, and how many are left, is said by equations, so that each
 -- loop may count in its own way.
 -- Assumes nothing.
@@ -12,7 +13,7 @@ use mathlib.Core.List.{List, [], _∷_, map}
 use Prim.Native.Nat.{ℕ, zero, suc, _+_, _-_, _*_, _<_, _≤_}
 use native.Mathlib.Nat.{add-zero, add-comm, mul-zero, mul-suc}
 use native.Mathlib.Omega.{arith}
-use lib.ListN.{length, getD, take, drop, length-drop}
+use lib.ListN.{length, getD, take, drop, length-drop, length-map, List·getD-eq-default}
 use lib.Seq.{take-all, drop-drop, getD-take, getD-drop}
 use Rattle.scaled.specs.Words.{littleEndian}
 use Rattle.font.specs.Table.{wordBytes, markBytes, parameterBytes, parameterCount, sizeCount, pieces, words, parameterRecords, parameterWords}
@@ -90,3 +91,33 @@ parameter-word t size number hs hn =
     let within = word-take parameterBytes b (drop start t) (omega arith) in
     let place : start + b ≡ start + markBytes + wordBytes * number = omega arith in
     ap (λ (l : List ℕ). getD l number 0) row ∙ word ∙ rw (drop-drop, within, drop-drop, place)
+
+-- ---- beyond the last number and the last size a parameter is 0
+
+length-words : (n : ℕ) (s : List ℕ) → length (words n s) ≡ n
+unfolding words
+length-words zero s = refl
+length-words (suc n) s = ap suc (length-words n (drop wordBytes s))
+
+length-pieces : (k n : ℕ) (s : List ℕ) → length (pieces k n s) ≡ n
+unfolding pieces
+length-pieces k zero s = refl
+length-pieces k (suc n) s = ap suc (length-pieces k n (drop k s))
+
+row-short : (l : List (List ℕ)) (size : ℕ) → length (getD (map parameterWords l) size []) ≤ parameterCount
+unfolding parameterWords
+row-short [] size = omega arith
+row-short (r ∷ l) zero = omega (arith, length-words parameterCount (drop markBytes r))
+row-short (r ∷ l) (suc size) = row-short l size
+
+pub number-beyond : (t : List ℕ) (size number : ℕ) → parameterCount ≤ number → fontOf t .parameter size number ≡ 0
+unfolding fontOf
+number-beyond t size number h =
+    List·getD-eq-default (getD (map parameterWords (parameterRecords t)) size []) 0 (omega (arith, row-short (parameterRecords t) size))
+
+pub size-beyond : (t : List ℕ) (size number : ℕ) → sizeCount ≤ size → fontOf t .parameter size number ≡ 0
+unfolding fontOf parameterRecords
+size-beyond t size number h =
+    let rows = map parameterWords (pieces parameterBytes sizeCount t) in
+    let count : length rows ≡ sizeCount = length-map (pieces parameterBytes sizeCount t) parameterWords ∙ length-pieces parameterBytes sizeCount t in
+    ap (λ (row : List ℕ). getD row number 0) (List·getD-eq-default rows [] {n = size} (omega arith))

@@ -43,12 +43,11 @@ foundAs Absent = none
 
 -- the numbers of r are the parameters of one size, of the font of t
 pub record HoldsRow (r : List ℕ) (t : List ℕ) (size : ℕ) : Type 0 where
-  pub held : (number : ℕ) → number < parameterCount → getD r number 0 ≡ fontOf t .parameter size number
+  pub held : (number : ℕ) → getD r number 0 ≡ fontOf t .parameter size number
 
 -- the rows of r are those of the three sizes
 pub record HoldsParameters (r : List (List ℕ)) (t : List ℕ) : Type 0 where
-  pub held : (size number : ℕ) → size < sizeCount → number < parameterCount →
-      getD (getD r size []) number 0 ≡ fontOf t .parameter size number
+  pub held : (size number : ℕ) → getD (getD r size []) number 0 ≡ fontOf t .parameter size number
 
 -- ---- the CH records, as the check goes through them
 

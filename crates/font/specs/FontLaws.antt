@@ -109,9 +109,8 @@ module _ (t : List ℕ) (good : goodTable t ≡ true) where
   small-symbol size family code m found = lookup-every SmallMetrics small-metrics size family code (characterRecords t) m (records .1) found
 
   -- what `parameters` answers
-  pub small-entry : {p : List (List ℕ)} → HoldsParameters p t →
-      (size number : ℕ) → size < sizeCount → number < parameterCount → getD (getD p size []) number 0 ≤ greatestWord
-  small-entry h size number hs hn = subst (λ (n : ℕ). n ≤ greatestWord) (sym (h .held size number hs hn)) (small-parameter size number)
+  pub small-entry : {p : List (List ℕ)} → HoldsParameters p t → (size number : ℕ) → getD (getD p size []) number 0 ≤ greatestWord
+  small-entry h size number = subst (λ (n : ℕ). n ≤ greatestWord) (sym (h .held size number)) (small-parameter size number)
 
   -- what `symbol` answers, where it found one
   pub small-found : (size family code : ℕ) {found : Found} {m : declared.Metrics} →

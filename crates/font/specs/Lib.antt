@@ -1,3 +1,5 @@
+-- The font table: its bytes and rules, the font it holds, what the functions answer, and laws for the crates above.
+-- Assumes nothing.
 pub mod Table
 pub mod Font
 pub mod Answers

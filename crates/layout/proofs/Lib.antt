@@ -1,3 +1,10 @@
 mod BenchTable
 mod Definitions
 mod Examples
+mod FaultNumbers
+mod Agreement
+mod Accepting
+mod MovedBytes
+mod FieldBytes
+mod Demand3
+mod FieldExample

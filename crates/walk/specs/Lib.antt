@@ -1,5 +1,11 @@
+-- The box of a list, what is missing and what is too large; laws of these; what the walk promises; and how a field stands in
+-- the whole. Assumes nothing.
 pub mod Setting
 pub mod Missing
 pub mod Fitting
 pub mod MissingLaws
 pub mod Walked
+pub mod Frames
+pub mod Paths
+pub mod FieldInPlace
+pub mod FieldAlone

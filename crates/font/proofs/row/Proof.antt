@@ -4,10 +4,11 @@ use Prim.Native.Nat.{ℕ, _≤_, _<_, _-_}
 use native.Mathlib.Omega.{arith}
 use borrow.Author.Count.{below-more}
 use lib.Seq.{getD-set-same, getD-set-other}
-use lib.ListN.{length, getD, length-set}
+use native.Mathlib.Decide.{decLt}
+use lib.ListN.{length, getD, length-set, List·getD-eq-default}
 use Rattle.font.specs.Table.{parameterCount}
 use Rattle.font.specs.Font.{fontOf}
-use Rattle.font.proofs.WordLaws.{parameter-word}
+use Rattle.font.proofs.WordLaws.{parameter-word, number-beyond}
 use Rattle.font.proofs.row.Tie as tie
 use Rattle.font.proofs.row.Statement.{statement}
 
@@ -60,7 +61,14 @@ loop-again c =
     )
 
 returns : tie.Need-returns Inv-loop μ-loop
-returns c = record { held = λ number h. c .before .loop .inv .2 number (omega arith) }
+returns c = record { held = λ number. at number (decLt number parameterCount) }
+  where
+    at : (number : ℕ) → Dec (number < parameterCount) →
+        getD (c .before .loop .words) number 0 ≡ fontOf (c .before .before .before .args .table .now) .parameter (c .before .before .before .args .size) number
+    at number (yes h) = c .before .loop .inv .2 number (omega arith)
+    at number (no h) =
+        List·getD-eq-default (c .before .loop .words) 0 (omega arith)
+        ∙ sym (number-beyond (c .before .before .before .args .table .now) (c .before .before .before .args .size) number (omega arith))
 
 pub row-spec : {M : Type 1} → statement M
 row-spec =

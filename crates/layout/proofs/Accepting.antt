@@ -1,0 +1,150 @@
+-- What an acceptance says, and what it takes.
+--     Accepted           setting accepts a formula with room enough; its style, and the tree that it reads to
+--     accepted-reads     whatever setting accepts has a style and a tree
+--     Passed             of a tree: the table is good, no symbol is missing, and all of it fits
+--     passed, boxed-of   the tree of an accepted formula passes; a formula whose tree passes is boxed
+--     measured-boxed, set-boxed, buffer-boxed    what measuring and setting make of a box
+-- Assumes nothing.
+use mathlib.Core.Path.{_≡_, refl, sym, ap, _∙_}
+use mathlib.Core.Bool.{Bool, true, false}
+use mathlib.Core.List.{List, _++_}
+use mathlib.Core.Option.{Option, none, some}
+use Prim.Native.Nat.{ℕ, _*_, _≤_}
+use native.Mathlib.Omega.{arith}
+use lib.ListN.{length, drop}
+use borrow.Author.Tests.{le-leb}
+use Rattle.font.specs.Table.{goodTable}
+use Rattle.font.specs.Font.{Font, fontOf}
+use Rattle.formula.specs.Tree.{Items}
+use Rattle.formula.specs.Reading.{Read, good, fault, readFormula}
+use Rattle.rules.specs.declared.Style.{Style}
+use Rattle.rules.specs.Styles.{styleOf}
+use Rattle.nodes.specs.Nodes.{bytesOf, bytesInNode}
+use Rattle.walk.specs.Setting.{Box, setList}
+use Rattle.walk.specs.Missing.{missingItems}
+use Rattle.walk.specs.Fitting.{listFits}
+use Rattle.layout.specs.Answers.{Result, boxed, acceptedNumber, ifFits, ifPresent, ifRead, ifGood, ifStyle, resultOf, accepted, measuredBy, measured, hasRoom, setBy, setting, bufferBy, bufferAfter}
+use Rattle.layout.proofs.FaultNumbers.{Faulted, readFormula-faults}
+
+pub record Accepted (style : ℕ) (table formula : List ℕ) (s : Style) (tree : Items) : Type 0 where
+  pub style-is : styleOf style ≡ some s
+  pub reads : readFormula formula ≡ good tree
+  pub room : ℕ
+  pub is-accepted : setting style table formula room .number ≡ acceptedNumber
+
+pub record Passed (table : List ℕ) (s : Style) (tree : Items) : Type 0 where
+  pub table-good : goodTable table ≡ true
+  pub none-missing : missingItems (fontOf table) s 0 tree ≡ none
+  pub fits : listFits (fontOf table) s tree ≡ true
+
+-- ---- each test that is not passed makes a number other than 0
+
+module _ (room : ℕ) where
+  table-passed : (F : Font) (s : Style) (r : Read) (t : Bool) →
+      setBy room (ifGood t F s r) .number ≡ acceptedNumber → t ≡ true
+  unfolding ifGood setBy
+  table-passed F s r true e = refl
+  table-passed F s r false e = absurd (omega arith)
+
+  reading-passed : (F : Font) (s : Style) (r : Read) → Faulted r →
+      setBy room (ifRead F s r) .number ≡ acceptedNumber → (tree : Items) × (r ≡ good tree)
+  unfolding ifRead setBy
+  reading-passed F s (good tree) h e = (tree, refl)
+  reading-passed F s (fault number place) h e = absurd (omega arith)
+
+  symbols-passed : (F : Font) (s : Style) (l : Items) (m : Option ℕ) →
+      setBy room (ifPresent F s l m) .number ≡ acceptedNumber → m ≡ none
+  unfolding ifPresent setBy
+  symbols-passed F s l none e = refl
+  symbols-passed F s l (some place) e = absurd (omega arith)
+
+  fit-passed : (b : Box) (t : Bool) → setBy room (ifFits t b) .number ≡ acceptedNumber → t ≡ true
+  unfolding ifFits setBy
+  fit-passed b true e = refl
+  fit-passed b false e = absurd (omega arith)
+
+-- ---- a style and a tree
+
+pub accepted-reads : (style : ℕ) (table formula : List ℕ) (room : ℕ) →
+    setting style table formula room .number ≡ acceptedNumber →
+    (s : Style) × (tree : Items) × Accepted style table formula s tree
+unfolding setting resultOf ifStyle setBy ifGood
+accepted-reads style table formula room e = go (styleOf style) refl e
+  where
+    F : Font
+    F = fontOf table
+
+    go : (o : Option Style) → styleOf style ≡ o → setBy room (ifStyle table formula o) .number ≡ acceptedNumber →
+        (s : Style) × (tree : Items) × Accepted style table formula s tree
+    go none is q = absurd (omega arith)
+    go (some s) is q =
+        let t = table-passed room F s (readFormula formula) (goodTable table) q in
+        let read-on : setBy room (ifRead F s (readFormula formula)) .number ≡ acceptedNumber = rw t at q in
+        let r = reading-passed room F s (readFormula formula) (readFormula-faults formula) read-on in
+        (s, r .0, record { style-is = is; reads = r .1; room = room; is-accepted = e })
+
+-- ---- from the answer to the tree, and back
+
+module _ (style : ℕ) (table formula : List ℕ) (s : Style) (tree : Items) where
+  result-is : styleOf style ≡ some s → readFormula formula ≡ good tree →
+      resultOf style table formula ≡ ifGood (goodTable table) (fontOf table) s (good tree)
+  unfolding resultOf ifStyle
+  result-is style-is reads =
+      ap (ifStyle table formula) style-is ∙ ap (ifGood (goodTable table) (fontOf table) s) reads
+
+  pub boxed-of : styleOf style ≡ some s → readFormula formula ≡ good tree → Passed table s tree →
+      resultOf style table formula ≡ boxed (setList (fontOf table) s tree)
+  unfolding ifGood ifRead ifPresent ifFits
+  boxed-of style-is reads h =
+      let F = fontOf table in
+      result-is style-is reads
+      ∙ ap (λ (t : Bool). ifGood t F s (good tree)) (h .table-good)
+      ∙ ap (ifPresent F s tree) (h .none-missing)
+      ∙ ap (λ (t : Bool). ifFits t (setList F s tree)) (h .fits)
+
+pub passed : {style : ℕ} {table formula : List ℕ} {s : Style} {tree : Items} →
+    Accepted style table formula s tree → Passed table s tree
+unfolding setting ifGood ifRead ifPresent
+passed {style} {table} {formula} {s} {tree} h =
+    let F = fontOf table in
+    let room = h .room in
+    let is = result-is style table formula s tree (h .style-is) (h .reads) in
+    let tested : setBy room (ifGood (goodTable table) F s (good tree)) .number ≡ acceptedNumber =
+    ap (λ (r : Result). setBy room r .number) (sym is) ∙ h .is-accepted
+    in
+    let table-good = table-passed room F s (good tree) (goodTable table) tested in
+    let tested-symbols : setBy room (ifPresent F s tree (missingItems F s 0 tree)) .number ≡ acceptedNumber =
+    rw table-good at tested
+    in
+    let none-missing = symbols-passed room F s tree (missingItems F s 0 tree) tested-symbols in
+    let tested-fit : setBy room (ifFits (listFits F s tree) (setList F s tree)) .number ≡ acceptedNumber =
+    rw none-missing at tested-symbols
+    in
+    record {
+      table-good = table-good;
+      none-missing = none-missing;
+      fits = fit-passed room (setList F s tree) (listFits F s tree) tested-fit;
+    }
+
+-- ---- what is made of a box, by the count that measuring gives
+
+module _ (style : ℕ) (table formula : List ℕ) (b : Box) (is : resultOf style table formula ≡ boxed b) where
+  pub measured-boxed : measured style table formula ≡ accepted b
+  unfolding measured measuredBy
+  measured-boxed = ap measuredBy is
+
+  room-is : (bytes : ℕ) → bytesInNode * measured style table formula .count ≤ bytes → hasRoom bytes b ≡ true
+  unfolding hasRoom
+  room-is bytes h = le-leb (bytesInNode * length (b .nodes)) bytes (rw measured-boxed at h)
+
+  pub set-boxed : (room : ℕ) → bytesInNode * measured style table formula .count ≤ room →
+      setting style table formula room ≡ measured style table formula
+  unfolding setting setBy
+  set-boxed room h = ap (setBy room) is ∙ rw (room-is room h, setBy) (sym measured-boxed)
+
+  pub buffer-boxed : (buffer : List ℕ) →
+      let bytes = bytesInNode * measured style table formula .count in
+      bytes ≤ length buffer → bufferAfter style table formula buffer ≡ bytesOf (b .nodes) ++ drop bytes buffer
+  unfolding bufferAfter bufferBy
+  buffer-boxed buffer h =
+      ap (bufferBy buffer) is ∙ rw (room-is (length buffer) h, bufferBy) (rw measured-boxed)

@@ -1,0 +1,203 @@
+-- Demand 3: a list field stands in the whole as it stands alone. It is shown from bytes (`demand-3`), for every style, table
+-- and formula that setting accepts with room enough (`Accepted`), and for every list field in it, at any depth: the list l at
+-- the path `into p t`, which is in the list at p, past the items before, into one field of the next item.
+--     fieldPart, fieldStyleNumber     the field's bytes, in the middle of the formula, and the style that the rules give it
+--     Alone        1: with those bytes as the formula and in that style, measuring accepts, and setting with room enough
+--     InPlace      2: the buffer of the whole has nodes before, the field's nodes as alone but for one distance, nodes after
+--     SizeUsed     3: the rules take the field for a box of the size measured alone
+--     FieldAsAlone 1 to 3, and 4: nodes before, distance and nodes after are the same for any other formula that reads as
+--                  this one but for that field's items, and has there a list of the same size
+-- It comes of the trees (`FieldInPlace` and `FieldAlone` of crate walk) and of the reading (`FieldBytes`).
+-- Assumes nothing.
+use mathlib.Core.Path.{_≡_, refl, sym, ap, _∙_}
+use mathlib.Core.Bool.{Bool, true, false}
+use mathlib.Core.List.{List, _++_, append-assoc}
+use mathlib.Core.Option.{some}
+use Prim.Native.Nat.{ℕ, _+_, _*_, _≤_}
+use lib.ListN.{length, drop, length-append}
+use Rattle.font.specs.Font.{Font, fontOf}
+use Rattle.formula.specs.Tree.{Items, list}
+use Rattle.rules.specs.declared.Level.{Level}
+use Rattle.rules.specs.declared.Level.the-variants.{Display, Text, Script, Scriptscript}
+use Rattle.rules.specs.declared.Style.{Style}
+use Rattle.rules.specs.Styles.{styleOf}
+use Rattle.rules.specs.Classes.{Neighbour, classOf}
+use Rattle.rules.specs.Boxes.{Size, box}
+use Rattle.nodes.specs.Nodes.{Node, bytesOf, bytesInNode}
+use Rattle.walk.specs.Setting.{Box, Line, placed, setItem, setField, setList}
+use Rattle.walk.specs.Frames.{Frame, movedBy, framed}
+use Rattle.walk.specs.Paths.{Step, holder, stepStyle, Path, into, fill, styleAt}
+use Rattle.walk.specs.FieldInPlace.{sized, itemAround, size-used, frame, field-in-place}
+use Rattle.walk.specs.FieldAlone.{missing-alone, fits-alone}
+use Rattle.layout.specs.Answers.{Answered, acceptedNumber, accepted, measured, setting, bufferAfter, resultOf, boxed}
+use Rattle.layout.proofs.Accepting.{Accepted, Passed, passed, boxed-of, measured-boxed, set-boxed, buffer-boxed}
+use Rattle.layout.proofs.MovedBytes.{length-moved, bytes-append}
+use Rattle.layout.proofs.FieldBytes.{fieldPart, field-reads}
+
+-- ---- the number of a style
+
+abbrev pub numberBy : Level → Bool → ℕ
+numberBy Display false = 0
+numberBy Display true = 1
+numberBy Text false = 2
+numberBy Text true = 3
+numberBy Script false = 4
+numberBy Script true = 5
+numberBy Scriptscript false = 6
+numberBy Scriptscript true = 7
+
+abbrev pub numberOf : Style → ℕ
+numberOf s = numberBy (s .level) (s .cramped)
+
+pub number-of-style : (s : Style) → styleOf (numberOf s) ≡ some s
+unfolding styleOf
+number-of-style s = go (s .level) (s .cramped)
+  where
+    go : (level : Level) (cramped : Bool) → styleOf (numberBy level cramped) ≡ some (record { level = level; cramped = cramped })
+    go Display false = refl
+    go Display true = refl
+    go Text false = refl
+    go Text true = refl
+    go Script false = refl
+    go Script true = refl
+    go Scriptscript false = refl
+    go Scriptscript true = refl
+
+-- ---- what is shown
+
+-- setting gives measuring's answer wherever the counted nodes have room
+pub record Alone (style : ℕ) (table field : List ℕ) : Type 0 where
+  pub measured-alone : measured style table field .number ≡ acceptedNumber
+  pub set-alone : (room : ℕ) → bytesInNode * measured style table field .count ≤ room →
+      setting style table field room ≡ measured style table field
+
+-- the same nodes, in the buffer of the field alone and, moved, in the buffer of the whole
+pub record InPlace (style : ℕ) (table formula : List ℕ) (fieldStyle : ℕ) (field : List ℕ) (f : Frame) : Type 0 where
+  pub nodes : List Node
+  pub buffer-alone : (buffer : List ℕ) →
+      let bytes = bytesInNode * measured fieldStyle table field .count in
+      bytes ≤ length buffer → bufferAfter fieldStyle table field buffer ≡ bytesOf nodes ++ drop bytes buffer
+  pub buffer-of-whole : (buffer : List ℕ) →
+      let bytes = bytesInNode * measured style table formula .count in
+      bytes ≤ length buffer →
+      bufferAfter style table formula buffer
+      ≡ bytesOf (f .before) ++ (bytesOf (movedBy (f .distance) nodes) ++ (bytesOf (f .after) ++ drop bytes buffer))
+  pub count-alone : measured fieldStyle table field .count ≡ length nodes
+  pub count-of-whole : measured style table formula .count ≡ length (f .before) + (length nodes + length (f .after))
+
+-- the field's shape, and the item that holds it, which is in the style s: it is set from that shape and the other two
+pub record SizeUsed (F : Font) (s : Style) (t : Step) (l : Items) (size : Size) : Type 0 where
+  pub shape : (enlarge : Bool) → setField F (stepStyle t s) enlarge (list l) .shape ≡ box size
+  pub holder-arranged : (right : Neighbour) (line : Line) →
+      setItem F s right line (holder t l)
+      ≡ placed F s right line (classOf (t .kind))
+      (itemAround F s (t .kind) (t .arm) (sized size (setList F (stepStyle t s) l .nodes)))
+
+abbrev pub fieldStyleNumber : Style → Path → Step → ℕ
+fieldStyleNumber s p t = numberOf (styleAt s (into p t))
+
+-- what stands around the field's nodes, by the path and the size that the field measures alone
+abbrev pub around : List ℕ → Style → Path → Step → Size → Frame
+around table s p t size = frame (fontOf table) s (into p t) size
+
+pub record FieldAsAlone (style : ℕ) (table formula : List ℕ) (s : Style) (p : Path) (t : Step) (l : Items) : Type 0 where
+  pub alone : Alone (fieldStyleNumber s p t) table (fieldPart (into p t) l formula)
+  pub in-place :
+      let n = fieldStyleNumber s p t in
+      let field = fieldPart (into p t) l formula in
+      InPlace style table formula n field (around table s p t (measured n table field .size))
+  pub size-used :
+      let size = measured (fieldStyleNumber s p t) table (fieldPart (into p t) l formula) .size in
+      SizeUsed (fontOf table) (styleAt s p) t l size
+  pub same-outside : (other : List ℕ) (m : Items) →
+      let n = fieldStyleNumber s p t in
+      let size = measured n table (fieldPart (into p t) l formula) .size in
+      let field = fieldPart (into p t) m other in
+      Accepted style table other s (fill (into p t) m) → measured n table field .size ≡ size →
+      InPlace style table other n field (around table s p t size)
+
+-- ---- the proof
+
+-- from the boxes of the whole and of the field
+in-place-by : (style : ℕ) (table formula : List ℕ) (n : ℕ) (field : List ℕ) (w b : Box) (f : Frame) →
+    resultOf style table formula ≡ boxed w → resultOf n table field ≡ boxed b → w .nodes ≡ framed f (b .nodes) →
+    InPlace style table formula n field f
+in-place-by style table formula n field w b f whole-is alone-is e =
+    record {
+      nodes = b .nodes;
+      buffer-alone = buffer-boxed n table field b alone-is;
+      buffer-of-whole = λ buffer enough.
+          let rest = drop (bytesInNode * measured style table formula .count) buffer in
+          buffer-boxed style table formula w whole-is buffer enough
+          ∙ ap (λ (ns : List Node). bytesOf ns ++ rest) e
+          ∙ simp (bytes-append, append-assoc);
+      count-alone = ap (λ (a : Answered). a .count) (measured-boxed n table field b alone-is);
+      count-of-whole =
+          ap (λ (a : Answered). a .count) (measured-boxed style table formula w whole-is)
+          ∙ ap length e
+          ∙ simp (length-append, length-moved);
+    }
+
+module _ (style : ℕ) (table formula : List ℕ) (s : Style) (p : Path) (t : Step) (l : Items) where
+  module _ (h : Accepted style table formula s (fill (into p t) l)) where
+    field-passed : Passed table (styleAt s (into p t)) l
+    field-passed =
+        let w = passed h in
+        record {
+          table-good = w .table-good;
+          none-missing = missing-alone (fontOf table) s (into p t) l 0 0 (w .none-missing);
+          fits = fits-alone (fontOf table) s (into p t) l (w .fits);
+        }
+
+    whole-boxed : resultOf style table formula ≡ boxed (setList (fontOf table) s (fill (into p t) l))
+    whole-boxed = boxed-of style table formula s (fill (into p t) l) (h .style-is) (h .reads) (passed h)
+
+    field-boxed : resultOf (fieldStyleNumber s p t) table (fieldPart (into p t) l formula)
+        ≡ boxed (setList (fontOf table) (styleAt s (into p t)) l)
+    field-boxed =
+        boxed-of (fieldStyleNumber s p t) table (fieldPart (into p t) l formula) (styleAt s (into p t)) l
+        (number-of-style (styleAt s (into p t))) (field-reads formula (into p t) l (h .reads)) field-passed
+
+    field-measured : measured (fieldStyleNumber s p t) table (fieldPart (into p t) l formula)
+        ≡ accepted (setList (fontOf table) (styleAt s (into p t)) l)
+    field-measured = measured-boxed (fieldStyleNumber s p t) table (fieldPart (into p t) l formula) _ field-boxed
+
+    field-alone : Alone (fieldStyleNumber s p t) table (fieldPart (into p t) l formula)
+    field-alone =
+        record {
+          measured-alone = ap (λ (a : Answered). a .number) field-measured;
+          set-alone = set-boxed (fieldStyleNumber s p t) table (fieldPart (into p t) l formula) _ field-boxed;
+        }
+
+    -- for any size that is the one measured
+    field-stands : (size : Size) → measured (fieldStyleNumber s p t) table (fieldPart (into p t) l formula) .size ≡ size →
+        InPlace style table formula (fieldStyleNumber s p t) (fieldPart (into p t) l formula) (around table s p t size)
+    field-stands size e =
+        let F = fontOf table in
+        let b = setList F (styleAt s (into p t)) l in
+        let same : b .size ≡ size = ap (λ (a : Answered). a .size) (sym field-measured) ∙ e in
+        in-place-by style table formula (fieldStyleNumber s p t) (fieldPart (into p t) l formula) _ b
+        (frame F s (into p t) size) whole-boxed field-boxed
+        (ap (λ (w : Box). w .nodes) (field-in-place F s (into p t) l)
+        ∙ ap (λ (z : Size). framed (frame F s (into p t) z) (b .nodes)) same)
+
+    field-used :
+        let size = measured (fieldStyleNumber s p t) table (fieldPart (into p t) l formula) .size in
+        SizeUsed (fontOf table) (styleAt s p) t l size
+    unfolding setField setList
+    field-used =
+        record {
+          shape = λ enlarge. ap (λ (a : Answered). box (a .size)) (sym field-measured);
+          holder-arranged = λ right line.
+              rw field-measured (size-used (fontOf table) (styleAt s p) (t .kind) right line (t .arm) l);
+        }
+
+pub demand-3 : (style : ℕ) (table formula : List ℕ) (s : Style) (p : Path) (t : Step) (l : Items) →
+    Accepted style table formula s (fill (into p t) l) → FieldAsAlone style table formula s p t l
+demand-3 style table formula s p t l h =
+    record {
+      alone = field-alone style table formula s p t l h;
+      in-place = field-stands style table formula s p t l h _ refl;
+      size-used = field-used style table formula s p t l h;
+      same-outside = λ other m k e. field-stands style table other s p t m k _ e;
+    }
