@@ -8,3 +8,5 @@ mod MovedBytes
 mod FieldBytes
 mod Demand3
 mod FieldExample
+mod AnsweringLaws
+mod EntryLaws
