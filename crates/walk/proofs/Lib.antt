@@ -1,0 +1,4 @@
+-- What the proofs of several functions use. Assumes nothing.
+mod LineLaws
+mod PartLaws
+mod PlaceLaws
