@@ -1,4 +1,5 @@
--- What the proofs of several functions use. Assumes nothing.
+-- Laws of the walk that belong to no one function. Assumes nothing.
 mod LineLaws
 mod PartLaws
 mod PlaceLaws
+mod ItemLaws
