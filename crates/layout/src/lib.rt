@@ -3,7 +3,7 @@
 ghost use mathlib.Core.Path.{_≡_};
 ghost use lib.ListN.{length};
 ghost use Rattle.layout.specs.Answers.{measured, setting, bufferAfter};
-ghost use Rattle.layout.specs.Answering.{answeredAs, Examined, Reads, ReadDone};
+ghost use Rattle.layout.specs.Answering.{answeredAs, FaultIs, Examined, Reads, ReadDone, Weighed};
 use formula::Verdict;
 use formula::reading::read_formula;
 use rules::Style;

@@ -1,0 +1,60 @@
+// The interface for C, and through C for Rust (include/torfianka.h). What the calls give is defined in specs/Words.antt.
+
+ghost use mathlib.Core.Path.{_≡_};
+ghost use Prim.Native.Nat.{_≤_};
+ghost use lib.ListN.{length};
+ghost use Rattle.layout.specs.Answers.{measured, setting, bufferAfter};
+ghost use Rattle.layout.specs.Answering.{answeredAs};
+ghost use Rattle.capi.specs.Words.{numberBy, wordsBy, bufferBy, answerWords, countWord};
+use layout::Answer;
+use rules::boxes::Size;
+use scaled::Sp;
+
+// How many words an answer takes.
+const ANSWER_WORDS: usize = 5;
+
+// The number where the answer has no room. Nothing is measured or set then.
+const NO_ANSWER: u8 = 255;
+
+// Measures a formula.
+#[no_mangle]
+pub extern "C" fn torfianka_measure(style: u8, table: &[u8], formula: &[u8], answer: &mut [i64]) -> u8
+    ensures { λ r. ⌜ r ≡ numberBy (measured style (now (table .entry)) (now (formula .entry))) (now (answer .entry)) ⌝ }
+    ensures { λ _. ⌜ now (answer .exit) ≡ wordsBy (measured style (now (table .entry)) (now (formula .entry))) (now (answer .entry)) ⌝ }
+{
+    if answer.len() < ANSWER_WORDS {
+        return NO_ANSWER;
+    }
+    report(layout::measure(style, table, formula), answer)
+}
+
+// Sets a formula into the front of the node buffer.
+#[no_mangle]
+pub extern "C" fn torfianka_set(style: u8, table: &[u8], formula: &[u8], nodes: &mut [u8], answer: &mut [i64]) -> u8
+    ensures { λ r. ⌜ r ≡ numberBy (setting style (now (table .entry)) (now (formula .entry)) (length (now (nodes .entry)))) (now (answer .entry)) ⌝ }
+    ensures { λ _. ⌜ now (answer .exit) ≡ wordsBy (setting style (now (table .entry)) (now (formula .entry)) (length (now (nodes .entry)))) (now (answer .entry)) ⌝ }
+    ensures { λ _. ⌜ now (nodes .exit) ≡ bufferBy (bufferAfter style (now (table .entry)) (now (formula .entry)) (now (nodes .entry))) (now (nodes .entry)) (now (answer .entry)) ⌝ }
+{
+    if answer.len() < ANSWER_WORDS {
+        return NO_ANSWER;
+    }
+    report(layout::set(style, table, formula, nodes), answer)
+}
+
+// Writes an answer's place, sizes and count, and gives its number.
+fn report(answer: Answer, words: &mut [i64]) -> u8
+    requires { ⌜ 5 ≤ length (now words) ⌝ }
+    ensures { λ r. ⌜ r ≡ answeredAs answer .number ⌝ }
+    ensures { λ _. ⌜ now (words .exit) ≡ answerWords (answeredAs answer) (now (words .entry)) ⌝ }
+{
+    match answer {
+        Answer::Accepted(size, count) => accept(size, count, words),
+        Answer::NoStyle => refuse(1, 0, words),
+        Answer::BadTable => refuse(2, 0, words),
+        Answer::Unreadable(place) => refuse(3, place, words),
+        Answer::TooDeep(place) => refuse(4, place, words),
+        Answer::Missing(place) => refuse(5, place, words),
+        Answer::TooLarge => refuse(6, 0, words),
+        Answer::NoRoom => refuse(7, 0, words),
+    }
+}
