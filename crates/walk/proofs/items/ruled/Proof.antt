@@ -61,14 +61,15 @@ returns-2 c =
     let put = c .before .before .before in
     let sum = put .before .before .before in
     let arm = sum .before .before .before .before in
+    let start = arm .before .before .before in
     let r = arm .rule .given .0 .0 in
     let n = rule (sum .plus .result .0) (r .place .up .0) (r .width .0) (r .thickness .0) in
-    let at = rule-at _ r (sum .plus .result .0) (sum .plus .ensures .is) in
-    rw (arm .rule .given .1, at)
+    let at = rule-at (start .args .x .0) r (sum .plus .result .0) (sum .plus .ensures .is) in
+    rw (arm .rule .given .1)
     (record {
       not-large = refl;
-      is = record { count-is = refl; hull-is = c .point .ensures ∙ sym (hull-node n) };
-      drawn = rw (put .put-rule .ensures) (drawn-put n _);
+      is = rw at (record { count-is = refl; hull-is = c .point .ensures ∙ sym (hull-node n) });
+      drawn = rw (at, put .put-rule .ensures) (drawn-put n (start .args .buf .now));
     })
 
 pub ruled-spec : {M : Type 1} → statement M
