@@ -1,2 +1,5 @@
 -- What the proofs of several functions use. Assumes nothing.
+mod LineLaws
+mod PartLaws
+mod PlaceLaws
 mod ItemLaws
