@@ -1,26 +1,29 @@
 -- Laws of an item's nodes, for the walk over its fields.
---     rule-nodes                        how many rules an arrangement draws
+--     few-rules, rule-nodes             how many rules an arrangement draws
+--     other-way, zero-place             sums of places
 --     placed-is, item-nodes-at          a field's nodes, and an item's, at their place in the list
 --     moved-run, moved-drawn, both-is   what moved parts and joined runs stand for, and their nodes in the buffer
---     moved-within-run, front-within, both-within, run-reach, front-reach     how far runs reach
+--     sum-within, moved-within-run, front-within, both-within, run-reach, front-reach     how far runs reach
 --     drawn-around, drawn-take, drawn-kept     nodes set in the two parts of a buffer
+--     rest-lent, rest-back, drawn-behind       the part of a buffer from j on, lent and given back
 -- Assumes nothing.
-use mathlib.Core.Path.{_≡_, refl, sym, ap, _∙_}
+use mathlib.Core.Path.{_≡_, refl, sym, _∙_}
 use mathlib.Core.Bool.{Bool, true, false}
-use mathlib.Core.List.{List, [], _∷_, _++_, append-assoc, append-nil}
+use mathlib.Core.List.{List, [], _++_, append-assoc, append-nil}
 use mathlib.Core.Option.{Option, none, some}
 use Prim.Native.Nat.{ℕ, _+_, _-_, _*_, _≤_}
 use native.Mathlib.Omega.{arith}
 use lib.IntN.{ℤ, pos, _+ℤ_}
 use lib.ListN.{length, take, drop, length-append, length-take, length-drop, drop-of-length-le}
-use lib.Seq.{length-take-le, drop-at, take-add, take-append-add, drop-append-add, drop-drop}
+use lib.Seq.{length-take-le, take-all, drop-at, take-add, take-append-add, drop-append-add, drop-drop}
+use borrow.Rule.Slice.PartMut.{putMid}
 use Rattle.scaled.specs.Signed.{Within}
 use Rattle.scaled.specs.Linear.{#, _⊕_, eq-by, within-by}
+use Rattle.scaled.specs.Made.{Sum}
 use Rattle.formula.specs.declared.Class.{Class}
 use Rattle.formula.specs.declared.Limits.{Limits}
 use Rattle.formula.specs.declared.Kind.{Kind}
 use Rattle.formula.specs.declared.Kind.the-variants.{Atom, Over, Under, Fraction}
-use Rattle.formula.specs.declared.Bar.{Bar}
 use Rattle.formula.specs.Heads.{isOp}
 use Rattle.rules.specs.declared.Style.{Style}
 use Rattle.rules.specs.declared.boxes.Place.{Place as CodePlace}
@@ -34,18 +37,18 @@ use Rattle.rules.specs.Limits.{hasLimits, limited}
 use Rattle.rules.specs.Scripts.{scripted}
 use Rattle.rules.specs.Fractions.{fraction, hasBar, barThickness}
 use Rattle.rules.specs.Arrange.{isGiven, atom, arrange}
-use Rattle.rules.specs.Values.{placeAs, lineAs, arrangedAs}
+use Rattle.rules.specs.Values.{placeAs, lineAs}
 use Rattle.rules.specs.Bounds.{words, itemWords, PlaceWithin, LineWithin, Bounded}
 use Rattle.nodes.specs.Nodes.{Node, moved, bytesInNode, bytesOf}
 use Rattle.nodes.specs.NodeLaws.{length-bytes, bytes-append, length-moved, moved-append, moved-moved}
 use Rattle.nodes.specs.Bounds.{greatestLength}
 use Rattle.nodes.specs.Hull.{Hull, hull, hullAs, joined, movedHull, HullWithin}
 use Rattle.nodes.specs.HullLaws.{hull-append, hull-moved, join-within, moved-within, within-more}
-use Rattle.nodes.specs.Drawn.{Drawn, drawn-moved}
+use Rattle.nodes.specs.Drawn.{Drawn, drawn-moved, drawn-append}
 use Rattle.walk.specs.declared.parts.Part as parts
 use Rattle.walk.specs.declared.items.Setting as items
 use Rattle.walk.specs.declared.items.Run.{Run}
-use Rattle.walk.specs.Setting.{Part, movedTo, ruleNodes, itemNodes}
+use Rattle.walk.specs.Setting.{Part, ruleNodes, itemNodes}
 use Rattle.walk.specs.Walked.{RunIs, MovedPart, BothRuns, stride, nodeReach, SettingWithin, barCount, ruleCount, placedNodes, frontNodes, FrontRun}
 
 -- ---- how many rules
@@ -98,6 +101,11 @@ unfolding ruleNodes
 bar-rule true r = refl
 bar-rule false r = refl
 
+pub few-rules : (r : Option Rule) → length (ruleNodes r) ≤ 1
+unfolding ruleNodes
+few-rules none = omega arith
+few-rules (some r) = omega arith
+
 pub rule-nodes : (P : Parameters) (s : Style) (kind : Kind) (x y z : Shape) →
     length (ruleNodes (arrange P s kind x y z .rule)) ≡ ruleCount P s kind
 unfolding arrange ruleCount fraction
@@ -110,10 +118,10 @@ rule-nodes P s (Fraction bar) x y z = bar-rule (hasBar (barThickness P (fontSize
 
 -- ---- nodes at their place
 
-other-way : (a b : ℤ) → a +ℤ b ≡ b +ℤ a
+pub other-way : (a b : ℤ) → a +ℤ b ≡ b +ℤ a
 other-way a b = eq-by (# a ⊕ # b) (# b ⊕ # a) (omega arith)
 
-zero-place : (z : ℤ) → z +ℤ pos 0 ≡ z
+pub zero-place : (z : ℤ) → z +ℤ pos 0 ≡ z
 zero-place z = eq-by (# z ⊕ # (pos 0)) (# z) (omega arith)
 
 pub placed-is : (x : ℤ) (p : Place) (ns : List Node) → placedNodes x p ns ≡ moved (x +ℤ p .across) (p .up) ns
@@ -147,6 +155,9 @@ both-is a b r ms ns both first second =
     record { count-is = cc; hull-is = cc }
 
 -- ---- how far runs reach
+
+pub sum-within : {j k : ℕ} {a b r : ℤ} → Sum a b r → Within j a → Within k b → Within (j + k) r
+sum-within sum first second = omega arith
 
 -- nodes within the greatest length, moved
 moved-reach : {k : ℕ} {x : ℤ} (h : Hull) (p : Place) → HullWithin greatestLength h → Within k x →
@@ -256,3 +267,22 @@ drawn-kept k ms b b₁ drawn few room =
     let n = bytesInNode * length ms in
     let front : b₁ ≡ bytesOf ms ++ drop n b = drawn (omega arith) in
     rw front (drop-over (bytesInNode * k) n (bytesInNode * k - n) (bytesOf ms) b (length-bytes ms) (omega arith))
+
+-- ---- a part of the buffer that is lent, from j on, and comes back
+
+module _ (j : ℕ) (b : List ℕ) where
+  pub rest-lent : take (length b - j) (drop j b) ≡ drop j b
+  rest-lent = take-all (length b - j) (drop j b) (omega (arith, length-drop j b))
+
+  pub rest-back : (r : List ℕ) → putMid j (length b - j) b r ≡ take j b ++ r
+  rest-back r =
+      let none-left : drop (length b - j) (drop j b) ≡ [] =
+      drop-of-length-le (drop j b) {i = length b - j} (omega (arith, length-drop j b)) in
+      rw (none-left, append-nil)
+
+-- `drawn-append` for a part that was lent
+pub drawn-behind : {j : ℕ} (ms ns : List Node) (b b₁ r : List ℕ) → length b₁ ≡ length b →
+    (bytesInNode * length ms ≤ length b → j ≡ bytesInNode * length ms) → Drawn ms b b₁ →
+    Drawn ns (take (length b₁ - j) (drop j b₁)) r → Drawn (ms ++ ns) b (putMid j (length b₁ - j) b₁ r)
+drawn-behind {j} ms ns b b₁ r same place first second =
+    rw (rest-back j b₁ r) (drawn-append ms ns b b₁ r same place first (rw (rest-lent j b₁) at second))

@@ -1,4 +1,4 @@
--- Laws of the walk that belong to no one function. Assumes nothing.
+-- What the proofs of several functions use. Assumes nothing.
 mod LineLaws
 mod PartLaws
 mod PlaceLaws

@@ -19,7 +19,7 @@ use Rattle.formula.specs.ReadingLaws.{behind-in}
 use Rattle.formula.specs.Slices.{tail-part}
 use Rattle.formula.specs.Places.{Readable, treeOf, second, third}
 use Rattle.formula.specs.PlacesLaws.{Stepped, step, tree-none}
-use Rattle.rules.specs.Classes.{Neighbour, classOf}
+use Rattle.rules.specs.Classes.{classOf}
 use Rattle.walk.specs.Setting.{nextClass}
 use Rattle.scaled.specs.declared.Sp.{Sp}
 

@@ -4,7 +4,7 @@ use mathlib.Core.Path.{_≡_, sym, ap, _∙_}
 use mathlib.Core.Bool.{Bool, true, false}
 use native.Mathlib.Omega.{arith}
 use borrow.Author.Needs.{needs}
-use Rattle.formula.specs.Places.{behind, second, third, thirdEnd, hasThird}
+use Rattle.formula.specs.Places.{behind, third, thirdEnd, hasThird}
 use Rattle.walk.proofs.PlaceLaws.{places-in}
 use Rattle.walk.proofs.places.places_of.Statement.{statement}
 use Rattle.walk.proofs.places.places_of.Tie as tie
