@@ -1,10 +1,11 @@
 -- From what the walk finds to the answers of the definition, a law for each way out of the code.
 --     fits-is          the code's test of a line is the definition's of its list
---     whole-boxed, whole-refused, missing-refused     a formula that reads
+--     given-list       what the walk asks
+--     whole-done, missing-refused     a formula that reads
 --     read-examined    the same of any style that there is
 --     style-refused, table-refused, fault-refused     the tests before the walk
 -- Assumes nothing.
-use mathlib.Core.Path.{_≡_, refl, sym, ap, ap₂, subst, _∙_}
+use mathlib.Core.Path.{_≡_, refl, sym, ap, ap₂, subst, fun-ext, _∙_}
 use mathlib.Core.Bool.{Bool, true, false, not, _&&_, and-true, and-false}
 use mathlib.Core.List.{List}
 use mathlib.Core.Option.{Option, none, some}
@@ -13,12 +14,13 @@ use native.Mathlib.Omega.{arith}
 use lib.ListN.{length}
 use Rattle.font.specs.Table.{goodTable}
 use Rattle.font.specs.Font.{Font, fontOf}
+use Rattle.font.specs.Answers.{HoldsParameters}
 use Rattle.formula.specs.Tree.{Items}
 use Rattle.formula.specs.Reading.{Read, good, fault, readFormula}
 use Rattle.formula.specs.Places.{Readable, treeOf}
 use Rattle.rules.specs.declared.Style.{Style}
 use Rattle.rules.specs.Styles.{styleOf}
-use Rattle.rules.specs.Values.{sizeAs}
+use Rattle.rules.specs.Values.{parametersIn, sizeAs}
 use Rattle.nodes.specs.Bounds.{nodesFit}
 use Rattle.nodes.specs.Hull.{hull, hullAs, hullFits}
 use Rattle.nodes.specs.HullLaws.{fits-hull}
@@ -26,7 +28,7 @@ use Rattle.walk.specs.declared.lines.Line as lines
 use Rattle.walk.specs.Setting.{Box, setItems, setList, start}
 use Rattle.walk.specs.Missing.{missingItems}
 use Rattle.walk.specs.Fitting.{sizeFits, boxFits, itemsFit, listFits}
-use Rattle.walk.specs.Walked.{LineIs, ListWhole}
+use Rattle.walk.specs.Walked.{LineIs, ListWhole, ListGiven}
 use Rattle.layout.specs.declared.Answer.{Answer}
 use Rattle.layout.specs.declared.Answer.the-variants.{NoStyle, BadTable, Missing, TooLarge}
 use Rattle.layout.specs.declared.Finding.{Finding}
@@ -76,6 +78,17 @@ module _ (F : Font) (s : Style) (l : Items) (bytes : ℕ) (c : lines.Line) (w : 
           ap (λ (t : Bool). not t && (hullFits (hullAs (c .hull)) && sizeFits (sizeAs (c .size)))) e
           ∙ box-fits e
           ∙ sym (ap (λ (t : Bool). boxFits (setList F s l) && t) (items-fit ∙ ap not e) ∙ and-true (boxFits (setList F s l)))
+
+-- ---- what the walk asks of a formula that reads
+
+pub given-list : (table formula : List ℕ) (p : List (List ℕ)) → Reads table formula → HoldsParameters p table → ListGiven table p formula
+unfolding parametersIn
+given-list table formula p h holds =
+    record {
+      ready = record { good = h .table-good; parameters-are = fun-ext (λ size. fun-ext (λ number. holds .held size number)) };
+      readable = h .readable;
+      short = omega (arith, h .short);
+    }
 
 -- ---- a formula that reads
 
