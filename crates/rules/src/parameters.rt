@@ -1,8 +1,15 @@
 // The font parameters: three rows of thirty-five words, read by size and by number. σ1 has number 0, ξ1 number 22.
+use crate::Style;
+use crate::styles::font_size;
 use scaled::Sp;
+ghost use mathlib.Core.Path.{_≡_};
 ghost use Prim.Native.Nat.{_<_};
 ghost use Rattle.scaled.specs.Made.{FromWord};
+ghost use Rattle.scaled.specs.Signed.{Within};
+ghost use Rattle.rules.specs.Styles.{fontSize};
+ghost use Rattle.rules.specs.Parameters.{ruleThickness};
 ghost use Rattle.rules.specs.Values.{parametersIn};
+ghost use Rattle.rules.specs.Bounds.{words};
 
 pub type Parameters = [[u32; 35]; 3];
 
@@ -53,4 +60,11 @@ pub fn parameter(p: Parameters, size: usize, number: usize) -> Sp
     ensures { λ r. ⌜ FromWord (parametersIn p size number) (r .0) ⌝ }
 {
     Sp::of_word(p[size][number])
+}
+
+// ξ8 at the size of a style.
+pub fn rule_thickness(p: Parameters, style: Style) -> Sp
+    ensures { λ r. ⌜ (r .0 ≡ ruleThickness (parametersIn p) (fontSize style)) × Within (words 1) (r .0) ⌝ }
+{
+    parameter(p, font_size(style), RULE_THICKNESS)
 }
