@@ -11,7 +11,6 @@ use scaled::Mu;
 use scaled::Sp;
 ghost use mathlib.Core.Path.{_≡_};
 ghost use Prim.Native.Nat.{_<_, _^_};
-ghost use lib.IntN.{pos};
 ghost use Rattle.scaled.specs.Signed.{Within};
 ghost use Rattle.rules.specs.Spacing as spacing;
 ghost use Rattle.rules.specs.Spacing.{chart, spaceBefore};
