@@ -24,14 +24,18 @@ hasBar θ = ltZ (pos 0) θ
 
 -- ---- 15b: the shifts at first
 
-unfoldable pub fractionShifts : Parameters → Style → ℤ → Shifts
-fractionShifts p s θ =
+abbrev pub numeratorUp : Parameters → Style → ℤ → ℤ
+numeratorUp p s θ =
     let size = fontSize s in
-    let display = isDisplay (s .level) in
-    record {
-      up = pick display (num1 p size) (pick (hasBar θ) (num2 p size) (num3 p size));
-      down = pick display (denom1 p size) (denom2 p size);
-    }
+    pick (isDisplay (s .level)) (num1 p size) (pick (hasBar θ) (num2 p size) (num3 p size))
+
+abbrev pub denominatorDown : Parameters → Style → ℤ
+denominatorDown p s =
+    let size = fontSize s in
+    pick (isDisplay (s .level)) (denom1 p size) (denom2 p size)
+
+unfoldable pub fractionShifts : Parameters → Style → ℤ → Shifts
+fractionShifts p s θ = record { up = numeratorUp p s θ; down = denominatorDown p s }
 
 -- ---- 15c: without a bar, both gain half of what the clearance lacks
 
@@ -61,11 +65,18 @@ leastFromBar s θ = θ *ℤ pick (isDisplay (s .level)) (pos 3) (pos 1)
 unfoldable pub cleared : ℤ → ℤ → ℤ → ℤ
 cleared φ free shift = pick (ltZ free φ) (shift +ℤ (φ -ℤ free)) shift
 
+-- from the bar's top to the numerator's bottom, and from the denominator's top to the bar's bottom
+abbrev pub freeAbove : ℤ → ℤ → Size → ℤ → ℤ
+freeAbove axis θ x up = (up -ℤ x .depth) -ℤ (axis +ℤ half θ)
+
+abbrev pub freeBelow : ℤ → ℤ → Size → ℤ → ℤ
+freeBelow axis θ z down = (axis -ℤ half θ) -ℤ (z .height -ℤ down)
+
 unfoldable pub shiftsWithBar : ℤ → ℤ → ℤ → Size → Size → Shifts → Shifts
 shiftsWithBar axis θ φ x z t =
     record {
-      up = cleared φ ((t .up -ℤ x .depth) -ℤ (axis +ℤ half θ)) (t .up);
-      down = cleared φ ((axis -ℤ half θ) -ℤ (z .height -ℤ t .down)) (t .down);
+      up = cleared φ (freeAbove axis θ x (t .up)) (t .up);
+      down = cleared φ (freeBelow axis θ z (t .down)) (t .down);
     }
 
 -- ---- the item: both parts and the bar stand in the width of the wider part
@@ -89,16 +100,20 @@ barOf axis θ w =
       | false ↦ none
     ]
 
-unfoldable pub fraction : Parameters → Style → Bar → Size → Size → Arranged
-fraction p s bar x z =
-    let size = fontSize s in
-    let θ = barThickness p size bar in
-    let t = finalShifts p s θ x z in
-    let w = maxℤ (x .width) (z .width) in
+-- numerator and denominator, shifted by t, in the middle of the width w
+abbrev pub stacked : Size → Size → ℤ → Shifts → Option Rule → Arranged
+stacked x z w t bar =
     record {
       size = record { width = w; height = x .height +ℤ t .up; depth = z .depth +ℤ t .down };
       first = at (centred w (x .width)) (t .up);
       second = at (centred w (z .width)) (negℤ (t .down));
       third = origin;
-      rule = barOf (axisHeight p size) θ w;
+      rule = bar;
     }
+
+unfoldable pub fraction : Parameters → Style → Bar → Size → Size → Arranged
+fraction p s bar x z =
+    let size = fontSize s in
+    let θ = barThickness p size bar in
+    let w = maxℤ (x .width) (z .width) in
+    stacked x z w (finalShifts p s θ x z) (barOf (axisHeight p size) θ w)

@@ -8,3 +8,5 @@ pub mod Limits
 pub mod Scripts
 pub mod Fractions
 pub mod Arrange
+pub mod Values
+pub mod Bounds

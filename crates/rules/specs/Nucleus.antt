@@ -5,7 +5,7 @@ use mathlib.Core.Option.{Option, none, some}
 use lib.IntN.{ℤ, pos, negℤ, _+ℤ_, _-ℤ_, _*ℤ_}
 use Rattle.scaled.specs.Length.{maxℤ, half}
 use Rattle.font.specs.Font.{Metrics}
-use Rattle.rules.specs.Boxes.{Size, Shape, nothing, char, box, charSize, sizeOf, zeroSize, Rule, at}
+use Rattle.rules.specs.Boxes.{Size, Shape, nothing, char, box, charSize, zeroSize, Rule, at}
 
 -- A nucleus as the limits and the scripts see it.
 pub record Nucleus : Type 0 where
@@ -42,16 +42,20 @@ abbrev pub operatorWidth : Metrics → Bool → ℤ
 operatorWidth m true = pos (m .width)
 operatorWidth m false = pos (m .width) +ℤ pos (m .italic)
 
+-- height and depth are at least 0
+abbrev pub operatorSize : Metrics → Bool → ℤ → Size
+operatorSize m subscriptBeside down =
+    record {
+      width = operatorWidth m subscriptBeside;
+      height = maxℤ (pos 0) (pos (m .height) -ℤ down);
+      depth = maxℤ (pos 0) (pos (m .depth) +ℤ down);
+    }
+
 abbrev pub operatorNucleus : ℤ → Metrics → Bool → Nucleus
 operatorNucleus axis m subscriptBeside =
     let down = operatorShift axis m in
     record {
-      size =
-          record {
-            width = operatorWidth m subscriptBeside;
-            height = maxℤ (pos 0) (pos (m .height) -ℤ down);
-            depth = maxℤ (pos 0) (pos (m .depth) +ℤ down);
-          };
+      size = operatorSize m subscriptBeside down;
       raise = negℤ down;
       δ = pos (m .italic);
       isPlain = false;
@@ -67,33 +71,23 @@ atomNucleus axis operator limits subscript (box z) = boxNucleus z
 
 -- ---- rules 9 and 10: a line over or under the nucleus x, with 3θ between and θ beyond
 
-abbrev pub overline : ℤ → Size → Nucleus
-overline θ x =
+-- a nucleus of size z with a line as wide, whose lower edge is up from the baseline
+abbrev pub lined : Size → ℤ → ℤ → Nucleus
+lined z θ up =
     record {
-      size = record { width = x .width; height = x .height +ℤ θ *ℤ pos 5; depth = x .depth };
+      size = z;
       raise = pos 0;
       δ = pos 0;
       isPlain = false;
-      line =
-          some record {
-            place = at (pos 0) (x .height +ℤ θ *ℤ pos 3);
-            width = x .width;
-            thickness = θ;
-          };
+      line = some record { place = at (pos 0) up; width = z .width; thickness = θ };
     }
+
+abbrev pub overline : ℤ → Size → Nucleus
+overline θ x =
+    lined (record { width = x .width; height = x .height +ℤ θ *ℤ pos 5; depth = x .depth }) θ (x .height +ℤ θ *ℤ pos 3)
 
 -- the line's top is 3θ below the nucleus, so that its lower edge is 4θ below
 abbrev pub underline : ℤ → Size → Nucleus
 underline θ x =
-    record {
-      size = record { width = x .width; height = x .height; depth = x .depth +ℤ θ *ℤ pos 5 };
-      raise = pos 0;
-      δ = pos 0;
-      isPlain = false;
-      line =
-          some record {
-            place = at (pos 0) (negℤ (x .depth +ℤ θ *ℤ pos 3) -ℤ θ);
-            width = x .width;
-            thickness = θ;
-          };
-    }
+    lined (record { width = x .width; height = x .height; depth = x .depth +ℤ θ *ℤ pos 5 }) θ
+    (negℤ (x .depth +ℤ θ *ℤ pos 3) -ℤ θ)

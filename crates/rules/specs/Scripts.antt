@@ -3,7 +3,7 @@
 -- script space is added.
 -- Assumes nothing.
 use mathlib.Core.Bool.{Bool, true, false}
-use mathlib.Core.List.{List, [], _∷_}
+use mathlib.Core.List.{[], _∷_}
 use mathlib.Core.Option.{Option, none, some}
 use Prim.Native.Nat.{ℕ}
 use lib.IntN.{ℤ, pos, negℤ, _+ℤ_, _-ℤ_, _*ℤ_}
@@ -94,15 +94,15 @@ pairShifts p s n x y =
 
 -- ---- the item: scripts start where the nucleus ends; it is as high and as deep as nucleus and scripts reach
 
--- from the places and the width of the scripts, and how high and how deep they reach
-abbrev pub assembled : Nucleus → Place → Place → ℤ → List ℤ → List ℤ → Arranged
-assembled n second third w tops bottoms =
+-- from the places and the width of the scripts, and how high and how deep they reach, at least 0
+abbrev pub assembled : Nucleus → Place → Place → ℤ → ℤ → ℤ → Arranged
+assembled n second third w top bottom =
     record {
       size =
           record {
             width = n .size .width +ℤ w;
-            height = greatest (n .size .height ∷ tops);
-            depth = greatest (n .size .depth ∷ bottoms);
+            height = maxℤ (n .size .height) top;
+            depth = maxℤ (n .size .depth) bottom;
           };
       first = at (pos 0) (n .raise);
       second = second;
@@ -111,25 +111,32 @@ assembled n second third w tops bottoms =
     }
 
 abbrev pub withoutScripts : Nucleus → Arranged
-withoutScripts n = assembled n origin origin (pos 0) [] []
+withoutScripts n = assembled n origin origin (pos 0) (greatest []) (greatest [])
 
 abbrev pub withSuperscript : Nucleus → Size → ℤ → Arranged
 withSuperscript n x u =
     assembled n (at (n .size .width) u) origin (x .width +ℤ scriptSpace)
-    ((x .height +ℤ u) ∷ []) ((x .depth -ℤ u) ∷ [])
+    (greatest ((x .height +ℤ u) ∷ [])) (greatest ((x .depth -ℤ u) ∷ []))
 
 abbrev pub withSubscript : Nucleus → Size → ℤ → Arranged
 withSubscript n y v =
     assembled n origin (at (n .size .width) (negℤ v)) (y .width +ℤ scriptSpace)
-    ((y .height -ℤ v) ∷ []) ((y .depth +ℤ v) ∷ [])
+    (greatest ((y .height -ℤ v) ∷ [])) (greatest ((y .depth +ℤ v) ∷ []))
 
 -- 18f: the superscript of a pair stands δ further right
+abbrev pub pairWidth : Nucleus → Size → Size → ℤ
+pairWidth n x y = maxℤ (x .width +ℤ scriptSpace +ℤ n .δ) (y .width +ℤ scriptSpace)
+
+abbrev pub pairTop : Size → Size → Shifts → ℤ
+pairTop x y t = greatest ((x .height +ℤ t .up) ∷ (y .height -ℤ t .down) ∷ [])
+
+abbrev pub pairBottom : Size → Size → Shifts → ℤ
+pairBottom x y t = greatest ((x .depth -ℤ t .up) ∷ (y .depth +ℤ t .down) ∷ [])
+
 abbrev pub withPair : Nucleus → Size → Size → Shifts → Arranged
 withPair n x y t =
     assembled n (at (n .size .width +ℤ n .δ) (t .up)) (at (n .size .width) (negℤ (t .down)))
-    (maxℤ (x .width +ℤ scriptSpace +ℤ n .δ) (y .width +ℤ scriptSpace))
-    ((x .height +ℤ t .up) ∷ (y .height -ℤ t .down) ∷ [])
-    ((x .depth -ℤ t .up) ∷ (y .depth +ℤ t .down) ∷ [])
+    (pairWidth n x y) (pairTop x y t) (pairBottom x y t)
 
 unfoldable pub scripted : Parameters → Style → Nucleus → Option Size → Option Size → Arranged
 scripted p s n none none = withoutScripts n

@@ -1,0 +1,148 @@
+// An item, from the shapes of its fields: its size, where its fields stand, and its line or bar.
+use crate::Style;
+use crate::boxes::Arranged;
+use crate::boxes::Script;
+use crate::boxes::Shape;
+use crate::boxes::given;
+use crate::boxes::size_of;
+use crate::classes::is_op;
+use crate::fractions::fraction;
+use crate::limits::has_limits;
+use crate::limits::limited;
+use crate::nucleus::Nucleus;
+use crate::nucleus::atom_nucleus;
+use crate::nucleus::overline;
+use crate::nucleus::underline;
+use crate::parameters::AXIS_HEIGHT;
+use crate::parameters::Parameters;
+use crate::parameters::parameter;
+use crate::parameters::rule_thickness;
+use crate::scripts::scripted;
+use crate::styles::cramped_style;
+use crate::styles::denominator_style;
+use crate::styles::font_size;
+use crate::styles::is_display;
+use crate::styles::numerator_style;
+use crate::styles::subscript_style;
+use crate::styles::superscript_style;
+use formula::Class;
+use formula::Kind;
+use formula::Limits;
+ghost use mathlib.Core.Path.{_≡_};
+ghost use Rattle.rules.specs.Boxes as boxes;
+ghost use Rattle.rules.specs.Scripts.{scripted as scriptedAs};
+ghost use Rattle.rules.specs.Arrange.{firstStyle, secondStyle, thirdStyle, isGiven};
+ghost use Rattle.rules.specs.Arrange as rule;
+ghost use Rattle.rules.specs.Values.{parametersIn, shapeAs, scriptAs, nucleusAs, arrangedAs};
+ghost use Rattle.rules.specs.Bounds.{ModerateShape, ModerateScript, ModerateNucleus, Bounded};
+
+// The style of the first field of an item in a style.
+pub fn first_style(kind: Kind, style: Style) -> Style
+    ensures { λ r. ⌜ r ≡ firstStyle kind style ⌝ }
+{
+    match kind {
+        Kind::Atom(_, _) => style,
+        Kind::Over => cramped_style(style),
+        Kind::Under => style,
+        Kind::Fraction(_) => numerator_style(style),
+    }
+}
+
+pub fn second_style(kind: Kind, style: Style) -> Style
+    ensures { λ r. ⌜ r ≡ secondStyle kind style ⌝ }
+{
+    match kind {
+        Kind::Atom(_, _) => superscript_style(style),
+        Kind::Over => superscript_style(style),
+        Kind::Under => superscript_style(style),
+        Kind::Fraction(_) => denominator_style(style),
+    }
+}
+
+pub fn third_style(style: Style) -> Style
+    ensures { λ r. ⌜ r ≡ thirdStyle style ⌝ }
+{
+    subscript_style(style)
+}
+
+// Rule 13: whether a symbol in the first field gives way to its successor.
+pub fn enlarges(kind: Kind, style: Style) -> bool
+    ensures { λ r. ⌜ r ≡ rule.enlarges kind style ⌝ }
+{
+    match kind {
+        Kind::Atom(class, _) => {
+            if is_op(class) {
+                is_display(style)
+            } else {
+                false
+            }
+        }
+        Kind::Over => false,
+        Kind::Under => false,
+        Kind::Fraction(_) => false,
+    }
+}
+
+pub fn arrange(p: Parameters, style: Style, kind: Kind, x: Shape, y: Shape, z: Shape) -> Arranged
+    requires { ⌜ ModerateShape x × ModerateShape y × ModerateShape z ⌝ }
+    ensures { λ r. ⌜ (arrangedAs r ≡ rule.arrange (parametersIn p) style kind (shapeAs x) (shapeAs y) (shapeAs z)) × Bounded r ⌝ }
+{
+    match kind {
+        Kind::Atom(class, limits) => atom(p, style, class, limits, x, given(y), given(z)),
+        Kind::Over => lined(
+            p,
+            style,
+            overline(rule_thickness(p, style), size_of(x)),
+            y,
+            z,
+        ),
+        Kind::Under => lined(
+            p,
+            style,
+            underline(rule_thickness(p, style), size_of(x)),
+            y,
+            z,
+        ),
+        Kind::Fraction(bar) => fraction(p, style, bar, size_of(x), size_of(y)),
+    }
+}
+
+// A nucleus with its line, and its scripts.
+fn lined(p: Parameters, style: Style, n: Nucleus, y: Shape, z: Shape) -> Arranged
+    requires { ⌜ ModerateNucleus n × ModerateShape y × ModerateShape z ⌝ }
+    ensures { λ r. ⌜ (arrangedAs r ≡ scriptedAs (parametersIn p) style (nucleusAs n) (boxes.given (shapeAs y)) (boxes.given (shapeAs z))) × Bounded r ⌝ }
+{
+    scripted(p, style, n, given(y), given(z))
+}
+
+fn atom(
+    p: Parameters,
+    style: Style,
+    class: Class,
+    limits: Limits,
+    x: Shape,
+    superscript: Script,
+    subscript: Script,
+) -> Arranged
+    requires { ⌜ ModerateShape x × ModerateScript superscript × ModerateScript subscript ⌝ }
+    ensures { λ r. ⌜ (arrangedAs r ≡ rule.atom (parametersIn p) style class limits (shapeAs x) (scriptAs superscript) (scriptAs subscript)) × Bounded r ⌝ }
+{
+    let size = font_size(style);
+    let axis = parameter(p, size, AXIS_HEIGHT);
+    let limits_set = has_limits(style, class, limits);
+    let n = atom_nucleus(axis, is_op(class), limits_set, is_given(subscript), x);
+    if limits_set {
+        limited(p, size, n, superscript, subscript)
+    } else {
+        scripted(p, style, n, superscript, subscript)
+    }
+}
+
+fn is_given(script: Script) -> bool
+    ensures { λ r. ⌜ r ≡ isGiven (scriptAs script) ⌝ }
+{
+    match script {
+        Script::Absent => false,
+        Script::Given(_) => true,
+    }
+}
