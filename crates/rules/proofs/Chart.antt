@@ -4,7 +4,7 @@
 use mathlib.Core.Bool.{Bool, true, false, _&&_}
 use mathlib.Core.List.{List, [], _∷_}
 use mathlib.Core.Path.{_≡_, refl}
-use Prim.Native.Nat.{ℕ, zero, suc, _+_, _*_, _/_, _%_, _<_}
+use Prim.Native.Nat.{ℕ, zero, suc, _/_, _%_}
 use lib.Dec.{T, eqb, ltb, eqb→eq, ltb→lt}
 use lib.ListN.{getD}
 use Rattle.formula.specs.declared.Class.{Class}
@@ -53,13 +53,13 @@ digits x e t =
     record { tens = eqb→eq _ _ (s .0); ones = eqb→eq _ _ (u .0); small = ltb→lt _ _ (u .1) }
 
 -- the table has the chart's digits at each pair of classes
-abbrev right-at : List ℕ → Class → Class → Bool
-right-at table left right = are-digits (getD table (column left * 8 + column right) 0) (chart left right)
+abbrev right-at : List (List ℕ) → Class → Class → Bool
+right-at table left right = are-digits (getD (getD table (column left) []) (column right) 0) (chart left right)
 
-abbrev pub right : List ℕ → Bool
+abbrev pub right : List (List ℕ) → Bool
 right table = every (λ (left : Class). every (right-at table left) classes) classes
 
-pub right-entry : (table : List ℕ) → T (right table) → (left right : Class) →
-    Digits (getD table (column left * 8 + column right) 0) (chart left right)
+pub right-entry : (table : List (List ℕ)) → T (right table) → (left right : Class) →
+    Digits (getD (getD table (column left) []) (column right) 0) (chart left right)
 right-entry table t l r =
     digits _ _ (at-each (right-at table l) (at-each (λ (l : Class). every (right-at table l) classes) t l) r)

@@ -5,7 +5,7 @@ use mathlib.Core.Option.{Option, none, some}
 use lib.IntN.{ℤ, pos, negℤ, _+ℤ_, _-ℤ_, _*ℤ_}
 use Rattle.scaled.specs.Length.{maxℤ, half}
 use Rattle.font.specs.Font.{Metrics}
-use Rattle.rules.specs.Boxes.{Size, Shape, nothing, char, box, charSize, sizeOf, zeroSize, Rule, at}
+use Rattle.rules.specs.Boxes.{Size, Shape, nothing, char, box, charSize, zeroSize, Rule, at}
 
 -- A nucleus as the limits and the scripts see it.
 pub record Nucleus : Type 0 where

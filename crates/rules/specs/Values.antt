@@ -6,7 +6,6 @@ use mathlib.Core.Option.{Option, none, some}
 use mathlib.Core.Path.{_≡_}
 use Prim.Native.Nat.{ℕ, _/_, _%_, _<_}
 use lib.ListN.{getD}
-use Rattle.formula.specs.declared.Class.{Class}
 use Rattle.font.specs.Answers.{metricsAs}
 use Rattle.rules.specs.declared.Style.{Style}
 use Rattle.rules.specs.declared.styles.Numbered.{Numbered}
@@ -45,12 +44,6 @@ numberedAs Unstyled = none
 abbrev pub neighbourAs : Neighbour → NeighbourOf
 neighbourAs End = none
 neighbourAs (Atom class) = some class
-
--- the two digits of a number in the table of spaces are the units of the chart's entry in the styles D to T', and in the script styles
-pub record Digits (x : ℕ) (e : Entry) : Type 0 where
-  pub tens : x / 10 ≡ units true e
-  pub ones : x % 10 ≡ units false e
-  pub small : x < 60
 
 abbrev pub sizeAs : Size → SizeOf
 sizeAs z = record { width = z .width .0; height = z .height .0; depth = z .depth .0 }
@@ -99,3 +92,9 @@ arrangedAs a =
 
 abbrev pub distancesAs : Distances → Limit
 distancesAs d = record { shift = d .shift .0; reach = d .reach .0 }
+
+-- the two digits of a number in the table of spaces: the units in the styles D to T', and in the script styles
+pub record Digits (x : ℕ) (e : Entry) : Type 0 where
+  pub tens : x / 10 ≡ units true e
+  pub ones : x % 10 ≡ units false e
+  pub small : x < 60

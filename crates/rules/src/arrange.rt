@@ -9,13 +9,14 @@ use crate::classes::is_op;
 use crate::fractions::fraction;
 use crate::limits::has_limits;
 use crate::limits::limited;
+use crate::nucleus::Nucleus;
 use crate::nucleus::atom_nucleus;
 use crate::nucleus::overline;
 use crate::nucleus::underline;
 use crate::parameters::AXIS_HEIGHT;
 use crate::parameters::Parameters;
-use crate::parameters::RULE_THICKNESS;
 use crate::parameters::parameter;
+use crate::parameters::rule_thickness;
 use crate::scripts::scripted;
 use crate::styles::cramped_style;
 use crate::styles::denominator_style;
@@ -28,10 +29,12 @@ use formula::Class;
 use formula::Kind;
 use formula::Limits;
 ghost use mathlib.Core.Path.{_≡_};
+ghost use Rattle.rules.specs.Boxes as boxes;
+ghost use Rattle.rules.specs.Scripts.{scripted as scriptedAs};
 ghost use Rattle.rules.specs.Arrange.{firstStyle, secondStyle, thirdStyle, isGiven};
 ghost use Rattle.rules.specs.Arrange as rule;
-ghost use Rattle.rules.specs.Values.{parametersIn, shapeAs, scriptAs, arrangedAs};
-ghost use Rattle.rules.specs.Bounds.{ModerateShape, ModerateScript, Bounded};
+ghost use Rattle.rules.specs.Values.{parametersIn, shapeAs, scriptAs, nucleusAs, arrangedAs};
+ghost use Rattle.rules.specs.Bounds.{ModerateShape, ModerateScript, ModerateNucleus, Bounded};
 
 // The style of the first field of an item in a style.
 pub fn first_style(kind: Kind, style: Style) -> Style
@@ -86,16 +89,30 @@ pub fn arrange(p: Parameters, style: Style, kind: Kind, x: Shape, y: Shape, z: S
 {
     match kind {
         Kind::Atom(class, limits) => atom(p, style, class, limits, x, given(y), given(z)),
-        Kind::Over => {
-            let theta = parameter(p, font_size(style), RULE_THICKNESS);
-            scripted(p, style, overline(theta, size_of(x)), given(y), given(z))
-        }
-        Kind::Under => {
-            let theta = parameter(p, font_size(style), RULE_THICKNESS);
-            scripted(p, style, underline(theta, size_of(x)), given(y), given(z))
-        }
+        Kind::Over => lined(
+            p,
+            style,
+            overline(rule_thickness(p, style), size_of(x)),
+            y,
+            z,
+        ),
+        Kind::Under => lined(
+            p,
+            style,
+            underline(rule_thickness(p, style), size_of(x)),
+            y,
+            z,
+        ),
         Kind::Fraction(bar) => fraction(p, style, bar, size_of(x), size_of(y)),
     }
+}
+
+// A nucleus with its line, and its scripts.
+fn lined(p: Parameters, style: Style, n: Nucleus, y: Shape, z: Shape) -> Arranged
+    requires { ⌜ ModerateNucleus n × ModerateShape y × ModerateShape z ⌝ }
+    ensures { λ r. ⌜ (arrangedAs r ≡ scriptedAs (parametersIn p) style (nucleusAs n) (boxes.given (shapeAs y)) (boxes.given (shapeAs z))) × Bounded r ⌝ }
+{
+    scripted(p, style, n, given(y), given(z))
 }
 
 fn atom(

@@ -17,6 +17,7 @@ use crate::parameters::NUM3;
 use crate::parameters::Parameters;
 use crate::parameters::RULE_THICKNESS;
 use crate::parameters::parameter;
+use crate::parameters::rule_thickness;
 use crate::styles::font_size;
 use crate::styles::is_display;
 use formula::Bar;
@@ -124,7 +125,7 @@ fn shifts_without_bar(p: Parameters, style: Style, x: Size, z: Size, t: Shifts) 
 fn least_clearance(p: Parameters, style: Style) -> Sp
     ensures { λ r. ⌜ (r .0 ≡ leastClearance (parametersIn p) style) × Within (words 7) (r .0) ⌝ }
 {
-    rules_clear(style, parameter(p, font_size(style), RULE_THICKNESS), 7, 3)
+    rules_clear(style, rule_thickness(p, style), 7, 3)
 }
 
 // 15c: the free height between numerator and denominator.

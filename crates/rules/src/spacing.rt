@@ -11,7 +11,6 @@ use scaled::Mu;
 use scaled::Sp;
 ghost use mathlib.Core.Path.{_≡_};
 ghost use Prim.Native.Nat.{_<_, _^_};
-ghost use lib.IntN.{pos};
 ghost use Rattle.scaled.specs.Signed.{Within};
 ghost use Rattle.rules.specs.Spacing as spacing;
 ghost use Rattle.rules.specs.Spacing.{chart, spaceBefore};
@@ -19,71 +18,15 @@ ghost use Rattle.rules.specs.Values.{parametersIn, neighbourAs, Digits};
 
 // A row for each left class, a column for each right one. The two digits of an entry are the math units in the styles D
 // to T' and in the script styles.
-const CHART: [u8; 64] = [
-    00,
-    33,
-    40,
-    50,
-    00,
-    00,
-    00,
-    30, // Ord
-    33,
-    33,
-    00,
-    50,
-    00,
-    00,
-    00,
-    30, // Op
-    40,
-    40,
-    00,
-    00,
-    40,
-    00,
-    00,
-    40, // Bin
-    50,
-    50,
-    00,
-    00,
-    50,
-    00,
-    00,
-    50, // Rel
-    00,
-    00,
-    00,
-    00,
-    00,
-    00,
-    00,
-    00, // Open
-    00,
-    33,
-    40,
-    50,
-    00,
-    00,
-    00,
-    30, // Close
-    30,
-    30,
-    00,
-    30,
-    30,
-    30,
-    30,
-    30, // Punct
-    30,
-    33,
-    40,
-    50,
-    30,
-    00,
-    30,
-    30, // Inner
+const CHART: [[u8; 8]; 8] = [
+    [0, 33, 40, 50, 0, 0, 0, 30], // Ord
+    [33, 33, 0, 50, 0, 0, 0, 30], // Op
+    [40, 40, 0, 0, 40, 0, 0, 40], // Bin
+    [50, 50, 0, 0, 50, 0, 0, 50], // Rel
+    [0, 0, 0, 0, 0, 0, 0, 0], // Open
+    [0, 33, 40, 50, 0, 0, 0, 30], // Close
+    [30, 30, 0, 30, 30, 30, 30, 30], // Punct
+    [30, 33, 40, 50, 30, 0, 30, 30], // Inner
 ];
 
 // The space before an atom of class right, none before the first.
@@ -109,7 +52,7 @@ fn units(large: bool, left: Class, right: Class) -> u8
 fn entry(left: Class, right: Class) -> u8
     ensures { λ r. ⌜ Digits r (chart left right) ⌝ }
 {
-    CHART[column(left) * 8 + column(right)]
+    CHART[column(left)][column(right)]
 }
 
 fn column(class: Class) -> usize

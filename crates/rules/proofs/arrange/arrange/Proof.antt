@@ -1,9 +1,10 @@
 -- `arrange` meets its contract: each arm is a clause of the definition.
 -- Assumes nothing.
-use mathlib.Core.Path.{ap, ap₂, _∙_}
+use mathlib.Core.Path.{ap₂, _∙_}
 use mathlib.Core.Option.{Option}
 use borrow.Author.Needs.{needs}
 use Rattle.rules.specs.Boxes.{Size}
+use Rattle.rules.specs.Nucleus.{overline, underline}
 use Rattle.rules.specs.Values.{parametersIn, shapeAs}
 use Rattle.rules.specs.Arrange.{atom, arrange}
 use Rattle.rules.proofs.arrange.arrange.Statement.{statement}
@@ -24,11 +25,8 @@ atom-requires c κs = search needs
 enum-told : tie.Need-enum-told
 enum-told c = search needs
 
-font-size-requires : tie.Need-font-size-requires
-font-size-requires c κs = search needs
-
-parameter-requires : tie.Need-parameter-requires
-parameter-requires c κs = search needs
+rule-thickness-requires : tie.Need-rule-thickness-requires
+rule-thickness-requires c κs = search needs
 
 size-of-requires : tie.Need-size-of-requires
 size-of-requires c κs = search needs
@@ -36,23 +34,14 @@ size-of-requires c κs = search needs
 overline-requires : tie.Need-overline-requires
 overline-requires c κs = search needs
 
-given-requires-3 : tie.Need-given-requires-3
-given-requires-3 c κs = search needs
-
-given-requires-4 : tie.Need-given-requires-4
-given-requires-4 c κs = search needs
-
-scripted-requires : tie.Need-scripted-requires
-scripted-requires c κs = search needs
+lined-requires : tie.Need-lined-requires
+lined-requires c κs = search needs
 
 enum-told-2 : tie.Need-enum-told-2
 enum-told-2 c = search needs
 
-font-size-requires-2 : tie.Need-font-size-requires-2
-font-size-requires-2 c κs = search needs
-
-parameter-requires-2 : tie.Need-parameter-requires-2
-parameter-requires-2 c κs = search needs
+rule-thickness-requires-2 : tie.Need-rule-thickness-requires-2
+rule-thickness-requires-2 c κs = search needs
 
 size-of-requires-2 : tie.Need-size-of-requires-2
 size-of-requires-2 c κs = search needs
@@ -60,14 +49,8 @@ size-of-requires-2 c κs = search needs
 underline-requires : tie.Need-underline-requires
 underline-requires c κs = search needs
 
-given-requires-5 : tie.Need-given-requires-5
-given-requires-5 c κs = search needs
-
-given-requires-6 : tie.Need-given-requires-6
-given-requires-6 c κs = search needs
-
-scripted-requires-2 : tie.Need-scripted-requires-2
-scripted-requires-2 c κs = search needs
+lined-requires-2 : tie.Need-lined-requires-2
+lined-requires-2 c κs = search needs
 
 enum-known-kind-2 : tie.Need-enum-known-kind-2
 enum-known-kind-2 c = search needs
@@ -100,32 +83,18 @@ returns c =
 returns-2 : tie.Need-returns-2
 unfolding arrange
 returns-2 c =
-    let scripts = c .before in
-    let nucleus = scripts .before .before in
-    let inner = nucleus .before in
+    let inner = c .before .before in
     let theta = inner .before in
-    let told = theta .before .before .enum-told .given .1 in
-    let width = ap (λ (z : Size). z .width) (inner .size-of .ensures .0) in
-    let height = ap (λ (z : Size). z .height) (inner .size-of .ensures .0) in
-    let depth = ap (λ (z : Size). z .depth) (inner .size-of .ensures .0) in (
-      rw told (rw (scripts .given4 .ensures .0, scripts .before .given3 .ensures .0, nucleus .overline .ensures .0, theta .parameter .ensures .0 .is, theta .before .font-size .ensures .0, width, height, depth) at (c .scripted .ensures .0)),
-      c .scripted .ensures .1,
-    )
+    let nucleus = c .before .overline .ensures .0 ∙ ap₂ overline (theta .rule-thickness .ensures .0) (inner .size-of .ensures .0) in
+    (rw (theta .before .enum-told .given .1) (rw nucleus at (c .lined .ensures .0)), c .lined .ensures .1)
 
 returns-3 : tie.Need-returns-3
 unfolding arrange
 returns-3 c =
-    let scripts = c .before in
-    let nucleus = scripts .before .before in
-    let inner = nucleus .before in
+    let inner = c .before .before in
     let theta = inner .before in
-    let told = theta .before .before .enum-told2 .given .1 in
-    let width = ap (λ (z : Size). z .width) (inner .size-of2 .ensures .0) in
-    let height = ap (λ (z : Size). z .height) (inner .size-of2 .ensures .0) in
-    let depth = ap (λ (z : Size). z .depth) (inner .size-of2 .ensures .0) in (
-      rw told (rw (scripts .given6 .ensures .0, scripts .before .given5 .ensures .0, nucleus .underline .ensures .0, theta .parameter2 .ensures .0 .is, theta .before .font-size2 .ensures .0, width, height, depth) at (c .scripted2 .ensures .0)),
-      c .scripted2 .ensures .1,
-    )
+    let nucleus = c .before .underline .ensures .0 ∙ ap₂ underline (theta .rule-thickness2 .ensures .0) (inner .size-of2 .ensures .0) in
+    (rw (theta .before .enum-told2 .given .1) (rw nucleus at (c .lined2 .ensures .0)), c .lined2 .ensures .1)
 
 returns-4 : tie.Need-returns-4
 unfolding arrange
@@ -143,21 +112,15 @@ arrange-spec =
     given-requires-2
     atom-requires
     enum-told
-    font-size-requires
-    parameter-requires
+    rule-thickness-requires
     size-of-requires
     overline-requires
-    given-requires-3
-    given-requires-4
-    scripted-requires
+    lined-requires
     enum-told-2
-    font-size-requires-2
-    parameter-requires-2
+    rule-thickness-requires-2
     size-of-requires-2
     underline-requires
-    given-requires-5
-    given-requires-6
-    scripted-requires-2
+    lined-requires-2
     enum-known-kind-2
     size-of-requires-3
     size-of-requires-4

@@ -1,4 +1,5 @@
-use native.Mathlib.Omega.{arith}
+-- `centred` meets its contract: difference and half are those of the definition.
+-- Assumes nothing.
 use borrow.Author.Needs.{needs}
 use Rattle.rules.proofs.boxes.centred.Statement.{statement}
 use Rattle.rules.proofs.boxes.centred.Tie as tie
@@ -10,7 +11,7 @@ half-requires : tie.Need-half-requires
 half-requires c κs = search needs
 
 returns : tie.Need-returns
-returns c = (cc, search needs)
+returns c = (rw (c .half .ensures .is, c .before .minus .ensures .is), search needs)
 
 pub centred-spec : {M : Type 1} → statement M
 centred-spec = tie.close (tie.spec minus-requires half-requires returns)

@@ -1,4 +1,5 @@
-use native.Mathlib.Omega.{arith}
+-- `char_size` meets its contract: each word is a length, and the italic correction is in the width.
+-- Assumes nothing.
 use borrow.Author.Needs.{needs}
 use Rattle.rules.proofs.boxes.char_size.Statement.{statement}
 use Rattle.rules.proofs.boxes.char_size.Tie as tie

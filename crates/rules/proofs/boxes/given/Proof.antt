@@ -1,3 +1,5 @@
+-- `given` meets its contract: each arm is a clause of the definition.
+-- Assumes nothing.
 use mathlib.Core.Path.{refl, ap}
 use mathlib.Core.Option.{some}
 use borrow.Author.Needs.{needs}

@@ -1,5 +1,6 @@
-use mathlib.Core.Path.{refl, ap}
-use mathlib.Core.Option.{some}
+-- `size_of` meets its contract: each arm is a clause of the definition.
+-- Assumes nothing.
+use mathlib.Core.Path.{refl}
 use borrow.Author.Needs.{needs}
 use Rattle.rules.proofs.boxes.size_of.Statement.{statement}
 use Rattle.rules.proofs.boxes.size_of.Tie as tie

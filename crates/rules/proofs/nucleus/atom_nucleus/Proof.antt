@@ -1,4 +1,5 @@
-use native.Mathlib.Omega.{arith}
+-- `atom_nucleus` meets its contract: each arm is a clause of the definition.
+-- Assumes nothing.
 use borrow.Author.Needs.{needs}
 use Rattle.rules.proofs.nucleus.atom_nucleus.Statement.{statement}
 use Rattle.rules.proofs.nucleus.atom_nucleus.Tie as tie

@@ -1,5 +1,8 @@
-use native.Mathlib.Omega.{arith}
+-- `operator_nucleus` meets its contract: size, raise and δ are those of the definition.
+-- Assumes nothing.
+use mathlib.Core.Path.{ap}
 use borrow.Author.Needs.{needs}
+use Rattle.rules.specs.Boxes.{Size}
 use Rattle.rules.proofs.nucleus.operator_nucleus.Statement.{statement}
 use Rattle.rules.proofs.nucleus.operator_nucleus.Tie as tie
 
@@ -16,7 +19,14 @@ of-word-requires : tie.Need-of-word-requires
 of-word-requires c κs = search needs
 
 returns : tie.Need-returns
-returns c = (cc, search needs)
+returns c =
+    let raised = c .before in
+    let sized = raised .before in
+    let shift = sized .before in
+    let width = ap (λ (z : Size). z .width) (sized .operator-size .ensures .0) in
+    let height = ap (λ (z : Size). z .height) (sized .operator-size .ensures .0) in
+    let depth = ap (λ (z : Size). z .depth) (sized .operator-size .ensures .0) in
+    (rw (c .of-word .ensures .0 .is, raised .negated .ensures .is, width, height, depth, shift .operator-shift .ensures .0), search needs)
 
 pub operator-nucleus-spec : {M : Type 1} → statement M
 operator-nucleus-spec =

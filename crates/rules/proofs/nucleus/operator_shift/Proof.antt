@@ -1,4 +1,5 @@
-use native.Mathlib.Omega.{arith}
+-- `operator_shift` meets its contract: differences and half are those of the definition.
+-- Assumes nothing.
 use borrow.Author.Needs.{needs}
 use Rattle.rules.proofs.nucleus.operator_shift.Statement.{statement}
 use Rattle.rules.proofs.nucleus.operator_shift.Tie as tie

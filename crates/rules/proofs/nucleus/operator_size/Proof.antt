@@ -1,3 +1,5 @@
+-- `operator_size` meets its contract: sum, difference and maxima are those of the definition.
+-- Assumes nothing.
 use native.Mathlib.Omega.{arith}
 use borrow.Author.Needs.{needs}
 use Rattle.rules.proofs.nucleus.operator_size.Statement.{statement}

@@ -1,4 +1,5 @@
-use native.Mathlib.Omega.{arith}
+-- `operator_width` meets its contract, by whether a subscript stands beside.
+-- Assumes nothing.
 use borrow.Author.Needs.{needs}
 use Rattle.rules.proofs.nucleus.operator_width.Statement.{statement}
 use Rattle.rules.proofs.nucleus.operator_width.Tie as tie
@@ -16,10 +17,13 @@ plus-requires : tie.Need-plus-requires
 plus-requires c κs = search needs
 
 returns : tie.Need-returns
-returns c = (cc, search needs)
+returns c = (rw (c .before .if1 .taken, c .of-word .ensures .0 .is), search needs)
 
 returns-2 : tie.Need-returns-2
-returns-2 c = (cc, search needs)
+returns-2 c =
+    let italic = c .before in
+    let width = italic .before in
+    (rw (width .before .if1 .left, c .plus .ensures .is, italic .of-word3 .ensures .0 .is, width .of-word2 .ensures .0 .is), search needs)
 
 pub operator-width-spec : {M : Type 1} → statement M
 operator-width-spec =

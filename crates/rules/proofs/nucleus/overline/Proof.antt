@@ -1,4 +1,5 @@
-use native.Mathlib.Omega.{arith}
+-- `overline` meets its contract: sums and multiples are those of the definition.
+-- Assumes nothing.
 use borrow.Author.Needs.{needs}
 use Rattle.rules.proofs.nucleus.overline.Statement.{statement}
 use Rattle.rules.proofs.nucleus.overline.Tie as tie
@@ -19,7 +20,12 @@ lined-requires : tie.Need-lined-requires
 lined-requires c κs = search needs
 
 returns : tie.Need-returns
-returns c = (cc, search needs)
+returns c =
+    let rule = c .before in
+    let size = rule .before .before in (
+      rw (rule .plus2 .ensures .is, rule .before .times2 .ensures .is, size .plus .ensures .is, size .before .times .ensures .is) at (c .lined .ensures .0),
+      c .lined .ensures .1,
+    )
 
 pub overline-spec : {M : Type 1} → statement M
 overline-spec =

@@ -1,5 +1,8 @@
-use native.Mathlib.Omega.{arith}
+-- `symbol_nucleus` meets its contract, by whether a subscript follows.
+-- Assumes nothing.
+use mathlib.Core.Path.{ap}
 use borrow.Author.Needs.{needs}
+use Rattle.rules.specs.Boxes.{Size}
 use Rattle.rules.proofs.nucleus.symbol_nucleus.Statement.{statement}
 use Rattle.rules.proofs.nucleus.symbol_nucleus.Tie as tie
 
@@ -28,7 +31,11 @@ returns c =
     )
 
 returns-2 : tie.Need-returns-2
-returns-2 c = (cc, search needs)
+returns-2 c =
+    let width = ap (λ (z : Size). z .width) (c .char-size .ensures .0) in
+    let height = ap (λ (z : Size). z .height) (c .char-size .ensures .0) in
+    let depth = ap (λ (z : Size). z .depth) (c .char-size .ensures .0) in
+    (rw (c .before .if1 .left, width, height, depth), search needs)
 
 pub symbol-nucleus-spec : {M : Type 1} → statement M
 symbol-nucleus-spec =

@@ -1,4 +1,5 @@
-use native.Mathlib.Omega.{arith}
+-- `underline` meets its contract: sums and multiples are those of the definition.
+-- Assumes nothing.
 use borrow.Author.Needs.{needs}
 use Rattle.rules.proofs.nucleus.underline.Statement.{statement}
 use Rattle.rules.proofs.nucleus.underline.Tie as tie
@@ -25,7 +26,14 @@ lined-requires : tie.Need-lined-requires
 lined-requires c κs = search needs
 
 returns : tie.Need-returns
-returns c = (cc, search needs)
+returns c =
+    let low = c .before in
+    let top = low .before in
+    let rule = top .before in
+    let size = rule .before .before in (
+      rw (low .minus .ensures .is, top .negated .ensures .is, rule .plus2 .ensures .is, rule .before .times2 .ensures .is, size .plus .ensures .is, size .before .times .ensures .is) at (c .lined .ensures .0),
+      c .lined .ensures .1,
+    )
 
 pub underline-spec : {M : Type 1} → statement M
 underline-spec =

@@ -1,5 +1,6 @@
 -- `with_pair` meets its contract: what it assembles is that of the definition.
 -- Assumes nothing.
+use native.Mathlib.Omega.{arith}
 use borrow.Author.Needs.{needs}
 use Rattle.rules.proofs.scripts.with_pair.Statement.{statement}
 use Rattle.rules.proofs.scripts.with_pair.Tie as tie
@@ -20,7 +21,19 @@ pair-bottom-requires : tie.Need-pair-bottom-requires
 pair-bottom-requires c κs = search needs
 
 assembled-requires : tie.Need-assembled-requires
-assembled-requires c κs = search needs
+assembled-requires c κs =
+    let top = c .before in
+    let width = top .before in
+    let third = width .before in
+    let second = third .before .before in
+    let pre = second .before .before .pre in (
+      pre .0,
+      omega (arith, second .plus .ensures .parts, pre),
+      omega (arith, third .negated .ensures .parts, pre),
+      width .pair-width .ensures .1,
+      top .pair-top .ensures .1,
+      c .pair-bottom .ensures .1,
+    )
 
 returns : tie.Need-returns
 returns c =

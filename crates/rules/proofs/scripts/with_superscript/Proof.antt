@@ -1,5 +1,6 @@
 -- `with_superscript` meets its contract: what it assembles is that of the definition.
 -- Assumes nothing.
+use native.Mathlib.Omega.{arith}
 use borrow.Author.Needs.{needs}
 use Rattle.rules.specs.Boxes.{greatest}
 use Rattle.rules.proofs.scripts.with_superscript.Statement.{statement}
@@ -24,7 +25,18 @@ origin-requires : tie.Need-origin-requires
 origin-requires c κs = search needs
 
 assembled-requires : tie.Need-assembled-requires
-assembled-requires c κs = search needs
+assembled-requires c κs =
+    let bottom = c .before .before in
+    let top = bottom .before .before in
+    let width = top .before .before in
+    let pre = width .before .pre in (
+      pre .0,
+      omega (arith, pre),
+      omega (arith, c .origin .ensures .1),
+      omega (arith, width .plus .ensures .parts, pre),
+      omega (arith, top .max .ensures .parts, top .before .plus2 .ensures .parts, pre),
+      omega (arith, pre),
+    )
 
 returns : tie.Need-returns
 unfolding greatest

@@ -1,11 +1,11 @@
 -- `space_before` meets its contract: behind an atom it is the chart's units at the quad, of which there are few enough.
 -- Assumes nothing.
-use native.Mathlib.Omega.{arith}
 use mathlib.Core.Path.{_≡_}
 use lib.IntN.{pos}
 use mir.Syntax.{w64}
 use mir.Val.{toZ}
 use mir.ValLaws.{toZ-pos}
+use native.Mathlib.Omega.{arith}
 use borrow.Author.Needs.{needs}
 use Rattle.rules.specs.Spacing.{spaceBefore}
 use Rattle.rules.proofs.spacing.space_before.Statement.{statement}
@@ -45,10 +45,12 @@ returns-2 : tie.Need-returns-2
 unfolding spaceBefore
 returns-2 c =
     let few = c .before in
-    let quad = few .before .before in
-    let matched = quad .before .before .before in
+    let large = few .before in
+    let quad = large .before in
+    let size = quad .before in
+    let known = size .before .before .left .given .1 in
     let units : toZ w64 (few .units .result) ≡ pos (few .units .result) = toZ-pos w64 (few .units .result) (omega arith) in
-    (rw (matched .left .given .1) (cc), omega arith)
+    (rw (known, c .at .ensures .at .is, units, few .units .ensures .0, large .is-large .ensures, quad .parameter .ensures .0 .is, size .font-size .ensures .0), omega arith)
 
 pub space-before-spec : {M : Type 1} → statement M
 space-before-spec =

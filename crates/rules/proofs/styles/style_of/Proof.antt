@@ -48,35 +48,35 @@ styled-requires-8 c κs = search needs
 
 returns : tie.Need-returns
 unfolding styleOf
-returns c = rw (c .before .match .keys1) (cc)
+returns c = rw (c .before .match .keys1, c .styled .ensures)
 
 returns-2 : tie.Need-returns-2
 unfolding styleOf
-returns-2 c = rw (c .before .match .keys2) (cc)
+returns-2 c = rw (c .before .match .keys2, c .styled2 .ensures)
 
 returns-3 : tie.Need-returns-3
 unfolding styleOf
-returns-3 c = rw (c .before .match .keys3) (cc)
+returns-3 c = rw (c .before .match .keys3, c .styled3 .ensures)
 
 returns-4 : tie.Need-returns-4
 unfolding styleOf
-returns-4 c = rw (c .before .match .keys4) (cc)
+returns-4 c = rw (c .before .match .keys4, c .styled4 .ensures)
 
 returns-5 : tie.Need-returns-5
 unfolding styleOf
-returns-5 c = rw (c .before .match .keys5) (cc)
+returns-5 c = rw (c .before .match .keys5, c .styled5 .ensures)
 
 returns-6 : tie.Need-returns-6
 unfolding styleOf
-returns-6 c = rw (c .before .match .keys6) (cc)
+returns-6 c = rw (c .before .match .keys6, c .styled6 .ensures)
 
 returns-7 : tie.Need-returns-7
 unfolding styleOf
-returns-7 c = rw (c .before .match .keys7) (cc)
+returns-7 c = rw (c .before .match .keys7, c .styled7 .ensures)
 
 returns-8 : tie.Need-returns-8
 unfolding styleOf
-returns-8 c = rw (c .before .match .keys8) (cc)
+returns-8 c = rw (c .before .match .keys8, c .styled8 .ensures)
 
 returns-9 : tie.Need-returns-9
 unfolding styleOf
