@@ -1,4 +1,7 @@
 -- What the proofs of several functions use. Assumes nothing.
+mod LineLaws
+mod PartLaws
+mod PlaceLaws
 mod MissingIn
 mod WalkLaws
-mod LineLaws
+mod AlongLaws

@@ -1,189 +1,205 @@
--- The loop over a list: what stands so far, and the items that are left, make the list.
---     Along          the loop's invariant
---     along-start, along-turn, along-done     it holds of the start; an item keeps it; at the end it is what the list comes to
---     along-missing  the place of the first missing symbol, where an item has one
+-- What the functions on lines promise, over plain values.
+--     start-line        no item
+--     kerned-line       a kern behind a line
+--     extended-line     an item behind a line: five bytes or more give room for its width and for its nodes
+--     list-whole, list-large     a line as a field, if it fits and if not
 -- Assumes nothing.
-use mathlib.Core.Path.{_≡_, refl, sym, subst, ap, ap₂, _∙_}
-use mathlib.Core.Bool.{Bool, true, false, not, _&&_, _||_, and-true, and-assoc}
-use mathlib.Core.List.{List, [], _++_, append-nil}
-use mathlib.Core.Option.{Option, none, some}
-use Prim.Native.Nat.{ℕ, _+_, _-_, _*_, _≤_, _<_}
+use mathlib.Core.Path.{_≡_, refl, sym, ap, ap₂, _∙_}
+use mathlib.Core.Bool.{Bool, true, false, not, _&&_, _||_, and-eq-true-iff}
+use mathlib.Core.List.{_++_}
+use Prim.Native.Nat.{ℕ, _+_, _≤_}
 use native.Mathlib.Omega.{arith}
 use lib.IntN.{ℤ, pos, _+ℤ_}
-use lib.ListN.{length, take, drop, length-append, length-take, length-drop}
-use lib.Seq.{drop-drop}
-use Rattle.font.specs.Font.{Font}
-use Rattle.formula.specs.declared.Opening.{Opening}
-use Rattle.formula.specs.Tree.{Items, Item, nil, cons, noad, kern, itemBytes}
-use Rattle.formula.specs.Heads.{openingOf}
-use Rattle.formula.specs.Places.{Readable, treeOf, itemSize, itemOf}
-use Rattle.formula.specs.PlacesLaws.{Stepped, step, tree-none, item-bytes}
-use Rattle.rules.specs.declared.Style.{Style}
-use Rattle.rules.specs.Boxes.{Size}
-use Rattle.rules.specs.Classes.{Neighbour, classOf, changedClass}
-use Rattle.rules.specs.Spacing.{spaceBefore}
-use Rattle.rules.specs.Values.{neighbourAs}
-use Rattle.nodes.specs.Nodes.{Node, bytesInNode}
-use Rattle.nodes.specs.Drawn.{Drawn, drawn-none, drawn-append}
+use lib.ListN.{length, length-append}
+use Rattle.scaled.specs.Length.{maxℤ}
+use Rattle.scaled.specs.Signed.{Within}
+use Rattle.scaled.specs.Linear.{#, _⊕_, greatest, within-by}
+use Rattle.formula.specs.declared.Class.{Class}
+use Rattle.formula.specs.Tree.{kernBytes}
+use Rattle.formula.specs.Heads.{greatestKern}
+use Rattle.rules.specs.declared.boxes.Size.{Size as CodeSize}
+use Rattle.rules.specs.declared.boxes.Shape.the-variants.{Nothing, Box}
+use Rattle.rules.specs.declared.classes.Neighbour.the-variants.{End, Atom}
+use Rattle.rules.specs.Boxes.{Size, box, zeroSize}
+use Rattle.rules.specs.Values.{sizeAs}
+use Rattle.rules.specs.Bounds.{words, itemWords}
+use Rattle.nodes.specs.declared.hull.Hull.{Hull}
+use Rattle.nodes.specs.declared.hull.Hull.the-variants.{Empty}
+use Rattle.nodes.specs.Nodes.{moved}
+use Rattle.nodes.specs.NodeLaws.{length-moved}
+use Rattle.nodes.specs.Bounds.{within}
+use Rattle.nodes.specs.Hull.{joined, hull, hullAs, hullFits}
+use Rattle.nodes.specs.HullLaws.{hull-append, within-true, fits-within, join-within, within-more}
 use Rattle.walk.specs.declared.lines.Line as lines
-use Rattle.walk.specs.declared.lists.ListSet.the-variants as lists
-use Rattle.walk.specs.declared.lists.Step.the-variants as steps
-use Rattle.walk.specs.Setting.{Line, start, nextClass, setItems, setItem, setList, placed}
-use Rattle.walk.specs.Missing.{_orElse_, missingItem, missingItems}
-use Rattle.walk.specs.MissingLaws.{later, missing-item-at}
-use Rattle.walk.specs.Fitting.{itemFits, itemsFit}
-use Rattle.walk.specs.Walked.{LineIs, LineWithin, StartLine, StepWhole, ItemDone, ListDone, addedBy, rightOf}
+use Rattle.walk.specs.declared.lines.Item as item
+use Rattle.walk.specs.Fitting.{sizeFits}
+use Rattle.walk.specs.Walked.{longest, stride, nodeReach, LineWithin, StartLine, KernedLine, ItemGoes, ExtendedLine, ListPart, SizesBeside}
 
--- the line L has all items before the place, set, and its nodes are at the front of the buffer
-pub record Stands (F : Font) (st : Style) (s b₀ b : List ℕ) (c : lines.Line) : Type 0 where
-  pub line : Line
-  pub is : LineIs line c
-  pub sets : setItems F st none start (treeOf s) ≡ setItems F st none line (treeOf (drop (c .bytes) s))
-  pub drawn : Drawn (line .box .nodes) b₀ b
+-- ---- no item
 
--- the buffer was b₀ and is b
-pub record Along (F : Font) (st : Style) (s b₀ b : List ℕ) (c : lines.Line) : Type 0 where
-  pub low : c .bytes ≤ length s
-  pub rest : Readable (drop (c .bytes) s)
-  pub lacks : missingItems F st 0 (treeOf s) ≡ missingItems F st (c .bytes) (treeOf (drop (c .bytes) s))
-  pub fits : itemsFit F st (treeOf s) ≡ (not (c .large) && itemsFit F st (treeOf (drop (c .bytes) s)))
-  pub small : LineWithin c
-  pub same : length b ≡ length b₀
-  pub stands : c .large ≡ false → Stands F st s b₀ b c
+zero-within : (k : ℕ) (z : ℤ) → z ≡ pos 0 → Within k z
+zero-within k z e = rw e (omega arith)
 
-pub along-start : (F : Font) (st : Style) (s b : List ℕ) (c : lines.Line) → Readable s → StartLine c → Along F st s b b c
-along-start F st s b c readable o =
-    let e : c .bytes ≡ 0 = o .bytes-is in
+pub start-line : (z : CodeSize) → sizeAs z ≡ zeroSize →
+    StartLine (record { bytes = 0; left = End; size = z; count = 0; hull = Empty; large = false })
+unfolding hull
+start-line z e =
     record {
-      low = omega arith;
-      rest = rw e readable;
-      lacks = rw e;
-      fits = rw (o .not-large, e);
-      small = o .small;
-      same = refl;
-      stands = λ h. record { line = start; is = o .is; sets = rw e; drawn = drawn-none b };
+      bytes-is = refl;
+      not-large = refl;
+      small =
+          record {
+            bytes = omega arith;
+            width = zero-within _ _ (ap (λ (s : Size). s .width) e);
+            height = zero-within _ _ (ap (λ (s : Size). s .height) e);
+            depth = zero-within _ _ (ap (λ (s : Size). s .depth) e);
+            count = omega arith;
+            hull = tt;
+          };
+      is = record { left-is = refl; size-is = e; count-is = refl; hull-is = refl };
     }
 
-pub along-done : (F : Font) (st : Style) (s b₀ b : List ℕ) (c : lines.Line) → Along F st s b₀ b c → length s ≤ c .bytes →
-    ListDone F st (treeOf s) (length s) b₀ (lists.Whole c) b
-unfolding missingItems itemsFit setItems setList
-along-done F st s b₀ b c a over =
-    let end : treeOf (drop (c .bytes) s) ≡ nil = tree-none (drop (c .bytes) s) (omega (arith, length-drop (c .bytes) s)) .1 in
-    let low = a .low in
-    let fits : itemsFit F st (treeOf s) ≡ (not (c .large) && true) =
-    a .fits ∙ ap (λ (l : Items). not (c .large) && itemsFit F st l) end in
-    let whole : (h : c .large ≡ false) → setItems F st none start (treeOf s) ≡ a .stands h .line =
-    λ h. a .stands h .sets ∙ ap (setItems F st none (a .stands h .line)) end in (
+-- ---- a kern
+
+-- a size that is wider by n
+abbrev pub widened : ℤ → Size → Size
+widened n s = record { width = s .width +ℤ n; height = s .height; depth = s .depth }
+
+pub kerned-line : (l : lines.Line) (n : ℤ) (z : CodeSize) →
+    LineWithin l × (l .bytes + kernBytes ≤ longest) × Within greatestKern n → sizeAs z ≡ widened n (sizeAs (l .size)) →
+    KernedLine l n
+    (record { bytes = l .bytes + 6; left = l .left; size = z; count = l .count; hull = l .hull; large = l .large })
+kerned-line l n z given e =
+    let small = given .0 in
+    let kern = given .2 in
+    let width : z .width .0 ≡ l .size .width .0 +ℤ n = ap (λ (s : Size). s .width) e in
+    let height : z .height .0 ≡ l .size .height .0 = ap (λ (s : Size). s .height) e in
+    let depth : z .depth .0 ≡ l .size .depth .0 = ap (λ (s : Size). s .depth) e in
+    record {
+      bytes-is = refl;
+      large-is = refl;
+      small =
+          record {
+            bytes = given .1;
+            width = rw width (within-by (# (l .size .width .0) ⊕ # n) (stride (l .bytes + 6)) (omega arith));
+            height = rw height (small .height);
+            depth = rw depth (small .depth);
+            count = omega arith;
+            hull = within-more (stride (l .bytes)) (stride (l .bytes + 6)) (hullAs (l .hull)) (omega arith) (small .hull);
+          };
+      is =
+          λ L i.
+          record {
+            left-is = i .left-is;
+            size-is = e ∙ ap (widened n) (i .size-is);
+            count-is = i .count-is;
+            hull-is = i .hull-is;
+          };
+    }
+
+-- ---- an item
+
+-- the size a with b at x
+abbrev besideSize : ℤ → Size → Size → Size
+besideSize x a b =
+    record { width = x +ℤ b .width; height = maxℤ (a .height) (b .height); depth = maxℤ (a .depth) (b .depth) }
+
+module _ (l : lines.Line) (x : ℤ) (i : item.Item) (goes : ItemGoes l x i) where
+  behind-width : Within (stride (l .bytes + i .bytes)) (x +ℤ i .size .width .0)
+  behind-width =
+      let a = goes .x-small in
+      let b = goes .width in
+      within-by (# x ⊕ # (i .size .width .0)) (stride (l .bytes + i .bytes)) (omega arith)
+
+  -- the greater of two
+  greater : {a b : ℤ} → Within (words itemWords) a → Within (words itemWords) b → Within (words itemWords) (maxℤ a b)
+  greater {a} {b} v w = within-by (greatest (# a) (# b)) (words itemWords) (omega arith)
+
+  pub extended-line : (class : Class) (z : CodeSize) (h : Hull) (large : Bool) → SizesBeside (l .size) x (i .size) z →
+      hullAs h ≡ joined (hullAs (l .hull)) (hullAs (i .hull)) → large ≡ (l .large || i .large) →
+      ExtendedLine l class x i
+      (record {
+        bytes = l .bytes + i .bytes;
+        left = Atom class;
+        size = z;
+        count = l .count + i .count;
+        hull = h;
+        large = large;
+      })
+  extended-line class z h large sizes hulls larges =
+      let line = goes .line in
+      let bytes = l .bytes + i .bytes in
+      let width : z .width .0 ≡ x +ℤ i .size .width .0 = ap (λ (s : Size). s .width) sizes in
+      let height : z .height .0 ≡ maxℤ (l .size .height .0) (i .size .height .0) = ap (λ (s : Size). s .height) sizes in
+      let depth : z .depth .0 ≡ maxℤ (l .size .depth .0) (i .size .depth .0) = ap (λ (s : Size). s .depth) sizes in
+      let more : 5 ≤ i .bytes = goes .bytes in
+      let before = within-more (stride (l .bytes)) (stride bytes) (hullAs (l .hull)) (omega arith) (line .hull) in
+      let own = within-more (nodeReach (l .bytes)) (stride bytes) (hullAs (i .hull)) (omega arith) (goes .hull) in
       record {
-        present = a .lacks ∙ ap (missingItems F st (c .bytes)) end;
-        bytes-is = omega arith;
-        large-is = opposite (c .large) (itemsFit F st (treeOf s)) fits;
-        small = a .small;
-        is = λ h. rw (whole h) (a .stands h .is);
-      },
-      λ h. subst (λ (L : Line). Drawn (L .box .nodes) b₀ b) (sym (whole h)) (a .stands h .drawn),
-    )
-  where
-    opposite : (t u : Bool) → u ≡ (not t && true) → t ≡ not u
-    opposite true u e = sym (ap not e)
-    opposite false u e = sym (ap not e)
+        bytes-is = refl;
+        large-is = larges;
+        small =
+            record {
+              bytes = goes .short;
+              width = rw width behind-width;
+              height = rw height (greater (line .height) (goes .height));
+              depth = rw depth (greater (line .depth) (goes .depth));
+              count = omega arith;
+              hull = rw hulls (join-within (stride bytes) (hullAs (l .hull)) (hullAs (i .hull)) before own);
+            };
+        is =
+            λ L b space is at item.
+            let ns = L .box .nodes in
+            let ms = moved x (pos 0) (b .nodes) in
+            record {
+              left-is = refl;
+              size-is =
+                  sizes
+                  ∙ ap₂ (besideSize x) (is .size-is) (item .size-is)
+                  ∙ ap (λ (at : ℤ). besideSize at (L .box .size) (b .size)) at;
+              count-is =
+                  let together : l .count + i .count ≡ length (ns ++ ms) =
+                  omega (arith, length-append ns ms, length-moved x (pos 0) (b .nodes)) in
+                  together ∙ ap (λ (at : ℤ). length (ns ++ moved at (pos 0) (b .nodes))) at;
+              hull-is =
+                  hulls
+                  ∙ ap₂ joined (is .hull-is) (item .hull-is)
+                  ∙ sym (hull-append ns ms)
+                  ∙ ap (λ (at : ℤ). hull (ns ++ moved at (pos 0) (b .nodes))) at;
+            };
+      }
 
--- an item's nodes are behind those of the line
-added : (F : Font) (st : Style) (right : Neighbour) (L : Line) (c : lines.Line) (i : Item) → LineIs L c →
-    setItem F st right L i .box .nodes ≡ L .box .nodes ++ addedBy F st right (neighbourAs (c .left)) (c .size .width .0) i
-unfolding setItem placed
-added F st right L c (noad kind x y z) is =
-    let wide : c .size .width .0 ≡ L .box .size .width = ap (λ (z : Size). z .width) (is .size-is) in
-    let left = is .left-is in
-    rw (wide, left)
-added F st right L c (kern n) is = sym (append-nil (L .box .nodes))
+-- ---- a whole line as a field
 
--- the item at the head of what is left, and what follows it
-module _ (F : Font) (st : Style) (s b₀ b : List ℕ) (l : lines.Line) (a : Along F st s b₀ b l) (more : l .bytes < length s) where
-  abbrev left : List ℕ
-  left = drop (l .bytes) s
+module _ (l : lines.Line) where
+  abbrev fits : Bool
+  fits = not (l .large) && (hullFits (hullAs (l .hull)) && sizeFits (sizeAs (l .size)))
 
-  abbrev first : Item
-  first = itemOf left (openingOf left)
+  pub list-whole : LineWithin l → fits ≡ true →
+      ListPart l (record { shape = Box (l .size); count = l .count; hull = l .hull; large = false })
+  list-whole w e =
+      let z = l .size in
+      let both = and-eq-true-iff (hullFits (hullAs (l .hull))) (sizeFits (sizeAs z)) .0 (and-eq-true-iff (not (l .large)) _ .0 e .1) in
+      let size = and-eq-true-iff (within (z .width .0) && within (z .height .0)) (within (z .depth .0)) .0 (both .1) in
+      let sides = and-eq-true-iff (within (z .width .0)) (within (z .height .0)) .0 (size .0) in
+      let width = within-true (z .width .0) (sides .0) in
+      let height = within-true (z .height .0) (sides .1) in
+      let depth = within-true (z .depth .0) (size .1) in
+      record {
+        large-is = ap not (sym e);
+        small =
+            record {
+              shape = record { width = omega arith; height = omega arith; depth = omega arith };
+              count = w .count;
+              hull = fits-within (hullAs (l .hull)) (both .0);
+            };
+        is = λ q L i. record { shape-is = ap box (i .size-is); count-is = i .count-is; hull-is = i .hull-is };
+      }
 
-  abbrev size : ℕ
-  size = itemSize left (openingOf left)
-
-  stepped : Stepped left (openingOf left)
-  stepped = step left (openingOf left) refl (a .rest) (omega (arith, length-drop (l .bytes) s))
-
-  lacks-first : missingItems F st 0 (treeOf s) ≡ (later (l .bytes) (missingItem F st 0 first)
-      orElse missingItems F st (l .bytes + size) (treeOf (drop size left)))
-  unfolding missingItems
-  lacks-first =
-      a .lacks ∙ ap (missingItems F st (l .bytes)) (stepped .tree)
-      ∙ ap₂ (λ (m : Option ℕ) (n : ℕ). m orElse missingItems F st (l .bytes + n) (treeOf (drop size left)))
-      (missing-item-at F st (l .bytes) first) (item-bytes left (openingOf left) (stepped .item))
-
-  pub along-missing : (place : ℕ) (b₁ b₂ : List ℕ) → ItemDone F st left l b₁ (steps.Missing place) b₂ →
-      missingItems F st 0 (treeOf s) ≡ some (l .bytes + place)
-  unfolding later
-  along-missing place b₁ b₂ d =
-      lacks-first
-      ∙ ap (λ (m : Option ℕ). later (l .bytes) m orElse missingItems F st (l .bytes + size) (treeOf (drop size left))) d
-
-  -- the item is set in the buffer from j on, which is back as r
-  pub along-turn : (j : ℕ) (r : List ℕ) (c : lines.Line) → j ≤ length b →
-      (bytesInNode * l .count ≤ length b → j ≡ bytesInNode * l .count) → length r ≡ length (drop j b) →
-      ItemDone F st left l (drop j b) (steps.Next c) r →
-      (l .bytes < c .bytes) × Along F st s b₀ (take j b ++ r) c
-  unfolding later itemsFit setItems
-  along-turn j r c inside place kept (w, drawn) =
-      let p = stepped in
-      let positive = p .some in
-      let within = p .fits in
-      let long = length-drop (l .bytes) s in
-      let at : c .bytes ≡ l .bytes + size = w .bytes-is in
-      let behind : drop size left ≡ drop (c .bytes) s = drop-drop size (l .bytes) s ∙ ap (λ (n : ℕ). drop n s) (sym at) in
-      let right = rightOf left size in
-      let parts = length-drop j b in
-      let taken = length-take j b in
-      let whole = length-append (take j b) r in
-      let low = a .low in
-      let before : length b ≡ length b₀ = a .same in
-      let own : (h : c .large ≡ false) → l .large ≡ false = λ h. left-small (l .large) _ (sym (w .large-is) ∙ h) in (
-        omega arith,
-        record {
-          low = omega arith;
-          rest = rw (← behind) (p .rest);
-          lacks =
-              lacks-first
-              ∙ ap (λ (m : Option ℕ). later (l .bytes) m orElse missingItems F st (l .bytes + size) (treeOf (drop size left))) (w .present)
-              ∙ ap₂ (λ (n : ℕ) (t : List ℕ). missingItems F st n (treeOf t)) (sym at) behind;
-          fits =
-              a .fits ∙ ap (λ (t : Items). not (l .large) && itemsFit F st t) (p .tree)
-              ∙ both (l .large) (itemFits F st first) (itemsFit F st (treeOf (drop size left)))
-              ∙ ap₂ (λ (t : Bool) (r : List ℕ). not t && itemsFit F st (treeOf r)) (sym (w .large-is)) behind;
-          small = w .small;
-          same = omega arith;
-          stands = λ h.
-              let o = a .stands (own h) in
-              let L = setItem F st right (o .line) first in
-              record {
-                line = L;
-                is = w .is h (o .line) (o .is);
-                sets =
-                    o .sets ∙ ap (setItems F st none (o .line)) (p .tree)
-                    ∙ ap (λ (r : List ℕ). setItems F st none L (treeOf r)) behind;
-                drawn =
-                    rw (added F st right (o .line) l first (o .is))
-                    (drawn-append {j = j} (o .line .box .nodes)
-                    (addedBy F st right (neighbourAs (l .left)) (l .size .width .0) first) b₀ b r before
-                    (λ room. omega (arith, place (omega (arith, o .is .count-is)), o .is .count-is)) (o .drawn) (drawn h));
-              };
-        },
-      )
-    where
-      left-small : (t u : Bool) → t || u ≡ false → t ≡ false
-      left-small true u e = e
-      left-small false u e = refl
-
-      both : (t u v : Bool) → not t && (u && v) ≡ not (t || not u) && v
-      both true u v = refl
-      both false true v = refl
-      both false false v = refl
+  pub list-large : fits ≡ false → ListPart l (record { shape = Nothing; count = 0; hull = Empty; large = true })
+  list-large e =
+      record {
+        large-is = ap not (sym e);
+        small = record { shape = tt; count = omega arith; hull = tt };
+        is = λ q L i. let never : _≡_ {A = ℕ} 0 1 = cc in absurd (omega arith);
+      }

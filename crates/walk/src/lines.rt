@@ -10,12 +10,15 @@ ghost use Rattle.rules.specs.Values.{sizeAs};
 ghost use Rattle.nodes.specs.Hull.{hullAs, hullFits};
 ghost use Rattle.walk.specs.Fitting.{sizeFits};
 ghost use Rattle.walk.specs.Walked.{longest, LineWithin, StartLine, KernedLine, ItemGoes, ExtendedLine, ListPart, SizesGo, SizesBeside};
+use crate::parts::Part;
 use formula::Class;
-use nodes::hull::{Hull, within};
-use rules::boxes::{Shape, Size, zero_size};
+use nodes::hull::Hull;
+use nodes::hull::within;
+use rules::boxes::Shape;
+use rules::boxes::Size;
+use rules::boxes::zero_size;
 use rules::classes::Neighbour;
 use scaled::Sp;
-use crate::parts::Part;
 
 // How many bytes of the list it takes, the class of the last atom, the box so far, and whether a list in it passes the
 // greatest length.

@@ -3,13 +3,14 @@
 ghost use Rattle.font.specs.Font.{fontOf};
 ghost use Rattle.formula.specs.Tree.{symbol};
 ghost use Rattle.walk.specs.Walked.{EmptyPart, FieldDone};
+use crate::symbols::Sought;
+use crate::symbols::symbol_in;
 use nodes::hull::Hull;
 use nodes::put_glyph;
 use rules::Style;
 use rules::boxes::Shape;
 use rules::styles::font_size;
 use scaled::Sp;
-use crate::symbols::{Sought, symbol_in};
 
 // Its shape, its nodes and how far they reach; large where a list in it passes the greatest length.
 pub struct Part {
@@ -37,7 +38,14 @@ pub fn empty_part() -> Part
 }
 
 // A symbol's glyph stands at the reference point; a symbol that is missing is so at the field's kind byte.
-pub fn symbol_part(table: &[u8], style: Style, enlarge: bool, family: u8, code: u8, buf: &mut [u8]) -> FieldSet
+pub fn symbol_part(
+    table: &[u8],
+    style: Style,
+    enlarge: bool,
+    family: u8,
+    code: u8,
+    buf: &mut [u8],
+) -> FieldSet
     ensures { λ r. ⌜ FieldDone (fontOf (now (table .entry))) style enlarge (symbol family code) 3 (now (buf .entry)) r (now (buf .exit)) ⌝ }
 {
     let size = font_size(style) as u8;

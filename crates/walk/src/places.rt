@@ -8,9 +8,14 @@ ghost use Rattle.formula.specs.Places as tree;
 ghost use Rattle.rules.specs.Values.{neighbourAs};
 ghost use Rattle.walk.specs.Setting.{nextClass};
 ghost use Rattle.walk.specs.Walked.{longest, NoadAt, PlacesAre};
-use formula::{Kind, Opening};
-use formula::heads::{behind, has_third, opening, opening_bytes};
-use rules::classes::{Neighbour, class_of};
+use formula::Kind;
+use formula::Opening;
+use formula::heads::behind;
+use formula::heads::has_third;
+use formula::heads::opening;
+use formula::heads::opening_bytes;
+use rules::classes::Neighbour;
+use rules::classes::class_of;
 
 // The first bytes of the fields, and the byte behind the item. A fraction has no third field.
 pub struct Places {
@@ -27,7 +32,11 @@ pub fn places_of(s: &[u8], kind: Kind) -> Places
     let first = opening_bytes(kind);
     let second = behind(s, first);
     let third = behind(s, second);
-    let end = if has_third(kind) { behind(s, third) } else { third };
+    let end = if has_third(kind) {
+        behind(s, third)
+    } else {
+        third
+    };
     Places {
         first,
         second,

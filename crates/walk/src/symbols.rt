@@ -5,7 +5,9 @@ ghost use Rattle.font.specs.Font.{fontOf};
 ghost use Rattle.font.specs.Answers.{foundAs, successorAs};
 ghost use Rattle.walk.specs.Setting as definition;
 ghost use Rattle.walk.specs.Walked.{symbolAs, soughtAs};
-use font::{Found, Metrics, Successor};
+use font::Found;
+use font::Metrics;
+use font::Successor;
 
 // A symbol with its code, which may be a successor's.
 pub struct Symbol {

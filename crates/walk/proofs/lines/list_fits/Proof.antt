@@ -1,0 +1,27 @@
+-- `list_fits` meets its contract: it makes the tests of its definition, one after the other.
+-- Assumes nothing.
+use mathlib.Core.Path.{sym, _∙_}
+use borrow.Author.Tests.{not-true, not-false}
+use borrow.Author.Needs.{needs}
+use Rattle.walk.proofs.lines.list_fits.Statement.{statement}
+use Rattle.walk.proofs.lines.list_fits.Tie as tie
+
+returns : tie.Need-returns
+returns c = search needs
+
+fits-requires : tie.Need-fits-requires
+fits-requires c κs = search needs
+
+returns-2 : tie.Need-returns-2
+returns-2 c = rw (c .before .before .if1 .left, sym (c .before .fits2 .ensures) ∙ not-true _ (c .if2 .taken))
+
+size-fits-requires : tie.Need-size-fits-requires
+size-fits-requires c κs = search needs
+
+returns-3 : tie.Need-returns-3
+returns-3 c =
+    let reaches = sym (c .before .before .fits2 .ensures) ∙ not-false _ (c .before .if2 .left) in
+    rw (c .before .before .before .if1 .left, reaches) (c .size-fits .ensures)
+
+pub list-fits-spec : {M : Type 1} → statement M
+list-fits-spec = tie.close (tie.spec returns fits-requires returns-2 size-fits-requires returns-3)

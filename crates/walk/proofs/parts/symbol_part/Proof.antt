@@ -1,0 +1,72 @@
+-- `symbol_part` meets its contract, by the laws of `PartLaws`: the symbol that was found is the definition's.
+-- Assumes nothing.
+use mathlib.Core.Path.{_≡_, sym, ap, _∙_}
+use mathlib.Core.Option.{none, some}
+use borrow.Author.Needs.{needs}
+use Rattle.font.specs.Font.{fontOf}
+use Rattle.rules.specs.Styles.{fontSize}
+use Rattle.walk.specs.Setting.{symbolIn}
+use Rattle.walk.specs.Walked.{symbolAs, soughtAs}
+use Rattle.walk.proofs.PartLaws.{symbol-whole, symbol-missing}
+use Rattle.walk.proofs.parts.symbol_part.Statement.{statement}
+use Rattle.walk.proofs.parts.symbol_part.Tie as tie
+
+font-size-requires : tie.Need-font-size-requires
+font-size-requires c κs = search needs
+
+cast-size : tie.Need-cast-size
+cast-size c = search needs
+
+symbol-in-requires : tie.Need-symbol-in-requires
+symbol-in-requires c κs = search needs
+
+enum-known-sought : tie.Need-enum-known-sought
+enum-known-sought c = search needs
+
+put-glyph-requires : tie.Need-put-glyph-requires
+put-glyph-requires c κs = search needs
+
+point-requires : tie.Need-point-requires
+point-requires c κs = search needs
+
+enum-told : tie.Need-enum-told
+enum-told c = search needs
+
+same-length : tie.Need-same-length
+same-length c = search needs
+
+returns : tie.Need-returns
+returns c =
+    let known = c .before .before .before .before .before .before .before in
+    let looked = known .before .before in
+    let a = looked .before .before .before .before .args in
+    let size = looked .before .font-size .ensures .0 in
+    let symbol = known .sought .given .0 .0 in
+    let found : symbolIn (fontOf (a .table .now)) (fontSize (a .style)) (a .enlarge) (a .family) (a .code) ≡ some (symbolAs symbol) =
+    rw (← size) (sym (looked .symbol-in .ensures) ∙ ap soughtAs (known .sought .given .1)) in
+    symbol-whole (fontOf (a .table .now)) (a .style) (a .enlarge) (a .family) (a .code) (a .buf .now) symbol _ _ found
+    (c .point .ensures) (rw (← size) (c .before .before .before .put-glyph .ensures))
+
+returns-2 : tie.Need-returns-2
+returns-2 c =
+    let looked = c .before .before in
+    let a = looked .before .before .before .before .args in
+    let size = looked .before .font-size .ensures .0 in
+    let lacks : symbolIn (fontOf (a .table .now)) (fontSize (a .style)) (a .enlarge) (a .family) (a .code) ≡ none =
+    rw (← size) (sym (looked .symbol-in .ensures) ∙ ap soughtAs (c .enum-told .given .1)) in
+    symbol-missing (fontOf (a .table .now)) (a .style) (a .enlarge) (a .family) (a .code) (a .buf .now) (a .buf .now) lacks
+
+pub symbol-part-spec : {M : Type 1} → statement M
+symbol-part-spec =
+    tie.close
+    (tie.spec
+    font-size-requires
+    cast-size
+    symbol-in-requires
+    enum-known-sought
+    put-glyph-requires
+    point-requires
+    enum-told
+    same-length
+    returns
+    returns-2)

@@ -1,0 +1,32 @@
+-- `successor` meets its contract: it takes the cases of the definition, and looks the next code up.
+-- Assumes nothing.
+use mathlib.Core.Path.{ap, _∙_}
+use borrow.Author.Needs.{needs}
+use Rattle.walk.specs.Setting.{found, successor}
+use Rattle.walk.proofs.symbols.successor.Statement.{statement}
+use Rattle.walk.proofs.symbols.successor.Tie as tie
+
+enum-told : tie.Need-enum-told
+enum-told c = search needs
+
+enum-known-next : tie.Need-enum-known-next
+enum-known-next c = search needs
+
+symbol-requires : tie.Need-symbol-requires
+symbol-requires c κs = search needs
+
+symbol-of-requires : tie.Need-symbol-of-requires
+symbol-of-requires c κs = search needs
+
+returns : tie.Need-returns
+unfolding successor
+returns c = rw (c .enum-told .given .1)
+
+returns-2 : tie.Need-returns-2
+unfolding successor
+returns-2 c = rw (c .before .before .before .next .given .1) (c .symbol-of .ensures ∙ ap (found _) (c .before .symbol .ensures))
+
+pub successor-spec : {M : Type 1} → statement M
+successor-spec =
+    tie.close
+    (tie.spec enum-told enum-known-next symbol-requires symbol-of-requires returns returns-2)

@@ -1,0 +1,23 @@
+-- `symbol_of` meets its contract: it takes the cases of `found`.
+-- Assumes nothing.
+use borrow.Author.Needs.{needs}
+use Rattle.walk.specs.Setting.{found}
+use Rattle.walk.proofs.symbols.symbol_of.Statement.{statement}
+use Rattle.walk.proofs.symbols.symbol_of.Tie as tie
+
+enum-known-found : tie.Need-enum-known-found
+enum-known-found c = search needs
+
+enum-told : tie.Need-enum-told
+enum-told c = search needs
+
+returns : tie.Need-returns
+unfolding found
+returns c = rw (c .before .found .given .1)
+
+returns-2 : tie.Need-returns-2
+unfolding found
+returns-2 c = rw (c .enum-told .given .1)
+
+pub symbol-of-spec : {M : Type 1} → statement M
+symbol-of-spec = tie.close (tie.spec enum-known-found enum-told returns returns-2)
