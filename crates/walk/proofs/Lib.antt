@@ -1,4 +1,5 @@
 -- What the proofs of several functions use. Assumes nothing.
+mod ItemLaws
 mod LineLaws
 mod PartLaws
 mod PlaceLaws
