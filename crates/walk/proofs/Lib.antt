@@ -6,3 +6,4 @@ mod PlaceLaws
 mod MissingIn
 mod WalkLaws
 mod AlongLaws
+mod CycleLaws
