@@ -7,9 +7,9 @@
 --     drawn-around, drawn-take, drawn-kept     nodes set in the two parts of a buffer
 --     rest-lent, rest-back, drawn-behind       the part of a buffer from j on, lent and given back
 -- Assumes nothing.
-use mathlib.Core.Path.{_≡_, refl, sym, ap, _∙_}
+use mathlib.Core.Path.{_≡_, refl, sym, _∙_}
 use mathlib.Core.Bool.{Bool, true, false}
-use mathlib.Core.List.{List, [], _∷_, _++_, append-assoc, append-nil}
+use mathlib.Core.List.{List, [], _++_, append-assoc, append-nil}
 use mathlib.Core.Option.{Option, none, some}
 use Prim.Native.Nat.{ℕ, _+_, _-_, _*_, _≤_}
 use native.Mathlib.Omega.{arith}
@@ -24,7 +24,6 @@ use Rattle.formula.specs.declared.Class.{Class}
 use Rattle.formula.specs.declared.Limits.{Limits}
 use Rattle.formula.specs.declared.Kind.{Kind}
 use Rattle.formula.specs.declared.Kind.the-variants.{Atom, Over, Under, Fraction}
-use Rattle.formula.specs.declared.Bar.{Bar}
 use Rattle.formula.specs.Heads.{isOp}
 use Rattle.rules.specs.declared.Style.{Style}
 use Rattle.rules.specs.declared.boxes.Place.{Place as CodePlace}
@@ -38,7 +37,7 @@ use Rattle.rules.specs.Limits.{hasLimits, limited}
 use Rattle.rules.specs.Scripts.{scripted}
 use Rattle.rules.specs.Fractions.{fraction, hasBar, barThickness}
 use Rattle.rules.specs.Arrange.{isGiven, atom, arrange}
-use Rattle.rules.specs.Values.{placeAs, lineAs, arrangedAs}
+use Rattle.rules.specs.Values.{placeAs, lineAs}
 use Rattle.rules.specs.Bounds.{words, itemWords, PlaceWithin, LineWithin, Bounded}
 use Rattle.nodes.specs.Nodes.{Node, moved, bytesInNode, bytesOf}
 use Rattle.nodes.specs.NodeLaws.{length-bytes, bytes-append, length-moved, moved-append, moved-moved}
@@ -49,7 +48,7 @@ use Rattle.nodes.specs.Drawn.{Drawn, drawn-moved, drawn-append}
 use Rattle.walk.specs.declared.parts.Part as parts
 use Rattle.walk.specs.declared.items.Setting as items
 use Rattle.walk.specs.declared.items.Run.{Run}
-use Rattle.walk.specs.Setting.{Part, movedTo, ruleNodes, itemNodes}
+use Rattle.walk.specs.Setting.{Part, ruleNodes, itemNodes}
 use Rattle.walk.specs.Walked.{RunIs, MovedPart, BothRuns, stride, nodeReach, SettingWithin, barCount, ruleCount, placedNodes, frontNodes, FrontRun}
 
 -- ---- how many rules

@@ -10,19 +10,32 @@ ghost use Rattle.rules.specs.Arrange as rules;
 ghost use Rattle.rules.specs.Values.{parametersIn, neighbourAs, shapeAs, placeAs, lineAs};
 ghost use Rattle.rules.specs.Bounds.{ModerateShape};
 ghost use Rattle.walk.specs.Walked.{longest, barCount, ruleCount, LineWithin, SettingIs, SettingWithin, MoveGiven, MovedPart, BothRuns, RuleGiven, RuledRun, FrontGiven, FrontRun, FinishGiven, FinishedLine};
-use formula::{Bar, Class, Kind};
+use crate::lines::Item;
+use crate::lines::Line;
+use crate::lines::extended;
+use crate::parts::Part;
+use formula::Bar;
+use formula::Class;
+use formula::Kind;
 use nodes::hull::Hull;
-use nodes::{move_nodes, put_rule, room};
+use nodes::move_nodes;
+use nodes::put_rule;
+use nodes::room;
 use rules::Style;
 use rules::arrange::arrange;
-use rules::boxes::{Arranged, Line as Ruling, Place, Shape};
-use rules::classes::{Neighbour, changed_class, class_of};
-use rules::parameters::{Parameters, RULE_THICKNESS, parameter};
+use rules::boxes::Arranged;
+use rules::boxes::Line as Ruling;
+use rules::boxes::Place;
+use rules::boxes::Shape;
+use rules::classes::Neighbour;
+use rules::classes::changed_class;
+use rules::classes::class_of;
+use rules::parameters::Parameters;
+use rules::parameters::RULE_THICKNESS;
+use rules::parameters::parameter;
 use rules::spacing::space_before;
 use rules::styles::font_size;
 use scaled::Sp;
-use crate::lines::{Item, Line, extended};
-use crate::parts::Part;
 
 // How many rules an item of this kind draws: a line always, a bar where it has a thickness.
 pub fn rule_count(p: Parameters, style: Style, kind: Kind) -> usize
@@ -59,7 +72,16 @@ pub struct Setting {
 }
 
 // The item's class is changed between its neighbours, and space goes before it.
-pub fn setting_of(p: Parameters, style: Style, kind: Kind, right: Neighbour, line: Line, x: Shape, y: Shape, z: Shape) -> Setting
+pub fn setting_of(
+    p: Parameters,
+    style: Style,
+    kind: Kind,
+    right: Neighbour,
+    line: Line,
+    x: Shape,
+    y: Shape,
+    z: Shape,
+) -> Setting
     requires { ⌜ LineWithin line × ModerateShape x × ModerateShape y × ModerateShape z ⌝ }
     ensures { λ r. ⌜ SettingIs (parametersIn p) style kind (neighbourAs right) (neighbourAs (line .left)) (line .size .width .0) (rules.arrange (parametersIn p) style kind (shapeAs x) (shapeAs y) (shapeAs z)) r × SettingWithin (line .bytes) r ⌝ }
 {

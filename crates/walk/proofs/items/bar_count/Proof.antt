@@ -1,14 +1,9 @@
 -- `bar_count` meets its contract: a bar has a thickness where the test says so.
 -- Assumes nothing.
-use mathlib.Core.Path.{_≡_, sym, _∙_}
+use mathlib.Core.Path.{sym, _∙_}
 use borrow.Author.Needs.{needs}
 use Rattle.walk.proofs.items.bar_count.Statement.{statement}
 use Rattle.walk.proofs.items.bar_count.Tie as tie
-use Rattle.walk.proofs.items.bar_count.Reads as reads
-use Rattle.walk.proofs.items.bar_count.Lts as lts
-use Rattle.rules.proofs.parameters.parameter.Reads as parameter-reads
-use Rattle.rules.proofs.styles.font_size.Reads as font-size-reads
-use Rattle.scaled.proofs.Sp.less.Reads as less-reads
 
 enum-told : tie.Need-enum-told
 enum-told c = search needs

@@ -16,12 +16,6 @@ use Rattle.walk.proofs.ItemLaws.{few-rules, placed-is, moved-drawn, dra
 use borrow.Author.Needs.{needs}
 use Rattle.walk.proofs.items.front.Statement.{statement}
 use Rattle.walk.proofs.items.front.Tie as tie
-use Rattle.walk.proofs.items.front.Reads as reads
-use Rattle.walk.proofs.items.front.Lts as lts
-use Rattle.nodes.proofs.room.Reads as room-reads
-use Rattle.walk.proofs.items.behind.Reads as behind-reads
-use Rattle.walk.proofs.items.moved_part.Reads as moved-part-reads
-use Rattle.walk.proofs.items.ruled.Reads as ruled-reads
 
 moved-part-requires : tie.Need-moved-part-requires
 moved-part-requires c κs = search needs
@@ -64,11 +58,13 @@ returns c =
     let p = placeAs (start .args .setting .arranged .first) in
     let rule = lineAs (start .args .setting .arranged .rule) in
     let rules = length-moved x (pos 0) (ruleNodes rule) in
-    let b₁ = first .moved-part .last .1 .1 .1 .0 in
+    let part = first .moved-part in
+    let b₁ = part .last .1 .1 .1 .0 in
+    let not-large = ruled .ruled .ensures .not-large in
     record {
-      large-is = c .behind .ensures .large-is ∙ rw (ruled .ruled .ensures .not-large, or-false (first .moved-part .result .large)) (first .moved-part .ensures .large-is);
+      large-is = c .behind .ensures .large-is ∙ rw (not-large, or-false (part .result .large)) (part .ensures .large-is);
       count-is = omega arith;
-      hull-is = c .behind .ensures .hull-is ∙ ap₂ joined (first .moved-part .ensures .hull-is) (ruled .ruled .ensures .is .hull-is);
+      hull-is = c .behind .ensures .hull-is ∙ ap₂ joined (part .ensures .hull-is) (ruled .ruled .ensures .is .hull-is);
       drawn =
           λ ns b₀ same count drawn.
           let size = length-moved (x +ℤ p .across) (p .up) ns in
@@ -77,7 +73,7 @@ returns c =
           let kept : length b₁ ≡ length b₀ = omega arith in
           drawn-behind {j = room .room .result} (placedNodes x p ns) (moved x (pos 0) (ruleNodes rule)) b₀ b₁ _ kept
           (λ fits. rw own (room .room .ensures .1 (omega arith)))
-          (moved-drawn (start .args .part) x p (first .moved-part .result) (start .args .buf .now) b₁ ns b₀ (first .moved-part .ensures) count drawn)
+          (moved-drawn (start .args .part) x p (part .result) (start .args .buf .now) b₁ ns b₀ (part .ensures) count drawn)
           (ruled .ruled .ensures .drawn);
     }
 

@@ -8,11 +8,6 @@ use Rattle.nodes.specs.HullLaws.{within-more}
 use borrow.Author.Needs.{needs}
 use Rattle.walk.proofs.items.moved_part.Statement.{statement}
 use Rattle.walk.proofs.items.moved_part.Tie as tie
-use Rattle.walk.proofs.items.moved_part.Reads as reads
-use Rattle.walk.proofs.items.moved_part.Lts as lts
-use Rattle.nodes.proofs.hull.Hull.moved.Reads as moved-reads
-use Rattle.nodes.proofs.move_nodes.Reads as move-nodes-reads
-use Rattle.scaled.proofs.Sp.plus.Reads as plus-reads
 
 plus-requires : tie.Need-plus-requires
 plus-requires c κs = search needs

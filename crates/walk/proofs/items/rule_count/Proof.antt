@@ -4,9 +4,6 @@ use Rattle.walk.specs.Walked.{ruleCount}
 use borrow.Author.Needs.{needs}
 use Rattle.walk.proofs.items.rule_count.Statement.{statement}
 use Rattle.walk.proofs.items.rule_count.Tie as tie
-use Rattle.walk.proofs.items.rule_count.Reads as reads
-use Rattle.walk.proofs.items.rule_count.Lts as lts
-use Rattle.walk.proofs.items.bar_count.Reads as bar-count-reads
 
 enum-told : tie.Need-enum-told
 enum-told c = search needs

@@ -6,9 +6,8 @@ use mathlib.Core.Option.{some}
 use native.Mathlib.Omega.{arith}
 use lib.IntN.{ℤ, pos, _+ℤ_}
 use Rattle.rules.specs.declared.boxes.Rule.{Rule}
-use Rattle.rules.specs.Bounds.{RuleWithin, itemWords}
 use Rattle.rules.specs.Values.{ruleAs}
-use Rattle.nodes.specs.Nodes.{Node, rule, moved}
+use Rattle.nodes.specs.Nodes.{rule, moved}
 use Rattle.nodes.specs.Hull.{hull}
 use Rattle.nodes.specs.HullLaws.{hull-node}
 use Rattle.nodes.specs.Drawn.{drawn-none, drawn-put}
@@ -17,11 +16,6 @@ use Rattle.walk.proofs.ItemLaws.{other-way, zero-place}
 use borrow.Author.Needs.{needs}
 use Rattle.walk.proofs.items.ruled.Statement.{statement}
 use Rattle.walk.proofs.items.ruled.Tie as tie
-use Rattle.walk.proofs.items.ruled.Reads as reads
-use Rattle.walk.proofs.items.ruled.Lts as lts
-use Rattle.nodes.proofs.hull.Hull.point.Reads as point-reads
-use Rattle.nodes.proofs.put_rule.Reads as put-rule-reads
-use Rattle.scaled.proofs.Sp.plus.Reads as plus-reads
 
 -- the rule r at x, where dx is its place
 rule-at : (x : ℤ) (r : Rule) (dx : ℤ) → dx ≡ x +ℤ r .place .across .0 →
@@ -61,14 +55,15 @@ returns-2 c =
     let put = c .before .before .before in
     let sum = put .before .before .before in
     let arm = sum .before .before .before .before in
+    let start = arm .before .before .before in
     let r = arm .rule .given .0 .0 in
     let n = rule (sum .plus .result .0) (r .place .up .0) (r .width .0) (r .thickness .0) in
-    let at = rule-at _ r (sum .plus .result .0) (sum .plus .ensures .is) in
-    rw (arm .rule .given .1, at)
+    let at = rule-at (start .args .x .0) r (sum .plus .result .0) (sum .plus .ensures .is) in
+    rw (arm .rule .given .1)
     (record {
       not-large = refl;
-      is = record { count-is = refl; hull-is = c .point .ensures ∙ sym (hull-node n) };
-      drawn = rw (put .put-rule .ensures) (drawn-put n _);
+      is = rw at (record { count-is = refl; hull-is = c .point .ensures ∙ sym (hull-node n) });
+      drawn = rw (at, put .put-rule .ensures) (drawn-put n (start .args .buf .now));
     })
 
 pub ruled-spec : {M : Type 1} → statement M

@@ -4,13 +4,6 @@ use Rattle.walk.proofs.ItemLaws.{sum-within}
 use borrow.Author.Needs.{needs}
 use Rattle.walk.proofs.items.setting_of.Statement.{statement}
 use Rattle.walk.proofs.items.setting_of.Tie as tie
-use Rattle.walk.proofs.items.setting_of.Reads as reads
-use Rattle.walk.proofs.items.setting_of.Lts as lts
-use Rattle.rules.proofs.arrange.arrange.Reads as arrange-reads
-use Rattle.rules.proofs.classes.changed_class.Reads as changed-class-reads
-use Rattle.rules.proofs.classes.class_of.Reads as class-of-reads
-use Rattle.rules.proofs.spacing.space_before.Reads as space-before-reads
-use Rattle.scaled.proofs.Sp.plus.Reads as plus-reads
 
 class-of-requires : tie.Need-class-of-requires
 class-of-requires c κs = search needs
@@ -33,13 +26,14 @@ returns c =
     let space = sum .before in
     let changed = space .before in
     let line = changed .before .before .before .before .pre .0 in
-    let far = sum-within (sum .plus .ensures) (line .width) (space .space-before .ensures .1) in
-    (record {
-      class-is = rw (changed .before .class-of .ensures) at (changed .changed-class .ensures);
-      x-is = rw (space .space-before .ensures .0) at (sum .plus .ensures .is);
-      arranged-is = c .arrange .ensures .0;
-    },
-    record { x = far; arranged = c .arrange .ensures .1 })
+    let far = sum-within (sum .plus .ensures) (line .width) (space .space-before .ensures .1) in (
+      record {
+        class-is = rw (changed .before .class-of .ensures) at (changed .changed-class .ensures);
+        x-is = rw (space .space-before .ensures .0) at (sum .plus .ensures .is);
+        arranged-is = c .arrange .ensures .0;
+      },
+      record { x = far; arranged = c .arrange .ensures .1 },
+    )
 
 pub setting-of-spec : {M : Type 1} → statement M
 setting-of-spec =
