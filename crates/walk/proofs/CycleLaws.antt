@@ -7,14 +7,14 @@
 --     along-next, along-stop     a turn of the loop
 -- Assumes nothing.
 use mathlib.Core.Path.{_≡_, refl, sym, subst, ap, _∙_}
-use mathlib.Core.Bool.{Bool, true, false}
+use mathlib.Core.Bool.{Bool, true, false, not, _&&_, _||_}
 use mathlib.Core.List.{List, [], _∷_, _++_, append-nil}
 use mathlib.Core.Option.{Option, none, some}
 use Prim.Native.Nat.{ℕ, suc, _+_, _-_, _*_, _^_, _≤_, _<_}
 use native.Mathlib.Omega.{arith}
 use lib.Dec.{leb}
 use lib.IntN.{ℤ, pos, negsuc, natAbs}
-use lib.ListN.{length, take, drop, length-append, length-take, length-drop, drop-of-length-le}
+use lib.ListN.{length, take, drop, getElem?, length-append, length-take, length-drop, drop-of-length-le}
 use lib.Seq.{length-take-le, drop-at}
 use borrow.Author.Tests.{leb-true}
 use borrow.Rule.Slice.PartMut.{putMid, take-put}
@@ -27,7 +27,14 @@ use Rattle.formula.specs.declared.Opening.the-variants.{NoItem, Fields, Kern}
 use Rattle.formula.specs.declared.FieldHead.{FieldHead}
 use Rattle.formula.specs.declared.FieldHead.the-variants.{NoField, Empty, Symbol, Sublist, CutSublist}
 use Rattle.formula.specs.Tree.{openingBytes, kernBytes}
-use Rattle.formula.specs.Heads.{openingOf, fieldHead, greatestKern}
+use Rattle.scaled.specs.Words.{littleEndian, signedWord}
+use Rattle.scaled.specs.declared.Sp.{Sp}
+use Rattle.formula.specs.declared.Class.{Class}
+use Rattle.formula.specs.declared.Limits.{Limits}
+use Rattle.formula.specs.declared.Bar.{Bar}
+use Rattle.formula.specs.declared.Mark.{Mark}
+use Rattle.formula.specs.declared.Mark.the-variants.{AT, OV, UN, FR, KN, Unknown}
+use Rattle.formula.specs.Heads.{markOf, classes, limitKinds, bars, isOp, isDisplayOnly, atomOf, atomOpening, fractionOf, fractionOpening, greatestKern, kernWithin, kernOpening, opens, openingOf, fieldHead}
 use Rattle.formula.specs.Places.{Readable, treeOf, headBytes, contents, fieldOf, GoodField, hasThird, headAt, second, third, end, thirdEnd, itemSize, fieldIn, thirdIn, itemOf, GoodFieldAt, GoodThird}
 use Rattle.formula.specs.PlacesLaws.{step}
 use Rattle.formula.specs.HeadLaws.{contents-shorter, opening-fits}
@@ -46,13 +53,15 @@ use Rattle.walk.specs.declared.parts.FieldSet.the-variants as field
 use Rattle.walk.specs.declared.lines.Line as lines
 use Rattle.walk.specs.declared.items.Setting as items
 use Rattle.walk.specs.declared.items.Run.{Run}
+use Rattle.walk.specs.declared.lists.ListSet.{ListSet}
 use Rattle.walk.specs.declared.lists.Step.{Step}
 use Rattle.walk.specs.declared.lists.Step.the-variants as steps
 use Rattle.walk.specs.declared.lists.LastSet.{LastSet}
 use Rattle.walk.specs.declared.lists.LastSet.the-variants as last
 use Rattle.walk.specs.Setting.{nextClass, ruleNodes}
 use Rattle.walk.specs.Missing.{missingField, missingItem, missingItems}
-use Rattle.walk.specs.Walked.{longest, Ready, ListGiven, LineGiven, FieldGiven, LineWithin, EmptyPart, FieldWhole, FieldDone, HeadDone, ArrangedLast, SettingWithin, MoveGiven, FrontGiven, ItemGoes, itemFrom, MovedPart, BothRuns, FrontRun, FinishedLine, LastWhole, LastDone, thirdLast, secondLast, ThirdDone, SecondDone, BehindDone, StepDone, ItemDone, rightOf, ruleCount}
+use Rattle.walk.specs.Fitting.{fieldFits, itemFits}
+use Rattle.walk.specs.Walked.{longest, Ready, ListGiven, LineGiven, FieldGiven, ItemGiven, LineWithin, PartWithin, EmptyPart, ListDone, FieldWhole, FieldDone, HeadDone, ArrangedLast, SettingWithin, MoveGiven, FrontGiven, ItemGoes, itemFrom, MovedPart, BothRuns, FrontRun, FinishedLine, LastWhole, LastDone, thirdLast, secondLast, ThirdDone, SecondDone, BehindDone, StepDone, ItemDone, rightOf, ruleCount}
 use Rattle.walk.proofs.ItemLaws.{front-reach, both-within}
 use Rattle.walk.proofs.MissingIn.{missing-in}
 use Rattle.walk.proofs.WalkLaws.{field-empty, field-some, third-whole, second-whole, behind-whole}
@@ -134,6 +143,9 @@ noad-at s kind e readable =
     five Under a b g = omega (arith, good-some (drop (third s Under) s) (headAt s (third s Under)) g)
     five (Fraction bar) a b g = omega arith
 
+pub noad-of : {t : List ℕ} {p : List (List ℕ)} {s : List ℕ} {kind : Kind} → ItemGiven t p s kind → Noad s kind
+noad-of {s} {kind} given = noad-at s kind (given .opens) (given .list .readable)
+
 pub third-good : (s : List ℕ) (has : Bool) (k : ℕ) → has ≡ true → GoodThird s has k → GoodFieldAt s k
 third-good s true k e g = g
 third-good s false k e g = let z : _≡_ {A = ℕ} 0 1 = cc in absurd (omega arith)
@@ -142,6 +154,62 @@ third-good s false k e g = let z : _≡_ {A = ℕ} 0 1 = cc in absurd (omega ari
 pub third-fits : (s : List ℕ) (has : Bool) (k : ℕ) → has ≡ true → k + headBytes (headAt s k) ≡ thirdEnd s has k
 third-fits s true k e = refl
 third-fits s false k e = cc
+
+-- ---- a kern
+
+KernIn : Opening → Type 0
+KernIn NoItem = Unit {0}
+KernIn (Fields kind) = Unit {0}
+KernIn (Kern n) = Within greatestKern (n .0)
+
+small-kern : (z : ℤ) → natAbs z ≤ greatestKern → Within greatestKern z
+small-kern (pos n) l = omega arith
+small-kern (negsuc n) l = omega arith
+
+either : (P : Opening → Type 0) (t : Bool) {a b : Opening} → (t ≡ true → P a) → (t ≡ false → P b) → P (elim t [ true ↦ a | false ↦ b ])
+either P true f g = f refl
+either P false f g = g refl
+
+atom-no-kern : (class : Option Class) (limits : Option Limits) → KernIn (atomOf class limits)
+unfolding atomOf KernIn
+atom-no-kern none limits = tt
+atom-no-kern (some class) none = tt
+atom-no-kern (some class) (some limits) = either KernIn (isOp class || isDisplayOnly limits) (λ e. tt) (λ e. tt)
+
+fraction-no-kern : (bar : Option Bar) → KernIn (fractionOf bar)
+unfolding fractionOf KernIn
+fraction-no-kern none = tt
+fraction-no-kern (some bar) = tt
+
+kern-in : (n : ℤ) → KernIn (kernWithin n)
+unfolding kernWithin KernIn
+kern-in n = either KernIn (leb (natAbs n) greatestKern) (λ e. small-kern n (leb-true (natAbs n) greatestKern e)) (λ e. tt)
+
+opens-small : (m : Mark) (s : List ℕ) → KernIn (opens m s)
+unfolding opens atomOpening fractionOpening kernOpening KernIn
+opens-small AT [] = tt
+opens-small AT (c ∷ []) = tt
+opens-small AT (c ∷ d ∷ s) = atom-no-kern (getElem? classes c) (getElem? limitKinds d)
+opens-small OV s = tt
+opens-small UN s = tt
+opens-small FR [] = tt
+opens-small FR (c ∷ s) = fraction-no-kern (getElem? bars c)
+opens-small KN [] = tt
+opens-small KN (c ∷ []) = tt
+opens-small KN (c ∷ d ∷ []) = tt
+opens-small KN (c ∷ d ∷ e ∷ []) = tt
+opens-small KN (c ∷ d ∷ e ∷ f ∷ s) = kern-in (signedWord (littleEndian 4 (c ∷ d ∷ e ∷ f ∷ s)))
+opens-small Unknown s = tt
+
+opening-small : (s : List ℕ) → KernIn (openingOf s)
+unfolding openingOf KernIn
+opening-small [] = tt
+opening-small (a ∷ []) = tt
+opening-small (a ∷ b ∷ s) = opens-small (markOf a b) s
+
+pub kern-small : (s : List ℕ) (n : Sp) → openingOf s ≡ Kern n → Within greatestKern (n .0)
+unfolding KernIn
+kern-small s n e = subst KernIn e (opening-small s)
 
 -- ---- what the calls ask
 
@@ -161,6 +229,33 @@ list-given t p s n given e =
     let size = contents-shorter s n e in
     let short = given .short in
     rw (list-part s n) record { ready = given .ready; readable = subst (GoodField s) e (given .good); short = omega arith }
+
+-- the place of a symbol that a list field lacks can be added up
+pub list-place : (F : Font) (st : Style) {t : List ℕ} {p : List (List ℕ)} (s : List ℕ) (n place : ℕ) → FieldGiven t p s → fieldHead s ≡ Sublist n →
+    missingItems F st 0 (treeOf (contents n s)) ≡ some place → 3 + place ≤ 3 + longest
+list-place F st s n place given e lacks =
+    let size = contents-shorter s n e in
+    let short = given .short in
+    omega (arith, missing-in F (contents n s) (subst (GoodField s) e (given .good)) st 0 place lacks)
+
+-- the rest of a list from a place on
+pub tail-given : (s : List ℕ) (k k′ : ℕ) → k ≡ k′ → Readable (drop k′ s) → length s ≤ longest →
+    Readable (take (length s - k) (drop k s)) × (length (take (length s - k) (drop k s)) ≤ longest)
+tail-given s k k′ e readable short =
+    let part : take (length s - k) (drop k s) ≡ drop k′ s = tail-part s k ∙ ap (λ (n : ℕ). drop n s) e in
+    rw part (readable, omega (arith, length-drop k′ s))
+
+pub rest-given : (t : List ℕ) (p : List (List ℕ)) (s : List ℕ) (l : lines.Line) → ListGiven t p s → Readable (drop (l .bytes) s) →
+    LineWithin l → l .bytes ≤ length s →
+    ListGiven t p (take (length s - l .bytes) (drop (l .bytes) s)) × LineGiven l (take (length s - l .bytes) (drop (l .bytes) s))
+rest-given t p s l given readable small low =
+    let size = length-drop (l .bytes) s in
+    let short = given .short in
+    rw (tail-part s (l .bytes))
+    (record { ready = given .ready; readable = readable; short = omega arith }, record { small = small; short = omega arith })
+
+pub part-more : {j k : ℕ} {c : parts.Part} → j ≤ k → PartWithin j c → PartWithin k c
+part-more few w = record { shape = w .shape; count = omega (arith, w .count); hull = w .hull }
 
 -- a setting behind a line
 x-within : (l : lines.Line) (g : items.Setting) → LineWithin l → SettingWithin (l .bytes) g → Within (2 ^ 54) (g .x .0)
@@ -185,6 +280,9 @@ few-rules : (r : Option Rule) → length (ruleNodes r) ≤ 1
 unfolding ruleNodes
 few-rules none = omega arith
 few-rules (some r) = omega arith
+
+pub front-few : {a : parts.Part} {g : items.Setting} {own : Run} {b d : List ℕ} → FrontRun a g own b d → own .count ≤ a .count + 1
+front-few {g} f = omega (arith, f .count-is, few-rules (lineAs (g .arranged .rule)))
 
 pub goes-given : (s : List ℕ) (kind : Kind) (l : lines.Line) (g : items.Setting) (F : Font) (st : Style) (e : Bool) (f : _) (a : parts.Part)
     (own r total : Run) (b d : List ℕ) (bytes : ℕ) → Noad s kind → LineGiven l s → SettingWithin (l .bytes) g →
@@ -240,6 +338,15 @@ module _ (F : Font) where
   third-none st g s true k b c e d = let z : _≡_ {A = ℕ} 0 1 = cc in absurd (omega arith)
   third-none st g s false k b c e d = field-empty F st g (k - k) b c d
 
+-- a list field's contents, by the result that is matched
+pub list-at : (F : Font) (st : Style) (s : List ℕ) (n : ℕ) (b : List ℕ) (z z′ : ListSet) (b′ : List ℕ) → fieldHead s ≡ Sublist n → z ≡ z′ →
+    ListDone F st (treeOf (take (3 + n - 3) (drop 3 s))) (length (take (3 + n - 3) (drop 3 s))) b z b′ →
+    ListDone F st (treeOf (contents n s)) n b z′ b′
+list-at F st s n b z z′ b′ e is d =
+    subst (λ (k : ℕ). ListDone F st (treeOf (contents n s)) k b z′ b′) (contents-shorter s n e .0)
+    (subst (λ (r : List ℕ). ListDone F st (treeOf r) (length r) b z′ b′) (list-part s n)
+    (subst (λ (z : ListSet). ListDone F st (treeOf (take (3 + n - 3) (drop 3 s))) (length (take (3 + n - 3) (drop 3 s))) b z b′) is d))
+
 -- the class of the atom that follows an item
 pub right-is : (s : List ℕ) (k k′ : ℕ) (right : Neighbour) → right ≡ nextClass none (treeOf (take (length s - k) (drop k s))) → k ≡ k′ →
     right ≡ rightOf s k′
@@ -258,11 +365,10 @@ module _ (F : Font) (st : Style) (s : List ℕ) (kind : Kind) (l : lines.Line) (
       (subst (λ (n : Neighbour). ArrangedLast P st kind n l x y c set b₁ b′) f a))
 
   -- what the third field's setter says where it is matched
-  pub third-whole-at : (y : Shape) (j : ℕ) (g : items.Setting) (r : Run) (z : LastSet) (b₁ e : List ℕ) → z ≡ last.Whole g r →
-      ThirdDone F st s kind l x y (take (length b₁ - j) (drop j b₁)) z e →
-      ThirdDone F st s kind l x y (drop j b₁) (last.Whole g r) e
-  third-whole-at y j g r z b₁ e is d =
-      subst (λ (b : List ℕ). ThirdDone F st s kind l x y b (last.Whole g r) e) (tail-part b₁ j)
+  pub third-at : (y : Shape) (j : ℕ) (z z′ : LastSet) (b₁ e : List ℕ) → z ≡ z′ →
+      ThirdDone F st s kind l x y (take (length b₁ - j) (drop j b₁)) z e → ThirdDone F st s kind l x y (drop j b₁) z′ e
+  third-at y j z z′ b₁ e is d =
+      subst (λ (b : List ℕ). ThirdDone F st s kind l x y b z′ e) (tail-part b₁ j)
       (subst (λ (z : LastSet). ThirdDone F st s kind l x y (take (length b₁ - j) (drop j b₁)) z e) is d)
 
   pub second-set : (j : ℕ) (c : parts.Part) (g : items.Setting) (r own r′ : Run) (b b₁ d e : List ℕ) → Noad s kind →
@@ -283,10 +389,10 @@ module _ (F : Font) (st : Style) (s : List ℕ) (kind : Kind) (l : lines.Line) (
 -- ---- an item
 
 module _ (F : Font) (st : Style) (s : List ℕ) (kind : Kind) (l : lines.Line) where
-  pub second-whole-at : (x : Shape) (j : ℕ) (g : items.Setting) (r : Run) (z : LastSet) (b e : List ℕ) → z ≡ last.Whole g r →
-      SecondDone F st s kind l x (take (length b - j) (drop j b)) z e → SecondDone F st s kind l x (drop j b) (last.Whole g r) e
-  second-whole-at x j g r z b e is d =
-      subst (λ (b : List ℕ). SecondDone F st s kind l x b (last.Whole g r) e) (tail-part b j)
+  pub second-at : (x : Shape) (j : ℕ) (z z′ : LastSet) (b e : List ℕ) → z ≡ z′ →
+      SecondDone F st s kind l x (take (length b - j) (drop j b)) z e → SecondDone F st s kind l x (drop j b) z′ e
+  second-at x j z z′ b e is d =
+      subst (λ (b : List ℕ). SecondDone F st s kind l x b z′ e) (tail-part b j)
       (subst (λ (z : LastSet). SecondDone F st s kind l x (take (length b - j) (drop j b)) z e) is d)
 
   pub behind-set : (j rules bytes : ℕ) (P : Parameters) (a : parts.Part) (g : items.Setting) (r own total : Run) (c : lines.Line) (b d e : List ℕ) →
@@ -306,11 +412,19 @@ module _ (F : Font) (st : Style) (s : List ℕ) (kind : Kind) (l : lines.Line) w
   -- with the first field's nodes in the buffer
   pub first-set : (set : Step) (a : parts.Part) (b b₁ b′ : List ℕ) →
       FieldDone F (firstStyle kind st) (enlarges kind st) (fieldIn s (openingBytes kind)) (headBytes (headAt s (openingBytes kind))) b (field.Whole a) b₁ →
-      a .large ≡ false → length b₁ ≡ length b → BehindDone F st s kind l b₁ set b′ →
+      length b₁ ≡ length b → BehindDone F st s kind l b₁ set b′ →
       StepDone F st (rightOf s (end s kind)) (itemOf s (Fields kind)) (end s kind) l b set b′
-  first-set (steps.Next c) a b b₁ b′ d small kept h = (h .0, λ e. h .1 e b kept (d .1 small))
-  first-set (steps.Missing place) a b b₁ b′ d small kept h = h
+  unfolding itemFits
+  first-set (steps.Next c) a b b₁ b′ d kept h =
+      (h .0, λ e. h .1 e b kept (d .1 (d .0 .large-is ∙ small (l .large) (fieldFits F (firstStyle kind st) (fieldIn s (openingBytes kind))) (fieldFits F (secondStyle kind st) (fieldIn s (second s kind))) (fieldFits F (thirdStyle st) (thirdIn s (hasThird kind) (third s kind))) (sym (h .0 .large-is) ∙ e))))
+    where
+      small : (t x y z : Bool) → t || not (x && y && z) ≡ false → not x ≡ false
+      small true x y z e = cc
+      small false true y z e = refl
+      small false false y z e = e
+  first-set (steps.Missing place) a b b₁ b′ d kept h = h
 
+module _ (F : Font) (st : Style) (s : List ℕ) (l : lines.Line) where
   pub item-done : (o : Opening) (b : List ℕ) (r : Step) (b′ : List ℕ) → openingOf s ≡ o →
       StepDone F st (rightOf s (itemSize s o)) (itemOf s o) (itemSize s o) l b r b′ → ItemDone F st s l b r b′
   item-done o b r b′ e d =
