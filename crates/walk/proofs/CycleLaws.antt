@@ -26,7 +26,7 @@ use Rattle.formula.specs.declared.Opening.{Opening}
 use Rattle.formula.specs.declared.Opening.the-variants.{NoItem, Fields, Kern}
 use Rattle.formula.specs.declared.FieldHead.{FieldHead}
 use Rattle.formula.specs.declared.FieldHead.the-variants.{NoField, Empty, Symbol, Sublist, CutSublist}
-use Rattle.formula.specs.Tree.{openingBytes, kernBytes}
+use Rattle.formula.specs.Tree.{Field, openingBytes}
 use Rattle.scaled.specs.Words.{littleEndian, signedWord}
 use Rattle.scaled.specs.declared.Sp.{Sp}
 use Rattle.formula.specs.declared.Class.{Class}
@@ -261,12 +261,12 @@ part-more few w = record { shape = w .shape; count = omega (arith, w .count); hu
 x-within : (l : lines.Line) (g : items.Setting) → LineWithin l → SettingWithin (l .bytes) g → Within (2 ^ 54) (g .x .0)
 x-within l g line small = let b = line .bytes in let w = small .x in omega arith
 
-pub move-given : (l : lines.Line) (g : items.Setting) (F : Font) (st : Style) (f : _) (n : ℕ) (c : parts.Part) → LineWithin l →
+pub move-given : (l : lines.Line) (g : items.Setting) (F : Font) (st : Style) (f : Field) (n : ℕ) (c : parts.Part) → LineWithin l →
     SettingWithin (l .bytes) g → FieldWhole F st false f n c → MoveGiven c (g .x .0) (g .arranged .second)
 move-given l g F st f n c line small w =
     record { hull = w .small .hull; x-small = x-within l g line small; place = small .arranged .second }
 
-pub front-given : (l : lines.Line) (g : items.Setting) (F : Font) (st : Style) (e : Bool) (f : _) (n : ℕ) (c : parts.Part) → LineWithin l →
+pub front-given : (l : lines.Line) (g : items.Setting) (F : Font) (st : Style) (e : Bool) (f : Field) (n : ℕ) (c : parts.Part) → LineWithin l →
     SettingWithin (l .bytes) g → FieldWhole F st e f n c → n ≤ longest → FrontGiven c g
 front-given l g F st e f n c line small w few =
     record {
@@ -284,12 +284,12 @@ few-rules (some r) = omega arith
 pub front-few : {a : parts.Part} {g : items.Setting} {own : Run} {b d : List ℕ} → FrontRun a g own b d → own .count ≤ a .count + 1
 front-few {g} f = omega (arith, f .count-is, few-rules (lineAs (g .arranged .rule)))
 
-pub goes-given : (s : List ℕ) (kind : Kind) (l : lines.Line) (g : items.Setting) (F : Font) (st : Style) (e : Bool) (f : _) (a : parts.Part)
+pub goes-given : (s : List ℕ) (kind : Kind) (l : lines.Line) (g : items.Setting) (F : Font) (st st₁ : Style) (e : Bool) (f : Field) (a : parts.Part)
     (own r total : Run) (b d : List ℕ) (bytes : ℕ) → Noad s kind → LineGiven l s → SettingWithin (l .bytes) g →
-    FieldWhole F st e f (headBytes (headAt s (openingBytes kind))) a → FrontRun a g own b d → BothRuns own r total →
+    FieldWhole F st₁ e f (headBytes (headAt s (openingBytes kind))) a → FrontRun a g own b d → BothRuns own r total →
     LastWhole F st kind (rightOf s (end s kind)) l (end s kind - second s kind) (secondLast F st kind s (a .shape)) g r →
     bytes ≡ end s kind → ItemGoes l (g .x .0) (itemFrom g total bytes)
-goes-given s kind l g F st e f a own r total b d bytes n given small w front both u is =
+goes-given s kind l g F st st₁ e f a own r total b d bytes n given small w front both u is =
     let long = n .long in
     let inside = n .end-in in
     let short = given .short in
