@@ -527,7 +527,7 @@ set-first-returns-2 t c =
     let place = c .before .x2 .given .0 .0 in
     let b₁ = c .before .before .before .before .before .set-field .last .1 .1 .1 .1 .1 .0 in
     item-done F (a .style) (a .s .now) (a .line) (Fields (a .kind)) b (steps.Missing (c .before .before .before .before .before .before .before .before .before .before .places-of .result .first + place)) b₁ (c .before .before .before .before .before .before .before .before .before .before .before .before .before .before .pre .1 .0 .opens)
-    (first-missing F (a .style) (a .kind) (a .line) (a .s .now) (n .x) (n .y) _ place b b₁ (first-lacks t (c .before))
+    (first-missing F (a .style) (a .kind) (a .line) (a .s .now) (n .x) (n .y) 0 place b b₁ (first-lacks t (c .before))
     ∙ ap (λ (k : ℕ). some (k + place)) (sym (c .before .before .before .before .before .before .before .before .before .before .places-of .ensures .first-is)))
 
 -- ---- set_item
@@ -849,7 +849,7 @@ set-second-returns-3 t c =
     let s = a .s .now in
     let place = c .before .y2 .given .0 .0 in
     let b₁ = c .before .before .before .before .before .set-field .last .1 .1 .1 .1 .1 .0 in
-    second-first-missing (fontOf (a .table .now)) (a .style) (a .kind) (rightOf s (end s (a .kind))) (a .line) s (a .x) 0 _ place (a .buf .now) b₁ b₁ (second-lacks t (c .before))
+    second-first-missing (fontOf (a .table .now)) (a .style) (a .kind) (rightOf s (end s (a .kind))) (a .line) s (a .x) 0 0 place (a .buf .now) b₁ b₁ (second-lacks t (c .before))
     ∙ ap (λ (k : ℕ). some (k + place)) (sym (c .before .before .before .before .before .before .before .before .before .before .before .before .pre .1 .1 .second-is))
 
 -- ---- set_third
