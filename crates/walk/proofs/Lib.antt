@@ -1,5 +1,9 @@
 -- What the proofs of several functions use. Assumes nothing.
+mod ItemLaws
 mod LineLaws
 mod PartLaws
 mod PlaceLaws
-mod ItemLaws
+mod MissingIn
+mod WalkLaws
+mod AlongLaws
+mod CycleLaws
