@@ -4,35 +4,32 @@
 --     along-missing  the place of the first missing symbol, where an item has one
 -- Assumes nothing.
 use mathlib.Core.Path.{_≡_, refl, sym, subst, ap, ap₂, _∙_}
-use mathlib.Core.Bool.{Bool, true, false, not, _&&_, _||_, and-true, and-assoc}
-use mathlib.Core.List.{List, [], _++_, append-nil}
+use mathlib.Core.Bool.{Bool, true, false, not, _&&_, _||_}
+use mathlib.Core.List.{List, _++_, append-nil}
 use mathlib.Core.Option.{Option, none, some}
-use Prim.Native.Nat.{ℕ, _+_, _-_, _*_, _≤_, _<_}
+use Prim.Native.Nat.{ℕ, _+_, _*_, _≤_, _<_}
 use native.Mathlib.Omega.{arith}
-use lib.IntN.{ℤ, pos, _+ℤ_}
 use lib.ListN.{length, take, drop, length-append, length-take, length-drop}
 use lib.Seq.{drop-drop}
 use Rattle.font.specs.Font.{Font}
-use Rattle.formula.specs.declared.Opening.{Opening}
-use Rattle.formula.specs.Tree.{Items, Item, nil, cons, noad, kern, itemBytes}
+use Rattle.formula.specs.Tree.{Items, Item, nil, noad, kern}
 use Rattle.formula.specs.Heads.{openingOf}
 use Rattle.formula.specs.Places.{Readable, treeOf, itemSize, itemOf}
 use Rattle.formula.specs.PlacesLaws.{Stepped, step, tree-none, item-bytes}
 use Rattle.rules.specs.declared.Style.{Style}
 use Rattle.rules.specs.Boxes.{Size}
-use Rattle.rules.specs.Classes.{Neighbour, classOf, changedClass}
-use Rattle.rules.specs.Spacing.{spaceBefore}
+use Rattle.rules.specs.Classes.{Neighbour}
 use Rattle.rules.specs.Values.{neighbourAs}
-use Rattle.nodes.specs.Nodes.{Node, bytesInNode}
+use Rattle.nodes.specs.Nodes.{bytesInNode}
 use Rattle.nodes.specs.Drawn.{Drawn, drawn-none, drawn-append}
 use Rattle.walk.specs.declared.lines.Line as lines
 use Rattle.walk.specs.declared.lists.ListSet.the-variants as lists
 use Rattle.walk.specs.declared.lists.Step.the-variants as steps
-use Rattle.walk.specs.Setting.{Line, start, nextClass, setItems, setItem, setList, placed}
+use Rattle.walk.specs.Setting.{Line, start, setItems, setItem, setList, placed}
 use Rattle.walk.specs.Missing.{_orElse_, missingItem, missingItems}
 use Rattle.walk.specs.MissingLaws.{later, missing-item-at}
 use Rattle.walk.specs.Fitting.{itemFits, itemsFit}
-use Rattle.walk.specs.Walked.{LineIs, LineWithin, StartLine, StepWhole, ItemDone, ListDone, addedBy, rightOf}
+use Rattle.walk.specs.Walked.{LineIs, LineWithin, StartLine, ItemDone, ListDone, addedBy, rightOf}
 
 -- the line L has all items before the place, set, and its nodes are at the front of the buffer
 pub record Stands (F : Font) (st : Style) (s b₀ b : List ℕ) (c : lines.Line) : Type 0 where
@@ -153,7 +150,8 @@ module _ (F : Font) (st : Style) (s b₀ b : List ℕ) (l : lines.Line) (a : Alo
           rest = rw (← behind) (p .rest);
           lacks =
               lacks-first
-              ∙ ap (λ (m : Option ℕ). later (l .bytes) m orElse missingItems F st (l .bytes + size) (treeOf (drop size left))) (w .present)
+              ∙ ap (λ (m : Option ℕ). later (l .bytes) m orElse missingItems F st (l .bytes + size) (treeOf (drop size left)))
+              (w .present)
               ∙ ap₂ (λ (n : ℕ) (t : List ℕ). missingItems F st n (treeOf t)) (sym at) behind;
           fits =
               a .fits ∙ ap (λ (t : Items). not (l .large) && itemsFit F st t) (p .tree)

@@ -10,7 +10,7 @@ use mathlib.Core.Path.{_≡_, refl, sym, subst, ap, _∙_}
 use mathlib.Core.Bool.{Bool, true, false, not, _&&_, _||_}
 use mathlib.Core.List.{List, [], _∷_, _++_, append-nil}
 use mathlib.Core.Option.{Option, none, some}
-use Prim.Native.Nat.{ℕ, suc, _+_, _-_, _*_, _^_, _≤_, _<_}
+use Prim.Native.Nat.{ℕ, _+_, _-_, _*_, _^_, _≤_, _<_}
 use native.Mathlib.Omega.{arith}
 use lib.Dec.{leb}
 use lib.IntN.{ℤ, pos, negsuc, natAbs}
@@ -19,7 +19,7 @@ use lib.Seq.{length-take-le, drop-at}
 use borrow.Author.Tests.{leb-true}
 use borrow.Rule.Slice.PartMut.{putMid, take-put}
 use Rattle.scaled.specs.Signed.{Within}
-use Rattle.font.specs.Font.{Font, fontOf}
+use Rattle.font.specs.Font.{Font}
 use Rattle.formula.specs.declared.Kind.{Kind}
 use Rattle.formula.specs.declared.Kind.the-variants.{Atom, Over, Under, Fraction}
 use Rattle.formula.specs.declared.Opening.{Opening}
@@ -59,12 +59,12 @@ use Rattle.walk.specs.declared.lists.Step.the-variants as steps
 use Rattle.walk.specs.declared.lists.LastSet.{LastSet}
 use Rattle.walk.specs.declared.lists.LastSet.the-variants as last
 use Rattle.walk.specs.Setting.{nextClass, ruleNodes}
-use Rattle.walk.specs.Missing.{missingField, missingItem, missingItems}
+use Rattle.walk.specs.Missing.{missingItems}
 use Rattle.walk.specs.Fitting.{fieldFits, itemFits}
-use Rattle.walk.specs.Walked.{longest, Ready, ListGiven, LineGiven, FieldGiven, ItemGiven, LineWithin, PartWithin, EmptyPart, ListDone, FieldWhole, FieldDone, HeadDone, ArrangedLast, SettingWithin, MoveGiven, FrontGiven, ItemGoes, itemFrom, MovedPart, BothRuns, FrontRun, FinishedLine, LastWhole, LastDone, thirdLast, secondLast, ThirdDone, SecondDone, BehindDone, StepDone, ItemDone, rightOf, ruleCount}
+use Rattle.walk.specs.Walked.{longest, Ready, ListGiven, LineGiven, FieldGiven, ItemGiven, LineWithin, PartWithin, EmptyPart, ListDone, FieldWhole, FieldDone, HeadDone, ArrangedLast, SettingWithin, MoveGiven, FrontGiven, ItemGoes, itemFrom, MovedPart, BothRuns, FrontRun, FinishedLine, LastWhole, secondLast, ThirdDone, SecondDone, BehindDone, StepDone, ItemDone, rightOf, ruleCount}
 use Rattle.walk.proofs.ItemLaws.{front-reach, both-within}
 use Rattle.walk.proofs.MissingIn.{missing-in}
-use Rattle.walk.proofs.WalkLaws.{field-empty, field-some, third-whole, second-whole, behind-whole}
+use Rattle.walk.proofs.WalkLaws.{field-empty, third-whole, second-whole, behind-whole}
 use Rattle.walk.proofs.AlongLaws.{Along, along-turn, along-missing}
 
 -- ---- the buffer
@@ -304,7 +304,8 @@ goes-given s kind l g F st st₁ e f a own r total b d bytes n given small w fro
       width = small .arranged .width;
       height = small .arranged .height;
       depth = small .arranged .depth;
-      count = omega (arith, both .count-is, front .count-is, w .small .count, few-rules (lineAs (g .arranged .rule)), u .run-small .count);
+      count = omega
+          (arith, both .count-is, front .count-is, w .small .count, few-rules (lineAs (g .arranged .rule)), u .run-small .count);
       hull = both-within _ both (front-reach small (w .small .hull) front) (u .run-small .hull);
     }
 
@@ -411,7 +412,8 @@ module _ (F : Font) (st : Style) (s : List ℕ) (kind : Kind) (l : lines.Line) w
 
   -- with the first field's nodes in the buffer
   pub first-set : (set : Step) (a : parts.Part) (b b₁ b′ : List ℕ) →
-      FieldDone F (firstStyle kind st) (enlarges kind st) (fieldIn s (openingBytes kind)) (headBytes (headAt s (openingBytes kind))) b (field.Whole a) b₁ →
+      FieldDone F (firstStyle kind st) (enlarges kind st) (fieldIn s (openingBytes kind))
+      (headBytes (headAt s (openingBytes kind))) b (field.Whole a) b₁ →
       length b₁ ≡ length b → BehindDone F st s kind l b₁ set b′ →
       StepDone F st (rightOf s (end s kind)) (itemOf s (Fields kind)) (end s kind) l b set b′
   unfolding itemFits
@@ -442,7 +444,8 @@ module _ (F : Font) (st : Style) (s b₀ b : List ℕ) (l : lines.Line) (a : Alo
       along-turn F st s b₀ b l a more j r c inside place (kept ∙ ap length (tail-part b j))
       (subst (λ (t : List ℕ). ItemDone F st (drop (l .bytes) s) l t (steps.Next c) r) (tail-part b j)
       (subst (λ (t : List ℕ). ItemDone F st t l (take (length b - j) (drop j b)) (steps.Next c) r) (tail-part s (l .bytes))
-      (subst (λ (z : Step). ItemDone F st (take (length s - l .bytes) (drop (l .bytes) s)) l (take (length b - j) (drop j b)) z r) is d))) in
+      (subst (λ (z : Step). ItemDone F st (take (length s - l .bytes) (drop (l .bytes) s)) l (take (length b - j) (drop j b)) z r) is d)))
+      in
       (turn .0, subst (λ (t : List ℕ). Along F st s b₀ t c) (sym (put-back j b r)) (turn .1))
 
   pub along-stop : Readable s → (z : Step) (b₁ r : List ℕ) (place : ℕ) → z ≡ steps.Missing place →

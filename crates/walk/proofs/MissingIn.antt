@@ -11,14 +11,13 @@ use Prim.Native.Nat.{ℕ, zero, suc, _+_, _-_, _≤_, _<_}
 use native.Mathlib.Omega.{arith}
 use lib.ListN.{length, drop, length-drop}
 use Rattle.font.specs.Font.{Font}
-use Rattle.formula.specs.declared.Kind.{Kind}
 use Rattle.formula.specs.declared.Opening.{Opening}
 use Rattle.formula.specs.declared.Opening.the-variants.{NoItem, Fields, Kern}
 use Rattle.formula.specs.declared.FieldHead.{FieldHead}
 use Rattle.formula.specs.declared.FieldHead.the-variants.{NoField, Empty, Symbol, Sublist, CutSublist}
-use Rattle.formula.specs.Tree.{Items, Field, nil, cons, openingBytes, itemBytes, fieldBytes}
+use Rattle.formula.specs.Tree.{cons, openingBytes, itemBytes, fieldBytes}
 use Rattle.formula.specs.Heads.{openingOf}
-use Rattle.formula.specs.Places.{Readable, treeOf, headBytes, contents, fieldOf, GoodField, hasThird, headAt, second, third, end, thirdEnd, itemSize, fieldIn, thirdIn, itemOf, GoodFieldAt, GoodThird, GoodItem}
+use Rattle.formula.specs.Places.{Readable, treeOf, headBytes, contents, fieldOf, GoodField, hasThird, headAt, second, third, thirdEnd, itemSize, fieldIn, thirdIn, itemOf, GoodFieldAt, GoodThird, GoodItem}
 use Rattle.formula.specs.PlacesLaws.{step, tree-none, item-bytes, field-bytes}
 use Rattle.formula.specs.ReadingLaws.{by-length}
 use Rattle.formula.specs.HeadLaws.{contents-shorter}

@@ -6,22 +6,21 @@
 -- The buffer's two parts are joined by `drawn-around`; a part is large where one of its lists is.
 -- Assumes nothing.
 use mathlib.Core.Path.{_≡_, refl, sym, subst, ap, ap₂, _∙_}
-use mathlib.Core.Bool.{Bool, true, false, not, _&&_, _||_, and-true, and-false, and-assoc, or-false}
-use mathlib.Core.List.{List, [], _∷_, _++_}
+use mathlib.Core.Bool.{Bool, true, false, not, _&&_, _||_, and-false, and-assoc, or-false}
+use mathlib.Core.List.{List, _++_}
 use mathlib.Core.Option.{Option, none, some}
-use Prim.Native.Nat.{ℕ, _+_, _-_, _*_, _≤_}
+use Prim.Native.Nat.{ℕ, _+_, _*_, _≤_}
 use native.Mathlib.Omega.{arith}
 use lib.IntN.{ℤ, pos, _+ℤ_}
 use lib.ListN.{length, take, drop, length-append, length-take}
 use Rattle.scaled.specs.Linear.{#, _⊕_, eq-by}
 use Rattle.font.specs.Font.{Font}
 use Rattle.formula.specs.declared.Kind.{Kind}
-use Rattle.formula.specs.Tree.{Items, Item, Field, nil, cons, noad, kern, empty, list, openingBytes, kernBytes, fieldBytes}
-use Rattle.formula.specs.Places.{fieldIn, second, third, end, itemOf, headBytes, headAt, hasThird, GoodFieldAt}
+use Rattle.formula.specs.Tree.{Items, Field, kern, empty, list, openingBytes, kernBytes, fieldBytes}
+use Rattle.formula.specs.Places.{fieldIn, second, third, end, itemOf, GoodFieldAt}
 use Rattle.rules.specs.declared.Style.{Style}
 use Rattle.rules.specs.declared.boxes.Shape.{Shape}
 use Rattle.rules.specs.declared.boxes.Shape.the-variants.{Nothing}
-use Rattle.rules.specs.Parameters.{Parameters}
 use Rattle.formula.specs.declared.Class.{Class}
 use Rattle.formula.specs.declared.Opening.the-variants.{Fields}
 use Rattle.formula.specs.PlacesLaws.{field-bytes}
@@ -45,12 +44,12 @@ use Rattle.walk.specs.declared.lists.ListSet.the-variants as lists
 use Rattle.walk.specs.declared.lists.Step.the-variants as step
 use Rattle.walk.specs.declared.lists.LastSet.{LastSet}
 use Rattle.walk.specs.declared.lists.LastSet.the-variants as last
-use Rattle.walk.specs.Setting.{Line, start, setItems, setItem, setField, setList, emptyPart, placed, itemBox, itemNodes, ruleNodes, beside}
-use Rattle.walk.specs.Missing.{_orElse_, missingField, missingItem, missingItems}
+use Rattle.walk.specs.Setting.{start, setItems, setItem, setField, setList, placed, itemBox, itemNodes, ruleNodes, beside}
+use Rattle.walk.specs.Missing.{_orElse_, missingField, missingItem}
 use Rattle.walk.specs.MissingLaws.{later, missing-items-at, missing-field-at}
 use Rattle.walk.specs.Fitting.{sizeFits, boxFits, fieldFits, itemFits, itemsFit}
-use Rattle.walk.specs.Walked.{PartIs, PartWithin, FieldWhole, FieldDone, EmptyPart, ListPart, ListWhole, ListDone, LineIs, LineWithin, RunIs, RunWithin, MovedPart, BothRuns, SettingIs, SettingWithin, LastWhole, LastDone, ArrangedLast, thirdLast, secondLast, partX, partY, partZ, fieldY, fieldZ, placedNodes, frontNodes, FrontRun, FinishedLine, itemFrom, ItemIsBox, KernedLine, StepWhole, StepDone, BehindDone, rightOf, addedBy, ruleCount}
-use Rattle.walk.proofs.ItemLaws.{rule-nodes, placed-is, moved-run, moved-drawn, both-is, both-within, run-reach, front-reach, item-nodes-at, drawn-around, drawn-take, drawn-kept}
+use Rattle.walk.specs.Walked.{FieldWhole, FieldDone, EmptyPart, ListPart, ListWhole, ListDone, LineIs, LineWithin, RunIs, MovedPart, BothRuns, SettingIs, LastDone, ArrangedLast, thirdLast, secondLast, partX, partY, partZ, fieldY, fieldZ, placedNodes, frontNodes, FrontRun, FinishedLine, itemFrom, ItemIsBox, KernedLine, StepDone, BehindDone, rightOf, ruleCount}
+use Rattle.walk.proofs.ItemLaws.{rule-nodes, placed-is, moved-run, moved-drawn, both-is, both-within, run-reach, item-nodes-at, drawn-around, drawn-take, drawn-kept}
 
 -- ---- tests
 
@@ -183,7 +182,8 @@ module _ (F : Font) (s : Style) (kind : Kind) (right : Neighbour) (l : lines.Lin
       let same : r .large ≡ c .large = m .large-is in
       let Z = partZ F s kind bytes in
       let P = F .parameter in
-      let setting : r .large ≡ false → SettingIs P s kind right (neighbourAs (l .left)) (l .size .width .0) (arrange P s kind (shapeAs x) (shapeAs y) (Z .shape)) g =
+      let setting : r .large ≡ false → SettingIs P s kind right (neighbourAs (l .left)) (l .size .width .0)
+      (arrange P s kind (shapeAs x) (shapeAs y) (Z .shape)) g =
       λ e. rw (← w .is (sym same ∙ e) .shape-is) is in
       let place : (e : r .large ≡ false) → placeAs (g .arranged .third) ≡ arrange P s kind (shapeAs x) (shapeAs y) (Z .shape) .third =
       λ e. ap (λ (A : Arranged). A .third) (setting e .arranged-is) in (
@@ -202,8 +202,9 @@ module _ (F : Font) (s : Style) (kind : Kind) (right : Neighbour) (l : lines.Lin
               rw (← place e) (moved-run c (g .x .0) (placeAs (g .arranged .third)) r b₁ b′ (Z .nodes) m (p .count-is) (p .hull-is));
         },
         λ e.
-        let p = w .is (sym same ∙ e) in
-        rw (← place e) (moved-drawn c (g .x .0) (placeAs (g .arranged .third)) r b₁ b′ (Z .nodes) b m (p .count-is) (drawn (sym same ∙ e))),
+            let p = w .is (sym same ∙ e) in
+            rw (← place e)
+            (moved-drawn c (g .x .0) (placeAs (g .arranged .third)) r b₁ b′ (Z .nodes) b m (p .count-is) (drawn (sym same ∙ e))),
       )
   third-whole y n c (last.Missing place) b b₁ b′ d a = absurd a
 
@@ -254,18 +255,19 @@ module _ (F : Font) (s : Style) (kind : Kind) (right : Neighbour) (l : lines.Lin
               (rw (← like h) (u .run-is (others h)));
         },
         λ h.
-        let q = w .is (first h) in
-        let set = drawn (first h) in
-        let size : length (placedNodes at (A .second) (Y .nodes)) ≡ c .count =
-        ap length (placed-is at (A .second) (Y .nodes)) ∙ length-moved (at +ℤ A .second .across) (A .second .up) (Y .nodes)
-        ∙ sym (q .count-is) in
-        drawn-around {j = j} (placedNodes at (A .second) (Y .nodes)) (placedNodes at (A .third) (Z .nodes)) b b₁ d e kept (omega arith)
-        (λ room. omega (arith, place (omega arith)))
-        (λ room.
-        let j-is : j ≡ bytesInNode * c .count = place (omega arith) in
-        rw j-is (drawn-kept (c .count) (Y .nodes) b b₁ set (omega (arith, q .count-is)) (omega arith)))
-        (rw (← two h) (moved-drawn c at p own (take j b₁) d (Y .nodes) (take j b) moves (q .count-is) (drawn-take j (Y .nodes) b b₁ set)))
-        (rw (← like h) (behind (others h))),
+            let q = w .is (first h) in
+            let set = drawn (first h) in
+            let size : length (placedNodes at (A .second) (Y .nodes)) ≡ c .count =
+            ap length (placed-is at (A .second) (Y .nodes)) ∙ length-moved (at +ℤ A .second .across) (A .second .up) (Y .nodes)
+            ∙ sym (q .count-is) in
+            drawn-around {j = j} (placedNodes at (A .second) (Y .nodes)) (placedNodes at (A .third) (Z .nodes)) b b₁ d e kept
+            (omega arith)
+            (λ room. omega (arith, place (omega arith)))
+            (λ room.
+            let j-is : j ≡ bytesInNode * c .count = place (omega arith) in
+            rw j-is (drawn-kept (c .count) (Y .nodes) b b₁ set (omega (arith, q .count-is)) (omega arith)))
+            (rw (← two h) (moved-drawn c at p own (take j b₁) d (Y .nodes) (take j b) moves (q .count-is) (drawn-take j (Y .nodes) b b₁ set)))
+            (rw (← like h) (behind (others h))),
       )
 
   pub second-missing : (m n k place : ℕ) (c : parts.Part) (b b₁ e : List ℕ) (b₂ b₃ : List ℕ) →
@@ -411,24 +413,31 @@ module _ (F : Font) (s : Style) (kind : Kind) (l : lines.Line) (bytes : List ℕ
               (done .is L (itemBox F s kind X Y Z) (spaceBefore P s (L .left) (g .class)) is x-is box);
         },
         λ h b₀ same set.
-        let g-is = setting h in
-        let q = w .is (first h) in
-        let x-is : at ≡ l .size .width .0 +ℤ spaceBefore P s left (changedClass left (classOf kind) right) =
-        g-is .x-is ∙ ap (λ (k : Class). l .size .width .0 +ℤ spaceBefore P s left k) (g-is .class-is) in
-        let ruled : length (ruleNodes (A .rule)) ≡ rules = rule-nodes P s kind (X .shape) (Y .shape) (Z .shape) ∙ sym count in
-        let size : length (frontNodes at A (X .nodes)) ≡ a .count + rules =
-        omega (arith, length-append (placedNodes at (A .first) (X .nodes)) (moved at (pos 0) (ruleNodes (A .rule))),
-        ap length (placed-is at (A .first) (X .nodes)), length-moved (at +ℤ A .first .across) (A .first .up) (X .nodes),
-        length-moved at (pos 0) (ruleNodes (A .rule)), q .count-is) in
-        let front : Drawn (frontNodes at A (X .nodes)) (take j b₀) d =
-        rw (← g-is .arranged-is) (f .drawn (X .nodes) (take j b₀) (omega (arith, length-take j b, length-take j b₀)) (q .count-is) (drawn-take j (X .nodes) b₀ b set)) in
-        subst (λ (z : ℤ). Drawn (moved z (pos 0) (itemNodes A X Y Z)) b₀ (d ++ e)) x-is
-        (rw nodes (drawn-around {j = j} (frontNodes at A (X .nodes)) behind-nodes b₀ b d e same (omega arith)
-        (λ room. omega (arith, place (omega arith)))
-        (λ room.
-        let j-is : j ≡ bytesInNode * (a .count + rules) = place (omega arith) in
-        rw j-is (drawn-kept (a .count + rules) (X .nodes) b₀ b set (omega (arith, q .count-is)) (omega arith)))
-        front (rw (← like h) (behind (others h))))),
+            let g-is = setting h in
+            let q = w .is (first h) in
+            let x-is : at ≡ l .size .width .0 +ℤ spaceBefore P s left (changedClass left (classOf kind) right) =
+            g-is .x-is ∙ ap (λ (k : Class). l .size .width .0 +ℤ spaceBefore P s left k) (g-is .class-is) in
+            let ruled : length (ruleNodes (A .rule)) ≡ rules = rule-nodes P s kind (X .shape) (Y .shape) (Z .shape) ∙ sym count in
+            let size : length (frontNodes at A (X .nodes)) ≡ a .count + rules =
+            omega (
+              arith,
+              length-append (placedNodes at (A .first) (X .nodes)) (moved at (pos 0) (ruleNodes (A .rule))),
+              ap length (placed-is at (A .first) (X .nodes)),
+              length-moved (at +ℤ A .first .across) (A .first .up) (X .nodes),
+              length-moved at (pos 0) (ruleNodes (A .rule)),
+              q .count-is,
+            ) in
+            let front : Drawn (frontNodes at A (X .nodes)) (take j b₀) d =
+            rw (← g-is .arranged-is)
+            (f .drawn (X .nodes) (take j b₀) (omega (arith, length-take j b, length-take j b₀)) (q .count-is) (drawn-take j (X .nodes) b₀ b set))
+            in
+            subst (λ (z : ℤ). Drawn (moved z (pos 0) (itemNodes A X Y Z)) b₀ (d ++ e)) x-is
+            (rw nodes (drawn-around {j = j} (frontNodes at A (X .nodes)) behind-nodes b₀ b d e same (omega arith)
+            (λ room. omega (arith, place (omega arith)))
+            (λ room.
+            let j-is : j ≡ bytesInNode * (a .count + rules) = place (omega arith) in
+            rw j-is (drawn-kept (a .count + rules) (X .nodes) b₀ b set (omega (arith, q .count-is)) (omega arith)))
+            front (rw (← like h) (behind (others h))))),
       )
 
 -- ---- an item without fields

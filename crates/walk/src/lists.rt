@@ -8,19 +8,40 @@ ghost use Rattle.formula.specs.Places as tree;
 ghost use Rattle.rules.specs.Values.{neighbourAs, parametersIn};
 ghost use Rattle.rules.specs.Bounds.{ModerateShape};
 ghost use Rattle.walk.specs.Walked.{longest, PartWithin, LineWithin, ListGiven, LineGiven, ItemGiven, PlacesAre, FieldGiven, FirstGiven, ListDone, ItemDone, BehindDone, SecondDone, ThirdDone, ArrangedLast, HeadDone};
-
-use formula::{FieldHead, Kind, Opening};
-use formula::heads::{field_head, has_third, opening};
+use crate::items::Run;
+use crate::items::Setting;
+use crate::items::behind;
+use crate::items::finished;
+use crate::items::front;
+use crate::items::moved_part;
+use crate::items::rule_count;
+use crate::items::setting_of;
+use crate::lines::Line;
+use crate::lines::kerned;
+use crate::lines::list_part;
+use crate::lines::start;
+use crate::parts::FieldSet;
+use crate::parts::Part;
+use crate::parts::empty_part;
+use crate::parts::symbol_part;
+use crate::places::Places;
+use crate::places::next_class;
+use crate::places::places_of;
+use formula::FieldHead;
+use formula::Kind;
+use formula::Opening;
+use formula::heads::field_head;
+use formula::heads::has_third;
+use formula::heads::opening;
 use nodes::room;
 use rules::Style;
-use rules::arrange::{enlarges, first_style, second_style, third_style};
+use rules::arrange::enlarges;
+use rules::arrange::first_style;
+use rules::arrange::second_style;
+use rules::arrange::third_style;
 use rules::boxes::Shape;
 use rules::classes::Neighbour;
 use rules::parameters::Parameters;
-use crate::items::{Run, Setting, behind, finished, front, moved_part, rule_count, setting_of};
-use crate::lines::{Line, kerned, list_part, start};
-use crate::parts::{FieldSet, Part, empty_part, symbol_part};
-use crate::places::{Places, next_class, places_of};
 
 // A list, or the place of its first symbol that the font lacks.
 pub enum ListSet {
@@ -76,13 +97,28 @@ fn set_item(table: &[u8], p: Parameters, style: Style, s: &[u8], line: Line, buf
 }
 
 // Sets the first field of an item, and then the others.
-fn set_first(table: &[u8], p: Parameters, style: Style, kind: Kind, s: &[u8], line: Line, buf: &mut [u8]) -> Step
+fn set_first(
+    table: &[u8],
+    p: Parameters,
+    style: Style,
+    kind: Kind,
+    s: &[u8],
+    line: Line,
+    buf: &mut [u8],
+) -> Step
     requires { ⌜ ItemGiven (now table) p (now s) kind × LineGiven line (now s) ⌝ }
     ensures { λ r. ⌜ ItemDone (fontOf (now (table .entry))) style (now (s .entry)) line (now (buf .entry)) r (now (buf .exit)) ⌝ }
 {
     let at = places_of(s, kind);
     let first = at.first;
-    let x = set_field(table, p, first_style(kind, style), enlarges(kind, style), &s[first..], buf);
+    let x = set_field(
+        table,
+        p,
+        first_style(kind, style),
+        enlarges(kind, style),
+        &s[first..],
+        buf,
+    );
     match x {
         FieldSet::Whole(a) => set_behind(table, p, style, kind, s, at, line, a, buf),
         FieldSet::Missing(place) => Step::Missing(first + place),
@@ -90,7 +126,17 @@ fn set_first(table: &[u8], p: Parameters, style: Style, kind: Kind, s: &[u8], li
 }
 
 // Sets the fields behind the first one, whose nodes are at the front of buf, and then moves that and puts the rule.
-fn set_behind(table: &[u8], p: Parameters, style: Style, kind: Kind, s: &[u8], at: Places, line: Line, a: Part, buf: &mut [u8]) -> Step
+fn set_behind(
+    table: &[u8],
+    p: Parameters,
+    style: Style,
+    kind: Kind,
+    s: &[u8],
+    at: Places,
+    line: Line,
+    a: Part,
+    buf: &mut [u8],
+) -> Step
     requires { ⌜ ItemGiven (now table) p (now s) kind × PlacesAre (now s) kind at × LineGiven line (now s) × FirstGiven (now table) style (now s) kind a ⌝ }
     ensures { λ r. ⌜ BehindDone (fontOf (now (table .entry))) style (now (s .entry)) kind line (now (buf .entry)) r (now (buf .exit)) ⌝ }
 {
@@ -107,12 +153,29 @@ fn set_behind(table: &[u8], p: Parameters, style: Style, kind: Kind, s: &[u8], a
 }
 
 // Sets the second field into the front of buf, and the third behind it.
-fn set_second(table: &[u8], p: Parameters, style: Style, kind: Kind, s: &[u8], at: Places, line: Line, x: Shape, buf: &mut [u8]) -> LastSet
+fn set_second(
+    table: &[u8],
+    p: Parameters,
+    style: Style,
+    kind: Kind,
+    s: &[u8],
+    at: Places,
+    line: Line,
+    x: Shape,
+    buf: &mut [u8],
+) -> LastSet
     requires { ⌜ ItemGiven (now table) p (now s) kind × PlacesAre (now s) kind at × LineGiven line (now s) × ModerateShape x ⌝ }
     ensures { λ r. ⌜ SecondDone (fontOf (now (table .entry))) style (now (s .entry)) kind line x (now (buf .entry)) r (now (buf .exit)) ⌝ }
 {
     let second = at.second;
-    let y = set_field(table, p, second_style(kind, style), false, &s[second..], buf);
+    let y = set_field(
+        table,
+        p,
+        second_style(kind, style),
+        false,
+        &s[second..],
+        buf,
+    );
     match y {
         FieldSet::Whole(b) => {
             let j = room(b.count, buf.len());
@@ -132,7 +195,18 @@ fn set_second(table: &[u8], p: Parameters, style: Style, kind: Kind, s: &[u8], a
 }
 
 // Sets the third field, if there is one, into the front of buf. With all three known the item is arranged.
-fn set_third(table: &[u8], p: Parameters, style: Style, kind: Kind, s: &[u8], at: Places, line: Line, x: Shape, y: Shape, buf: &mut [u8]) -> LastSet
+fn set_third(
+    table: &[u8],
+    p: Parameters,
+    style: Style,
+    kind: Kind,
+    s: &[u8],
+    at: Places,
+    line: Line,
+    x: Shape,
+    y: Shape,
+    buf: &mut [u8],
+) -> LastSet
     requires { ⌜ ItemGiven (now table) p (now s) kind × PlacesAre (now s) kind at × LineGiven line (now s) × ModerateShape x × ModerateShape y ⌝ }
     ensures { λ r. ⌜ ThirdDone (fontOf (now (table .entry))) style (now (s .entry)) kind line x y (now (buf .entry)) r (now (buf .exit)) ⌝ }
 {
@@ -151,7 +225,17 @@ fn set_third(table: &[u8], p: Parameters, style: Style, kind: Kind, s: &[u8], at
 }
 
 // The item is arranged, and its third field, at the front of buf, moved to its place.
-fn arranged_last(p: Parameters, style: Style, kind: Kind, right: Neighbour, line: Line, x: Shape, y: Shape, c: Part, buf: &mut [u8]) -> LastSet
+fn arranged_last(
+    p: Parameters,
+    style: Style,
+    kind: Kind,
+    right: Neighbour,
+    line: Line,
+    x: Shape,
+    y: Shape,
+    c: Part,
+    buf: &mut [u8],
+) -> LastSet
     requires { ⌜ LineWithin line × ModerateShape x × ModerateShape y × PartWithin longest c ⌝ }
     ensures { λ r. ⌜ ArrangedLast (parametersIn p) style kind (neighbourAs right) line x y c r (now (buf .entry)) (now (buf .exit)) ⌝ }
 {
@@ -162,7 +246,14 @@ fn arranged_last(p: Parameters, style: Style, kind: Kind, right: Neighbour, line
 }
 
 // Sets the field at the head of s alone, at its own reference point, into the front of buf.
-fn set_field(table: &[u8], p: Parameters, style: Style, enlarge: bool, s: &[u8], buf: &mut [u8]) -> FieldSet
+fn set_field(
+    table: &[u8],
+    p: Parameters,
+    style: Style,
+    enlarge: bool,
+    s: &[u8],
+    buf: &mut [u8],
+) -> FieldSet
     requires { ⌜ FieldGiven (now table) p (now s) ⌝ }
     ensures { λ r. ⌜ HeadDone (fontOf (now (table .entry))) style enlarge (now (s .entry)) (now (buf .entry)) r (now (buf .exit)) ⌝ }
 {

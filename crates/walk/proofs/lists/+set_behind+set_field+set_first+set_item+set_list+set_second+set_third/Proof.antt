@@ -5,8 +5,7 @@
 -- which is one of `WalkLaws` in the terms of the code. The loop's invariant is `Along` of `AlongLaws`.
 -- Assumes nothing.
 use mathlib.Core.Path.{_≡_, refl, sym, subst, ap, _∙_}
-use mathlib.Core.Bool.{Bool, true, false}
-use mathlib.Core.List.{List, _++_}
+use mathlib.Core.Bool.{false}
 use mathlib.Core.Option.{some}
 use Prim.Native.Nat.{ℕ, _+_, _-_, _*_, _≤_, _<_}
 use native.Mathlib.Omega.{arith}
@@ -16,7 +15,7 @@ use borrow.Author.Needs.{needs}
 use borrow.Rule.Slice.PartMut.{putMid, same-len-mid}
 use Rattle.font.specs.Font.{fontOf}
 use Rattle.formula.specs.declared.Opening.the-variants.{NoItem, Fields, Kern}
-use Rattle.formula.specs.declared.FieldHead.the-variants.{NoField, Empty, Symbol, Sublist, CutSublist}
+use Rattle.formula.specs.declared.FieldHead.the-variants.{Empty, Symbol, Sublist}
 use Rattle.formula.specs.Tree.{openingBytes}
 use Rattle.formula.specs.Heads.{openingOf, fieldHead}
 use Rattle.formula.specs.Places.{treeOf, headBytes, headAt, contents, GoodField, hasThird, second, third, end, fieldIn, thirdIn}
@@ -32,7 +31,7 @@ use Rattle.walk.specs.Walked.{FieldDone, ListDone, SecondDone, ThirdDone
 use Rattle.walk.proofs.MissingIn.{missing-field-in}
 use Rattle.walk.proofs.WalkLaws.{field-empty, field-some, list-whole, list-missing, second-missing, second-first-missing, first-missing, behind-missing, no-item, item-kern}
 use Rattle.walk.proofs.AlongLaws.{Along, along-start, along-done}
-use Rattle.walk.proofs.CycleLaws.{Noad, noad-of, front-back, third-good, third-fits, kern-small, field-given, list-given, list-place, tail-given, rest-given, part-more, move-given, front-given, front-few, goes-given, head-done, field-at, third-field, third-none, list-at, right-is, third-set, third-at, second-set, second-at, behind-set, first-set, item-done, along-next, along-stop}
+use Rattle.walk.proofs.CycleLaws.{noad-of, front-back, third-good, third-fits, kern-small, field-given, list-given, list-place, tail-given, rest-given, part-more, move-given, front-given, front-few, goes-given, head-done, field-at, third-field, third-none, list-at, right-is, third-set, third-at, second-set, second-at, behind-set, first-set, item-done, along-next, along-stop}
 use borrow.Fn.Kinds.{In}
 use borrow.Fn.PlainCycle.{Measures, is, falls, and}
 use Rattle.walk.proofs.lists.set_behind.Reads as set-behind
@@ -182,12 +181,17 @@ set-third-claims t = (next-class-reads.Asked, next-class-reads.Learnt, has-third
 -- the fields behind the first are set
 behind-last : (t : ℕ) (c : set-behind-lts.After-last (set-behind-claims t) (set-behind-at t) set-behind.Post) →
     let a = c .before .before .before .before .before .before .before .before .before .before .before .before .args in
-    SecondDone (fontOf (a .table .now)) (a .style) (a .s .now) (a .kind) (a .line) (a .a .shape) (drop (c .before .before .before .before .before .before .room .result) (a .buf .now))
-    (last.Whole (c .last .given .0 .0) (c .last .given .0 .1 .0)) (c .before .before .before .before .set-second .last .1 .1 .1 .1 .1 .1 .1 .1 .0)
+    SecondDone (fontOf (a .table .now)) (a .style) (a .s .now) (a .kind) (a .line) (a .a .shape)
+    (drop (c .before .before .before .before .before .before .room .result) (a .buf .now))
+    (last.Whole (c .last .given .0 .0) (c .last .given .0 .1 .0))
+    (c .before .before .before .before .set-second .last .1 .1 .1 .1 .1 .1 .1 .1 .0)
 behind-last t c =
     let a = c .before .before .before .before .before .before .before .before .before .before .before .before .args in
-    second-at (fontOf (a .table .now)) (a .style) (a .s .now) (a .kind) (a .line) (a .a .shape) (c .before .before .before .before .before .before .room .result) (c .before .before .before .before .set-second .result)
-    (last.Whole (c .last .given .0 .0) (c .last .given .0 .1 .0)) (a .buf .now) (c .before .before .before .before .set-second .last .1 .1 .1 .1 .1 .1 .1 .1 .0) (c .last .given .1) (c .before .before .before .before .set-second .ensures)
+    second-at (fontOf (a .table .now)) (a .style) (a .s .now) (a .kind) (a .line) (a .a .shape)
+    (c .before .before .before .before .before .before .room .result) (c .before .before .before .before .set-second .result)
+    (last.Whole (c .last .given .0 .0) (c .last .given .0 .1 .0)) (a .buf .now)
+    (c .before .before .before .before .set-second .last .1 .1 .1 .1 .1 .1 .1 .1 .0) (c .last .given .1)
+    (c .before .before .before .before .set-second .ensures)
 
 -- the buffer has its length with the part behind the first field back in it
 behind-kept : (t : ℕ) (c : set-behind-lts.After-set-second (set-behind-claims t) (set-behind-at t) set-behind.Post) →
@@ -232,7 +236,7 @@ set-behind-slice-relend-prefix-front : (t : ℕ) → set-behind-lts.Need-slice-r
 set-behind-slice-relend-prefix-front t c = omega (arith, behind-kept t (c .before .before .before .before .before), c .before .before .before .before .before .before .before .room .ensures .0)
 
 set-behind-slice-aggregate-front : (t : ℕ) → set-behind-lts.Need-slice-aggregate-front (set-behind-claims t) (set-behind-at t) set-behind.Post
-set-behind-slice-aggregate-front t c =     sym (length-take-le (c .before .before .before .before .before .before .before .before .room .result) _ (omega (arith, behind-kept t (c .before .before .before .before .before .before), c .before .before .before .before .before .before .before .before .room .ensures .0)))
+set-behind-slice-aggregate-front t c = sym (length-take-le (c .before .before .before .before .before .before .before .before .room .result) _ (omega (arith, behind-kept t (c .before .before .before .before .before .before), c .before .before .before .before .before .before .before .before .room .ensures .0)))
 
 set-behind-front-requires : (t : ℕ) → set-behind-lts.Need-front-requires (set-behind-claims t) (set-behind-at t) set-behind.Post
 set-behind-front-requires t c κs =
@@ -240,22 +244,30 @@ set-behind-front-requires t c κs =
     let p = c .before .before .before .before .before .before .before .before .before .before .before .before .before .before .pre .1 in
     let n = noad-of (p .0) in
     let short = p .0 .list .short in
-    front-given (a .line) (c .before .before .last .given .0 .0) (fontOf (a .table .now)) _ _ _ (headBytes (headAt (a .s .now) (openingBytes (a .kind)))) (a .a) (p .2 .small) (behind-last t (c .before .before) .0 .setting-small) (p .3) (omega arith)
+    front-given (a .line) (c .before .before .last .given .0 .0) (fontOf (a .table .now)) _ _ _
+    (headBytes (headAt (a .s .now) (openingBytes (a .kind)))) (a .a) (p .2 .small)
+    (behind-last t (c .before .before) .0 .setting-small) (p .3) (omega arith)
 
 set-behind-behind-requires : (t : ℕ) → set-behind-lts.Need-behind-requires (set-behind-claims t) (set-behind-at t) set-behind.Post
 set-behind-behind-requires t c κs =
-    let p = c .before .before .before .before .before .before .before .before .before .before .before .before .before .before .before .before .before .pre .1 in
+    let p = c .before .before .before .before .before .before .before .before .before .before .before .before .before .before
+    .before .before .before .pre .1 in
     let n = noad-of (p .0) in
     let short = p .0 .list .short in
     (omega (arith, front-few (c .before .before .front .ensures), p .3 .small .count), omega (arith, behind-last t (c .before .before .before .before .before) .0 .run-small .count))
 
 set-behind-finished-requires : (t : ℕ) → set-behind-lts.Need-finished-requires (set-behind-claims t) (set-behind-at t) set-behind.Post
 set-behind-finished-requires t c κs =
-    let a = c .before .before .before .before .before .before .before .before .before .before .before .before .before .before .before .before .before .before .args in
-    let p = c .before .before .before .before .before .before .before .before .before .before .before .before .before .before .before .before .before .before .pre .1 in
+    let a = c .before .before .before .before .before .before .before .before .before .before .before .before .before .before
+    .before .before .before .before .args in
+    let p = c .before .before .before .before .before .before .before .before .before .before .before .before .before .before
+    .before .before .before .before .pre .1 in
     let u = behind-last t (c .before .before .before .before .before .before) .0 in
-    goes-given (a .s .now) (a .kind) (a .line) (c .before .before .before .before .before .before .last .given .0 .0) (fontOf (a .table .now)) (a .style) _ _ _ (a .a) (c .before .before .before .front .result) (c .before .before .before .before .before .before .last .given .0 .1 .0)
-    (c .behind .result) _ _ (a .at .end) (noad-of (p .0)) (p .2) (u .setting-small) (p .3) (c .before .before .before .front .ensures) (c .behind .ensures) u (p .1 .end-is)
+    goes-given (a .s .now) (a .kind) (a .line) (c .before .before .before .before .before .before .last .given .0 .0)
+    (fontOf (a .table .now)) (a .style) _ _ _ (a .a) (c .before .before .before .front .result)
+    (c .before .before .before .before .before .before .last .given .0 .1 .0)
+    (c .behind .result) _ _ (a .at .end) (noad-of (p .0)) (p .2) (u .setting-small) (p .3)
+    (c .before .before .before .front .ensures) (c .behind .ensures) u (p .1 .end-is)
 
 set-behind-enum-known-last-2 : (t : ℕ) → set-behind-lts.Need-enum-known-last-2 (set-behind-claims t) (set-behind-at t) set-behind.Post
 set-behind-enum-known-last-2 t c = search needs
@@ -263,18 +275,33 @@ set-behind-enum-known-last-2 t c = search needs
 set-behind-same-length : (t : ℕ) → set-behind-lts.Need-same-length (set-behind-claims t) (set-behind-at t) set-behind.Post
 set-behind-same-length t c =
     let j = c .before .before .before .before .before .before .before .before .before .before .before .before .before .room .result in
-    let b = c .before .before .before .before .before .before .before .before .before .before .before .before .before .before .before .before .before .before .before .args .buf .now in
-    front-back j (putMid j (length b - j) b (c .before .before .before .before .before .before .before .before .before .before .before .set-second .last .1 .1 .1 .1 .1 .1 .1 .1 .0)) (c .before .before .before .before .front .last .1 .1 .0) (c .before .before .before .before .front .kept .1 .1 .0) ∙ behind-kept t (c .before .before .before .before .before .before .before .before .before .before .before)
+    let b = c .before .before .before .before .before .before .before .before .before .before .before .before .before .before
+    .before .before .before .before .before .args .buf .now in
+    front-back j
+    (putMid j (length b - j) b (c .before .before .before .before .before .before .before .before .before .before .before .set-second .last .1 .1 .1 .1 .1 .1 .1 .1 .0))
+    (c .before .before .before .before .front .last .1 .1 .0) (c .before .before .before .before .front .kept .1 .1 .0) ∙
+    behind-kept t (c .before .before .before .before .before .before .before .before .before .before .before)
 
 set-behind-returns : (t : ℕ) → set-behind-lts.Need-returns (set-behind-claims t) (set-behind-at t) set-behind.Post
 set-behind-returns t c =
-    let a = c .before .before .before .before .before .before .before .before .before .before .before .before .before .before .before .before .before .before .before .args in
-    let p = c .before .before .before .before .before .before .before .before .before .before .before .before .before .before .before .before .before .before .before .pre .1 in
+    let a = c .before .before .before .before .before .before .before .before .before .before .before .before .before .before
+    .before .before .before .before .before .args in
+    let p = c .before .before .before .before .before .before .before .before .before .before .before .before .before .before
+    .before .before .before .before .before .pre .1 in
     let r = c .before .before .before .before .before .before .before .before .before .before .before .before .before .room in
-    behind-set (fontOf (a .table .now)) (a .style) (a .s .now) (a .kind) (a .line) (r .result) (c .before .before .before .before .before .before .before .before .before .before .before .before .before .before .before .rule-count .result) (a .at .end) (parametersIn (a .p)) (a .a)
-    (c .before .before .before .before .before .before .before .last .given .0 .0) (c .before .before .before .before .before .before .before .last .given .0 .1 .0) (c .before .before .before .before .front .result) (c .before .behind .result) (c .finished .result) (a .buf .now) (c .before .before .before .before .front .last .1 .1 .0)
-    (c .before .before .before .before .before .before .before .before .before .before .before .set-second .last .1 .1 .1 .1 .1 .1 .1 .1 .0) (noad-of (p .0)) (p .3) (r .ensures .0) (r .ensures .1) (c .before .before .before .before .before .before .before .before .before .before .before .before .before .before .before .rule-count .ensures .0) (p .0 .list .ready .parameters-are)
-    (behind-last t (c .before .before .before .before .before .before .before)) (c .before .before .before .before .front .ensures) (c .before .behind .ensures) (p .1 .end-is) (c .finished .ensures)
+    behind-set (fontOf (a .table .now)) (a .style) (a .s .now) (a .kind) (a .line) (r .result)
+    (c .before .before .before .before .before .before .before .before .before .before .before .before .before .before .before .rule-count .result)
+    (a .at .end) (parametersIn (a .p)) (a .a)
+    (c .before .before .before .before .before .before .before .last .given .0 .0)
+    (c .before .before .before .before .before .before .before .last .given .0 .1 .0)
+    (c .before .before .before .before .front .result) (c .before .behind .result) (c .finished .result) (a .buf .now)
+    (c .before .before .before .before .front .last .1 .1 .0)
+    (c .before .before .before .before .before .before .before .before .before .before .before .set-second .last .1 .1 .1 .1 .1 .1 .1 .1 .0)
+    (noad-of (p .0)) (p .3) (r .ensures .0) (r .ensures .1)
+    (c .before .before .before .before .before .before .before .before .before .before .before .before .before .before .before .rule-count .ensures .0)
+    (p .0 .list .ready .parameters-are)
+    (behind-last t (c .before .before .before .before .before .before .before))
+    (c .before .before .before .before .front .ensures) (c .before .behind .ensures) (p .1 .end-is) (c .finished .ensures)
 
 set-behind-same-length-2 : (t : ℕ) → set-behind-lts.Need-same-length-2 (set-behind-claims t) (set-behind-at t) set-behind.Post
 set-behind-same-length-2 t c = behind-kept t (c .before .before .before .before .before)
@@ -287,7 +314,9 @@ set-behind-returns-2 t c =
     let F = fontOf (a .table .now) in
     let j = c .before .before .before .before .before .before .before .room .result in
     let e = c .before .before .before .before .before .set-second .last .1 .1 .1 .1 .1 .1 .1 .1 .0 in
-    behind-missing F (a .style) (a .kind) (a .line) (a .s .now) (n .x) (n .y) _ (end (a .s .now) (a .kind) - second (a .s .now) (a .kind)) (c .before .last2 .given .0 .0) (a .a) (rightOf (a .s .now) (end (a .s .now) (a .kind)))
+    behind-missing F (a .style) (a .kind) (a .line) (a .s .now) (n .x) (n .y) _
+    (end (a .s .now) (a .kind) - second (a .s .now) (a .kind)) (c .before .last2 .given .0 .0) (a .a)
+    (rightOf (a .s .now) (end (a .s .now) (a .kind)))
     (drop j (a .buf .now)) e (p .3)
     (second-at F (a .style) (a .s .now) (a .kind) (a .line) (a .a .shape) j (c .before .before .before .before .before .set-second .result) (last.Missing (c .before .last2 .given .0 .0)) (a .buf .now) e
     (c .before .last2 .given .1) (c .before .before .before .before .before .set-second .ensures))
@@ -305,7 +334,8 @@ list-fits t c = head-fits (c .before .before .before .before .before .before .ar
 list-set : (t : ℕ) (c : set-field-lts.After-l (set-field-claims t) (set-field-at t) set-field.Post) →
     let a = c .before .before .before .before .before .before .before .before .before .before .before .before .before .before .args in
     let n = c .before .before .before .before .before .before .before .before .head2 .given .0 .0 in
-    ListDone (fontOf (a .table .now)) (a .style) (treeOf (contents n (a .s .now))) n (a .buf .now) (lists.Whole (c .l .given .0 .0)) (c .before .before .before .before .set-list .last .1 .1 .1 .1 .0)
+    ListDone (fontOf (a .table .now)) (a .style) (treeOf (contents n (a .s .now))) n (a .buf .now)
+    (lists.Whole (c .l .given .0 .0)) (c .before .before .before .before .set-list .last .1 .1 .1 .1 .0)
 list-set t c = list-at _ _ _ _ _ (c .before .before .before .before .set-list .result) (lists.Whole (c .l .given .0 .0)) _ (list-head t (c .before .before .before .before .before .before .before .before)) (c .l .given .1) (c .before .before .before .before .set-list .ensures)
 
 list-lacks : (t : ℕ) (c : set-field-lts.After-l2 (set-field-claims t) (set-field-at t) set-field.Post) →
@@ -314,7 +344,12 @@ list-lacks : (t : ℕ) (c : set-field-lts.After-l2 (set-field-claims t) (set-fie
     missingItems (fontOf (a .table .now)) (a .style) 0 (treeOf (contents n (a .s .now))) ≡ some (c .l2 .given .0 .0)
 list-lacks t c =
     let a = c .before .before .before .before .before .before .before .before .before .before .before .before .before .before .args in
-    list-at (fontOf (a .table .now)) (a .style) (a .s .now) (c .before .before .before .before .before .before .before .before .head2 .given .0 .0) (a .buf .now) (c .before .before .before .before .set-list .result) (lists.Missing (c .l2 .given .0 .0)) (c .before .before .before .before .set-list .last .1 .1 .1 .1 .0) (list-head t (c .before .before .before .before .before .before .before .before)) (c .l2 .given .1) (c .before .before .before .before .set-list .ensures)
+    list-at (fontOf (a .table .now)) (a .style) (a .s .now)
+    (c .before .before .before .before .before .before .before .before .head2 .given .0 .0) (a .buf .now)
+    (c .before .before .before .before .set-list .result) (lists.Missing (c .l2 .given .0 .0))
+    (c .before .before .before .before .set-list .last .1 .1 .1 .1 .0)
+    (list-head t (c .before .before .before .before .before .before .before .before)) (c .l2 .given .1)
+    (c .before .before .before .before .set-list .ensures)
 
 set-field-field-head-requires : (t : ℕ) → set-field-lts.Need-field-head-requires (set-field-claims t) (set-field-at t) set-field.Post
 set-field-field-head-requires t c κs = search needs
@@ -353,7 +388,7 @@ set-field-part-set-list-end : (t : ℕ) → set-field-lts.Need-part-set-list-end
 set-field-part-set-list-end t c = omega (arith, list-fits t (c .before))
 
 set-field-set-list-requires : (t : ℕ) → set-field-lts.Need-set-list-requires (set-field-claims t) (set-field-at t) set-field.Post
-set-field-set-list-requires t c κs =     (omega (arith, c .before .set-list-arg .given .2, list-fits t (c .before .before .before)), list-given _ _ _ _ (c .before .before .before .before .before .before .before .before .before .pre .1) (list-head t (c .before .before .before)))
+set-field-set-list-requires t c κs = (omega (arith, c .before .set-list-arg .given .2, list-fits t (c .before .before .before)), list-given _ _ _ _ (c .before .before .before .before .before .before .before .before .before .pre .1) (list-head t (c .before .before .before)))
 
 set-field-enum-known-l : (t : ℕ) → set-field-lts.Need-enum-known-l (set-field-claims t) (set-field-at t) set-field.Post
 set-field-enum-known-l t c = search needs
@@ -366,8 +401,10 @@ set-field-enum-known-l-2 t c = search needs
 
 set-field-add-t28 : (t : ℕ) → set-field-lts.Need-add-t28 (set-field-claims t) (set-field-at t) set-field.Post
 set-field-add-t28 t c =
-    let a = c .before .before .before .before .before .before .before .before .before .before .before .before .before .before .before .args in
-    omega (arith, list-place (fontOf (a .table .now)) (a .style) (a .s .now) _ _ (c .before .before .before .before .before .before .before .before .before .before .before .before .before .before .before .pre .1) (list-head t (c .before .before .before .before .before .before .before .before .before)) (list-lacks t (c .before)))
+    let a = c .before .before .before .before .before .before .before .before .before .before .before .before .before .before
+    .before .args in
+    omega
+    (arith, list-place (fontOf (a .table .now)) (a .style) (a .s .now) _ _ (c .before .before .before .before .before .before .before .before .before .before .before .before .before .before .before .pre .1) (list-head t (c .before .before .before .before .before .before .before .before .before)) (list-lacks t (c .before)))
 
 set-field-enum-told-3 : (t : ℕ) → set-field-lts.Need-enum-told-3 (set-field-claims t) (set-field-at t) set-field.Post
 set-field-enum-told-3 t c = search needs
@@ -393,20 +430,25 @@ set-field-returns-3 : (t : ℕ) → set-field-lts.Need-returns-3 (set-field-clai
 set-field-returns-3 t c =
     let a = c .before .before .before .before .before .before .before .before .before .before .before .args in
     let h = c .before .before .before .before .before .head .given in
-    head-done (fontOf (a .table .now)) (a .style) (a .enlarge) (a .s .now) (Symbol (h .0 .0) (h .0 .1 .0)) (a .buf .now) (c .before .before .symbol-part .result)
-    (c .before .before .symbol-part .last .1 .1 .1 .1 .1 .0) (sym (c .before .before .before .before .before .before .before .field-head .ensures) ∙ h .1) (c .before .before .symbol-part .ensures)
+    head-done (fontOf (a .table .now)) (a .style) (a .enlarge) (a .s .now) (Symbol (h .0 .0) (h .0 .1 .0)) (a .buf .now)
+    (c .before .before .symbol-part .result)
+    (c .before .before .symbol-part .last .1 .1 .1 .1 .1 .0)
+    (sym (c .before .before .before .before .before .before .before .field-head .ensures) ∙ h .1)
+    (c .before .before .symbol-part .ensures)
 
 set-field-same-length-2 : (t : ℕ) → set-field-lts.Need-same-length-2 (set-field-claims t) (set-field-at t) set-field.Post
 set-field-same-length-2 t c = c .before .before .before .before .before .before .set-list .kept .1 .1 .1 .1 .0
 
 set-field-returns-4 : (t : ℕ) → set-field-lts.Need-returns-4 (set-field-claims t) (set-field-at t) set-field.Post
 set-field-returns-4 t c =
-    let a = c .before .before .before .before .before .before .before .before .before .before .before .before .before .before .before .before .args in
+    let a = c .before .before .before .before .before .before .before .before .before .before .before .before .before .before
+    .before .before .args in
     let F = fontOf (a .table .now) in
     let n = c .before .before .before .before .before .before .before .before .before .before .head2 .given .0 .0 in
     let r = c .list-part .result in
     let b′ = c .before .before .before .before .before .before .set-list .last .1 .1 .1 .1 .0 in
-    head-done F (a .style) (a .enlarge) (a .s .now) (Sublist n) (a .buf .now) (field.Whole r) b′ (list-head t (c .before .before .before .before .before .before .before .before .before .before))
+    head-done F (a .style) (a .enlarge) (a .s .now) (Sublist n) (a .buf .now) (field.Whole r) b′
+    (list-head t (c .before .before .before .before .before .before .before .before .before .before))
     (list-whole F (a .style) (a .enlarge) (treeOf (contents n (a .s .now))) n (a .buf .now) b′ (c .before .before .l .given .0 .0) r (list-set t (c .before .before)) (c .list-part .ensures))
 
 set-field-same-length-3 : (t : ℕ) → set-field-lts.Need-same-length-3 (set-field-claims t) (set-field-at t) set-field.Post
@@ -414,12 +456,14 @@ set-field-same-length-3 t c = c .before .before .before .before .before .set-lis
 
 set-field-returns-5 : (t : ℕ) → set-field-lts.Need-returns-5 (set-field-claims t) (set-field-at t) set-field.Post
 set-field-returns-5 t c =
-    let a = c .before .before .before .before .before .before .before .before .before .before .before .before .before .before .before .args in
+    let a = c .before .before .before .before .before .before .before .before .before .before .before .before .before .before
+    .before .args in
     let F = fontOf (a .table .now) in
     let n = c .before .before .before .before .before .before .before .before .before .head2 .given .0 .0 in
     let place = c .before .l2 .given .0 .0 in
     let b′ = c .before .before .before .before .before .set-list .last .1 .1 .1 .1 .0 in
-    head-done F (a .style) (a .enlarge) (a .s .now) (Sublist n) (a .buf .now) (field.Missing (3 + place)) b′ (list-head t (c .before .before .before .before .before .before .before .before .before))
+    head-done F (a .style) (a .enlarge) (a .s .now) (Sublist n) (a .buf .now) (field.Missing (3 + place)) b′
+    (list-head t (c .before .before .before .before .before .before .before .before .before))
     (list-missing F (a .style) (a .enlarge) (treeOf (contents n (a .s .now))) n place (a .buf .now) b′ (list-lacks t (c .before)))
 
 set-field-returns-6 : (t : ℕ) → set-field-lts.Need-returns-6 (set-field-claims t) (set-field-at t) set-field.Post
@@ -432,23 +476,37 @@ first-field : (t : ℕ) (c : set-first-lts.After-x (set-first-claims t) (set-fir
     let a = c .before .before .before .before .before .before .before .before .before .before .before .before .before .args in
     let k = openingBytes (a .kind) in
     FieldDone (fontOf (a .table .now)) (firstStyle (a .kind) (a .style)) (enlarges (a .kind) (a .style)) (fieldIn (a .s .now) k)
-    (headBytes (headAt (a .s .now) k)) (a .buf .now) (field.Whole (c .x .given .0 .0)) (c .before .before .before .before .set-field .last .1 .1 .1 .1 .1 .0)
+    (headBytes (headAt (a .s .now) k)) (a .buf .now) (field.Whole (c .x .given .0 .0))
+    (c .before .before .before .before .set-field .last .1 .1 .1 .1 .1 .0)
 first-field t c =
     let a = c .before .before .before .before .before .before .before .before .before .before .before .before .before .args in
-    field-at (fontOf (a .table .now)) (c .before .before .before .before .before .before .before .before .first-style .result) _ (c .before .before .before .before .before .before .before .enlarges .result) _ (a .s .now) (c .before .before .before .before .before .before .before .before .before .places-of .result .first) (openingBytes (a .kind))
-    (a .buf .now) (c .before .before .before .before .set-field .result) (field.Whole (c .x .given .0 .0)) (c .before .before .before .before .set-field .last .1 .1 .1 .1 .1 .0) (c .before .before .before .before .before .before .before .before .first-style .ensures)
-    (c .before .before .before .before .before .before .before .enlarges .ensures) (c .before .before .before .before .before .before .before .before .before .places-of .ensures .first-is) (c .x .given .1) (c .before .before .before .before .set-field .ensures)
+    field-at (fontOf (a .table .now)) (c .before .before .before .before .before .before .before .before .first-style .result) _
+    (c .before .before .before .before .before .before .before .enlarges .result) _ (a .s .now)
+    (c .before .before .before .before .before .before .before .before .before .places-of .result .first) (openingBytes (a .kind))
+    (a .buf .now) (c .before .before .before .before .set-field .result) (field.Whole (c .x .given .0 .0))
+    (c .before .before .before .before .set-field .last .1 .1 .1 .1 .1 .0)
+    (c .before .before .before .before .before .before .before .before .first-style .ensures)
+    (c .before .before .before .before .before .before .before .enlarges .ensures)
+    (c .before .before .before .before .before .before .before .before .before .places-of .ensures .first-is) (c .x .given .1)
+    (c .before .before .before .before .set-field .ensures)
 
 first-lacks : (t : ℕ) (c : set-first-lts.After-x2 (set-first-claims t) (set-first-at t) set-first.Post) →
     let a = c .before .before .before .before .before .before .before .before .before .before .before .before .before .args in
     let k = openingBytes (a .kind) in
     FieldDone (fontOf (a .table .now)) (firstStyle (a .kind) (a .style)) (enlarges (a .kind) (a .style)) (fieldIn (a .s .now) k)
-    (headBytes (headAt (a .s .now) k)) (a .buf .now) (field.Missing (c .x2 .given .0 .0)) (c .before .before .before .before .set-field .last .1 .1 .1 .1 .1 .0)
+    (headBytes (headAt (a .s .now) k)) (a .buf .now) (field.Missing (c .x2 .given .0 .0))
+    (c .before .before .before .before .set-field .last .1 .1 .1 .1 .1 .0)
 first-lacks t c =
     let a = c .before .before .before .before .before .before .before .before .before .before .before .before .before .args in
-    field-at (fontOf (a .table .now)) (c .before .before .before .before .before .before .before .before .first-style .result) _ (c .before .before .before .before .before .before .before .enlarges .result) _ (a .s .now) (c .before .before .before .before .before .before .before .before .before .places-of .result .first) (openingBytes (a .kind))
-    (a .buf .now) (c .before .before .before .before .set-field .result) (field.Missing (c .x2 .given .0 .0)) (c .before .before .before .before .set-field .last .1 .1 .1 .1 .1 .0) (c .before .before .before .before .before .before .before .before .first-style .ensures)
-    (c .before .before .before .before .before .before .before .enlarges .ensures) (c .before .before .before .before .before .before .before .before .before .places-of .ensures .first-is) (c .x2 .given .1) (c .before .before .before .before .set-field .ensures)
+    field-at (fontOf (a .table .now)) (c .before .before .before .before .before .before .before .before .first-style .result) _
+    (c .before .before .before .before .before .before .before .enlarges .result) _ (a .s .now)
+    (c .before .before .before .before .before .before .before .before .before .places-of .result .first) (openingBytes (a .kind))
+    (a .buf .now) (c .before .before .before .before .set-field .result) (field.Missing (c .x2 .given .0 .0))
+    (c .before .before .before .before .set-field .last .1 .1 .1 .1 .1 .0)
+    (c .before .before .before .before .before .before .before .before .first-style .ensures)
+    (c .before .before .before .before .before .before .before .enlarges .ensures)
+    (c .before .before .before .before .before .before .before .before .before .places-of .ensures .first-is) (c .x2 .given .1)
+    (c .before .before .before .before .set-field .ensures)
 
 set-first-places-of-requires : (t : ℕ) → set-first-lts.Need-places-of-requires (set-first-claims t) (set-first-at t) set-first.Post
 set-first-places-of-requires t c κs = let given = c .before .before .before .pre .1 .0 in record { opens = given .opens; short = given .list .short }
@@ -488,7 +546,7 @@ set-first-enum-known-x : (t : ℕ) → set-first-lts.Need-enum-known-x (set-firs
 set-first-enum-known-x t c = search needs
 
 set-first-set-behind-requires : (t : ℕ) → set-first-lts.Need-set-behind-requires (set-first-claims t) (set-first-at t) set-first.Post
-set-first-set-behind-requires t c κs =     (omega arith, (c .before .before .before .before .before .before .before .before .before .before .before .before .before .before .before .pre .1 .0, c .before .before .before .before .before .before .before .before .before .before .before .places-of .ensures, c .before .before .before .before .before .before .before .before .before .before .before .before .before .before .before .pre .1 .1, first-field t (c .before .before) .0))
+set-first-set-behind-requires t c κs = (omega arith, (c .before .before .before .before .before .before .before .before .before .before .before .before .before .before .before .pre .1 .0, c .before .before .before .before .before .before .before .before .before .before .before .places-of .ensures, c .before .before .before .before .before .before .before .before .before .before .before .before .before .before .before .pre .1 .1, first-field t (c .before .before) .0))
 
 set-first-enum-known-x-2 : (t : ℕ) → set-first-lts.Need-enum-known-x-2 (set-first-claims t) (set-first-at t) set-first.Post
 set-first-enum-known-x-2 t c = search needs
@@ -496,23 +554,27 @@ set-first-enum-known-x-2 t c = search needs
 set-first-add-t24 : (t : ℕ) → set-first-lts.Need-add-t24 (set-first-claims t) (set-first-at t) set-first.Post
 set-first-add-t24 t c =
     let a = c .before .before .before .before .before .before .before .before .before .before .before .before .before .before .args in
-    let given = c .before .before .before .before .before .before .before .before .before .before .before .before .before .before .pre .1 .0 in
+    let given = c .before .before .before .before .before .before .before .before .before .before .before .before .before .before
+    .pre .1 .0 in
     let n = noad-of given in
     let is = c .before .before .before .before .before .before .before .before .before .before .places-of .ensures .first-is in
     let short = given .list .short in
-    omega (arith, missing-field-in (fontOf (a .table .now)) (a .s .now) (openingBytes (a .kind)) (n .x) (firstStyle (a .kind) (a .style)) (enlarges (a .kind) (a .style)) (c .before .x2 .given .0 .0) (first-lacks t (c .before)))
+    omega
+    (arith, missing-field-in (fontOf (a .table .now)) (a .s .now) (openingBytes (a .kind)) (n .x) (firstStyle (a .kind) (a .style)) (enlarges (a .kind) (a .style)) (c .before .x2 .given .0 .0) (first-lacks t (c .before)))
 
 set-first-same-length : (t : ℕ) → set-first-lts.Need-same-length (set-first-claims t) (set-first-at t) set-first.Post
 set-first-same-length t c = c .before .before .set-behind .kept .1 .1 .1 .1 .1 .1 .1 .1 .0 ∙ c .before .before .before .before .before .before .before .before .before .set-field .kept .1 .1 .1 .1 .1 .0
 
 set-first-returns : (t : ℕ) → set-first-lts.Need-returns (set-first-claims t) (set-first-at t) set-first.Post
 set-first-returns t c =
-    let a = c .before .before .before .before .before .before .before .before .before .before .before .before .before .before .before .before .before .before .args in
+    let a = c .before .before .before .before .before .before .before .before .before .before .before .before .before .before
+    .before .before .before .before .args in
     let F = fontOf (a .table .now) in
     let b = a .buf .now in
     let b₁ = c .before .before .before .before .before .before .before .before .before .set-field .last .1 .1 .1 .1 .1 .0 in
     let z = c .before .before .set-behind in
-    item-done F (a .style) (a .s .now) (a .line) (Fields (a .kind)) b (z .result) (z .last .1 .1 .1 .1 .1 .1 .1 .1 .0) (c .before .before .before .before .before .before .before .before .before .before .before .before .before .before .before .before .before .before .pre .1 .0 .opens)
+    item-done F (a .style) (a .s .now) (a .line) (Fields (a .kind)) b (z .result) (z .last .1 .1 .1 .1 .1 .1 .1 .1 .0)
+    (c .before .before .before .before .before .before .before .before .before .before .before .before .before .before .before .before .before .before .pre .1 .0 .opens)
     (first-set F (a .style) (a .s .now) (a .kind) (a .line) (z .result) (c .before .before .before .before .before .x .given .0 .0) b b₁ (z .last .1 .1 .1 .1 .1 .1 .1 .1 .0) (first-field t (c .before .before .before .before .before)) (c .before .before .before .before .before .before .before .before .before .set-field .kept .1 .1 .1 .1 .1 .0) (z .ensures))
 
 set-first-same-length-2 : (t : ℕ) → set-first-lts.Need-same-length-2 (set-first-claims t) (set-first-at t) set-first.Post
@@ -523,12 +585,18 @@ set-first-returns-2 t c =
     let a = c .before .before .before .before .before .before .before .before .before .before .before .before .before .before .args in
     let F = fontOf (a .table .now) in
     let b = a .buf .now in
-    let n = noad-of (c .before .before .before .before .before .before .before .before .before .before .before .before .before .before .pre .1 .0) in
+    let n = noad-of
+    (c .before .before .before .before .before .before .before .before .before .before .before .before .before .before .pre .1 .0)
+    in
     let place = c .before .x2 .given .0 .0 in
     let b₁ = c .before .before .before .before .before .set-field .last .1 .1 .1 .1 .1 .0 in
-    item-done F (a .style) (a .s .now) (a .line) (Fields (a .kind)) b (steps.Missing (c .before .before .before .before .before .before .before .before .before .before .places-of .result .first + place)) b₁ (c .before .before .before .before .before .before .before .before .before .before .before .before .before .before .pre .1 .0 .opens)
+    item-done F (a .style) (a .s .now) (a .line) (Fields (a .kind)) b
+    (steps.Missing (c .before .before .before .before .before .before .before .before .before .before .places-of .result .first + place))
+    b₁
+    (c .before .before .before .before .before .before .before .before .before .before .before .before .before .before .pre .1 .0 .opens)
     (first-missing F (a .style) (a .kind) (a .line) (a .s .now) (n .x) (n .y) 0 place b b₁ (first-lacks t (c .before))
-    ∙ ap (λ (k : ℕ). some (k + place)) (sym (c .before .before .before .before .before .before .before .before .before .before .places-of .ensures .first-is)))
+    ∙ ap (λ (k : ℕ). some (k + place))
+    (sym (c .before .before .before .before .before .before .before .before .before .before .places-of .ensures .first-is)))
 
 -- ---- set_item
 
@@ -542,7 +610,7 @@ set-item-enum-known-o : (t : ℕ) → set-item-lts.Need-enum-known-o (set-item-c
 set-item-enum-known-o t c = search needs
 
 set-item-set-first-requires : (t : ℕ) → set-item-lts.Need-set-first-requires (set-item-claims t) (set-item-at t) set-item.Post
-set-item-set-first-requires t c κs =     (omega arith, (record { list = c .before .before .before .before .before .before .before .before .pre .1 .0; opens = sym (c .before .before .before .before .opening .ensures) ∙ c .before .before .o .given .1 }, c .before .before .before .before .before .before .before .before .pre .1 .1))
+set-item-set-first-requires t c κs = (omega arith, (record { list = c .before .before .before .before .before .before .before .before .pre .1 .0; opens = sym (c .before .before .before .before .opening .ensures) ∙ c .before .before .o .given .1 }, c .before .before .before .before .before .before .before .before .pre .1 .1))
 
 set-item-enum-known-o-2 : (t : ℕ) → set-item-lts.Need-enum-known-o-2 (set-item-claims t) (set-item-at t) set-item.Post
 set-item-enum-known-o-2 t c = search needs
@@ -562,7 +630,8 @@ set-item-returns t c =
     let F = fontOf (a .table .now) in
     let s = a .s .now in
     let b = a .buf .now in
-    item-done F (a .style) s (a .line) NoItem b (steps.Next (a .line)) b (sym (c .before .before .opening .ensures) ∙ c .enum-told .given .1)
+    item-done F (a .style) s (a .line) NoItem b (steps.Next (a .line)) b
+    (sym (c .before .before .opening .ensures) ∙ c .enum-told .given .1)
     (no-item F (a .style) (rightOf s 0) (a .line) b (c .before .before .before .before .before .before .pre .1 .1 .small))
 
 set-item-same-length : (t : ℕ) → set-item-lts.Need-same-length (set-item-claims t) (set-item-at t) set-item.Post
@@ -578,7 +647,8 @@ set-item-returns-3 t c =
     let s = a .s .now in
     let b = a .buf .now in
     let n = c .before .before .o2 .given .0 .0 in
-    item-done F (a .style) s (a .line) (Kern n) b (steps.Next (c .kerned .result)) b (sym (c .before .before .before .before .opening .ensures) ∙ c .before .before .o2 .given .1)
+    item-done F (a .style) s (a .line) (Kern n) b (steps.Next (c .kerned .result)) b
+    (sym (c .before .before .before .before .opening .ensures) ∙ c .before .before .o2 .given .1)
     (item-kern F (a .style) (rightOf s 6) (a .line) b (n .0) (c .kerned .result) (c .kerned .ensures))
 
 -- ---- set_list
@@ -592,30 +662,41 @@ set-list-μ-loop table p style s buf₀ line₀ buf line = length s - line .byte
 -- a turn of the loop: an item is set, or lacks a symbol
 turn-next : (t : ℕ) (c : set-list-lts.After-step (set-list-claims t) (set-list-at t) set-list.Post set-list-Inv-loop set-list-μ-loop) →
     let o = c .before .before .before .before .before .before .before .before .before .before .loop in
-    let a = c .before .before .before .before .before .before .before .before .before .before .before .before .before .before .before .args in
+    let a = c .before .before .before .before .before .before .before .before .before .before .before .before .before .before
+    .before .args in
     let j = c .before .before .before .before .before .before .before .room .result in
     (o .line .bytes < c .step .given .0 .0 .bytes)
-    × Along (fontOf (a .table .now)) (a .style) (a .s .now) (a .buf .now) (putMid j (length (o .buf) - j) (o .buf) (c .before .before .before .before .set-item .last .1 .1 .1 .1 .1 .0)) (c .step .given .0 .0)
+    × Along (fontOf (a .table .now)) (a .style) (a .s .now) (a .buf .now)
+    (putMid j (length (o .buf) - j) (o .buf) (c .before .before .before .before .set-item .last .1 .1 .1 .1 .1 .0))
+    (c .step .given .0 .0)
 turn-next t c =
     let o = c .before .before .before .before .before .before .before .before .before .before .loop in
-    let a = c .before .before .before .before .before .before .before .before .before .before .before .before .before .before .before .args in
+    let a = c .before .before .before .before .before .before .before .before .before .before .before .before .before .before
+    .before .args in
     let r = c .before .before .before .before .before .before .before .room in
     let z = c .before .before .before .before .set-item in
-    along-next (fontOf (a .table .now)) (a .style) (a .s .now) (a .buf .now) (o .buf) (o .line) (o .inv) (c .before .before .before .before .before .before .before .before .if1 .taken) (r .result) (z .result) (z .last .1 .1 .1 .1 .1 .0) (c .step .given .0 .0)
+    along-next (fontOf (a .table .now)) (a .style) (a .s .now) (a .buf .now) (o .buf) (o .line) (o .inv)
+    (c .before .before .before .before .before .before .before .before .if1 .taken) (r .result) (z .result)
+    (z .last .1 .1 .1 .1 .1 .0) (c .step .given .0 .0)
     (c .step .given .1) (r .ensures .0) (r .ensures .1) (z .kept .1 .1 .1 .1 .1 .0) (z .ensures)
 
 turn-stop : (t : ℕ) (c : set-list-lts.After-step2 (set-list-claims t) (set-list-at t) set-list.Post set-list-Inv-loop set-list-μ-loop) →
     let o = c .before .before .before .before .before .before .before .before .before .before .loop in
-    let a = c .before .before .before .before .before .before .before .before .before .before .before .before .before .before .before .args in
+    let a = c .before .before .before .before .before .before .before .before .before .before .before .before .before .before
+    .before .args in
     let place = o .line .bytes + c .step2 .given .0 .0 in
     (missingItems (fontOf (a .table .now)) (a .style) 0 (treeOf (a .s .now)) ≡ some place) × (place ≤ length (a .s .now))
 turn-stop t c =
     let o = c .before .before .before .before .before .before .before .before .before .before .loop in
-    let a = c .before .before .before .before .before .before .before .before .before .before .before .before .before .before .before .args in
+    let a = c .before .before .before .before .before .before .before .before .before .before .before .before .before .before
+    .before .args in
     let z = c .before .before .before .before .set-item in
     let j = c .before .before .before .before .before .before .before .room .result in
-    along-stop (fontOf (a .table .now)) (a .style) (a .s .now) (a .buf .now) (o .buf) (o .line) (o .inv) (c .before .before .before .before .before .before .before .before .if1 .taken) (c .before .before .before .before .before .before .before .before .before .before .before .before .before .before .before .pre .1 .readable)
-    (z .result) (take (length (o .buf) - j) (drop j (o .buf))) (z .last .1 .1 .1 .1 .1 .0) (c .step2 .given .0 .0) (c .step2 .given .1) (z .ensures)
+    along-stop (fontOf (a .table .now)) (a .style) (a .s .now) (a .buf .now) (o .buf) (o .line) (o .inv)
+    (c .before .before .before .before .before .before .before .before .if1 .taken)
+    (c .before .before .before .before .before .before .before .before .before .before .before .before .before .before .before .pre .1 .readable)
+    (z .result) (take (length (o .buf) - j) (drop j (o .buf))) (z .last .1 .1 .1 .1 .1 .0) (c .step2 .given .0 .0)
+    (c .step2 .given .1) (z .ensures)
 
 set-list-start-requires : (t : ℕ) → set-list-lts.Need-start-requires (set-list-claims t) (set-list-at t) set-list.Post set-list-Inv-loop set-list-μ-loop
 set-list-start-requires t c κs = search needs
@@ -668,7 +749,8 @@ set-list-same-length : (t : ℕ) → set-list-lts.Need-same-length (set-list-cla
 set-list-same-length t c =
     let j = c .before .before .before .before .before .before .before .before .room .result in
     let o = c .before .before .before .before .before .before .before .before .before .before .before .loop in
-    same-len-mid j (length (o .buf) - j) (o .buf) (c .before .before .before .before .before .set-item .last .1 .1 .1 .1 .1 .0) (c .before .before .before .before .before .set-item .kept .1 .1 .1 .1 .1 .0) ∙ o .inv .same
+    same-len-mid j (length (o .buf) - j) (o .buf) (c .before .before .before .before .before .set-item .last .1 .1 .1 .1 .1 .0)
+    (c .before .before .before .before .before .set-item .kept .1 .1 .1 .1 .1 .0) ∙ o .inv .same
 
 set-list-returns : (t : ℕ) → set-list-lts.Need-returns (set-list-claims t) (set-list-at t) set-list.Post set-list-Inv-loop set-list-μ-loop
 set-list-returns t c = turn-stop t (c .before) .0
@@ -686,33 +768,53 @@ second-field : (t : ℕ) (c : set-second-lts.After-y (set-second-claims t) (set-
     let a = c .before .before .before .before .before .before .before .before .before .before .before .args in
     let k = second (a .s .now) (a .kind) in
     FieldDone (fontOf (a .table .now)) (secondStyle (a .kind) (a .style)) false (fieldIn (a .s .now) k)
-    (headBytes (headAt (a .s .now) k)) (a .buf .now) (field.Whole (c .y .given .0 .0)) (c .before .before .before .before .set-field .last .1 .1 .1 .1 .1 .0)
+    (headBytes (headAt (a .s .now) k)) (a .buf .now) (field.Whole (c .y .given .0 .0))
+    (c .before .before .before .before .set-field .last .1 .1 .1 .1 .1 .0)
 second-field t c =
     let a = c .before .before .before .before .before .before .before .before .before .before .before .args in
-    field-at (fontOf (a .table .now)) (c .before .before .before .before .before .before .before .second-style .result) _ false false (a .s .now) (a .at .second) (second (a .s .now) (a .kind))
-    (a .buf .now) (c .before .before .before .before .set-field .result) (field.Whole (c .y .given .0 .0)) (c .before .before .before .before .set-field .last .1 .1 .1 .1 .1 .0) (c .before .before .before .before .before .before .before .second-style .ensures) refl
-    (c .before .before .before .before .before .before .before .before .before .before .before .pre .1 .1 .second-is) (c .y .given .1) (c .before .before .before .before .set-field .ensures)
+    field-at (fontOf (a .table .now)) (c .before .before .before .before .before .before .before .second-style .result) _ false
+    false (a .s .now) (a .at .second) (second (a .s .now) (a .kind))
+    (a .buf .now) (c .before .before .before .before .set-field .result) (field.Whole (c .y .given .0 .0))
+    (c .before .before .before .before .set-field .last .1 .1 .1 .1 .1 .0)
+    (c .before .before .before .before .before .before .before .second-style .ensures) refl
+    (c .before .before .before .before .before .before .before .before .before .before .before .pre .1 .1 .second-is)
+    (c .y .given .1) (c .before .before .before .before .set-field .ensures)
 
 second-lacks : (t : ℕ) (c : set-second-lts.After-y2 (set-second-claims t) (set-second-at t) set-second.Post) →
     let a = c .before .before .before .before .before .before .before .before .before .before .before .args in
     let k = second (a .s .now) (a .kind) in
     FieldDone (fontOf (a .table .now)) (secondStyle (a .kind) (a .style)) false (fieldIn (a .s .now) k)
-    (headBytes (headAt (a .s .now) k)) (a .buf .now) (field.Missing (c .y2 .given .0 .0)) (c .before .before .before .before .set-field .last .1 .1 .1 .1 .1 .0)
+    (headBytes (headAt (a .s .now) k)) (a .buf .now) (field.Missing (c .y2 .given .0 .0))
+    (c .before .before .before .before .set-field .last .1 .1 .1 .1 .1 .0)
 second-lacks t c =
     let a = c .before .before .before .before .before .before .before .before .before .before .before .args in
-    field-at (fontOf (a .table .now)) (c .before .before .before .before .before .before .before .second-style .result) _ false false (a .s .now) (a .at .second) (second (a .s .now) (a .kind))
-    (a .buf .now) (c .before .before .before .before .set-field .result) (field.Missing (c .y2 .given .0 .0)) (c .before .before .before .before .set-field .last .1 .1 .1 .1 .1 .0) (c .before .before .before .before .before .before .before .second-style .ensures) refl
-    (c .before .before .before .before .before .before .before .before .before .before .before .pre .1 .1 .second-is) (c .y2 .given .1) (c .before .before .before .before .set-field .ensures)
+    field-at (fontOf (a .table .now)) (c .before .before .before .before .before .before .before .second-style .result) _ false
+    false (a .s .now) (a .at .second) (second (a .s .now) (a .kind))
+    (a .buf .now) (c .before .before .before .before .set-field .result) (field.Missing (c .y2 .given .0 .0))
+    (c .before .before .before .before .set-field .last .1 .1 .1 .1 .1 .0)
+    (c .before .before .before .before .before .before .before .second-style .ensures) refl
+    (c .before .before .before .before .before .before .before .before .before .before .before .pre .1 .1 .second-is)
+    (c .y2 .given .1) (c .before .before .before .before .set-field .ensures)
 
 -- the third is set behind it
 second-last : (t : ℕ) (c : set-second-lts.After-last (set-second-claims t) (set-second-at t) set-second.Post) →
-    let a = c .before .before .before .before .before .before .before .before .before .before .before .before .before .before .before .before .before .before .before .args in
-    ThirdDone (fontOf (a .table .now)) (a .style) (a .s .now) (a .kind) (a .line) (a .x) (c .before .before .before .before .before .before .before .before .y .given .0 .0 .shape)
-    (drop (c .before .before .before .before .before .before .room .result) (c .before .before .before .before .before .before .before .before .before .before .before .before .set-field .last .1 .1 .1 .1 .1 .0)) (last.Whole (c .last .given .0 .0) (c .last .given .0 .1 .0)) (c .before .before .before .before .set-third .last .1 .1 .1 .1 .1 .1 .1 .1 .1 .0)
+    let a = c .before .before .before .before .before .before .before .before .before .before .before .before .before .before
+    .before .before .before .before .before .args in
+    ThirdDone (fontOf (a .table .now)) (a .style) (a .s .now) (a .kind) (a .line) (a .x)
+    (c .before .before .before .before .before .before .before .before .y .given .0 .0 .shape)
+    (drop (c .before .before .before .before .before .before .room .result) (c .before .before .before .before .before .before .before .before .before .before .before .before .set-field .last .1 .1 .1 .1 .1 .0))
+    (last.Whole (c .last .given .0 .0) (c .last .given .0 .1 .0))
+    (c .before .before .before .before .set-third .last .1 .1 .1 .1 .1 .1 .1 .1 .1 .0)
 second-last t c =
-    let a = c .before .before .before .before .before .before .before .before .before .before .before .before .before .before .before .before .before .before .before .args in
-    third-at (fontOf (a .table .now)) (a .style) (a .s .now) (a .kind) (a .line) (a .x) (c .before .before .before .before .before .before .before .before .y .given .0 .0 .shape) (c .before .before .before .before .before .before .room .result) (c .before .before .before .before .set-third .result)
-    (last.Whole (c .last .given .0 .0) (c .last .given .0 .1 .0)) (c .before .before .before .before .before .before .before .before .before .before .before .before .set-field .last .1 .1 .1 .1 .1 .0) (c .before .before .before .before .set-third .last .1 .1 .1 .1 .1 .1 .1 .1 .1 .0) (c .last .given .1) (c .before .before .before .before .set-third .ensures)
+    let a = c .before .before .before .before .before .before .before .before .before .before .before .before .before .before
+    .before .before .before .before .before .args in
+    third-at (fontOf (a .table .now)) (a .style) (a .s .now) (a .kind) (a .line) (a .x)
+    (c .before .before .before .before .before .before .before .before .y .given .0 .0 .shape)
+    (c .before .before .before .before .before .before .room .result) (c .before .before .before .before .set-third .result)
+    (last.Whole (c .last .given .0 .0) (c .last .given .0 .1 .0))
+    (c .before .before .before .before .before .before .before .before .before .before .before .before .set-field .last .1 .1 .1 .1 .1 .0)
+    (c .before .before .before .before .set-third .last .1 .1 .1 .1 .1 .1 .1 .1 .1 .0) (c .last .given .1)
+    (c .before .before .before .before .set-third .ensures)
 
 second-kept : (t : ℕ) (c : set-second-lts.After-set-third (set-second-claims t) (set-second-at t) set-second.Post) →
     let b = c .before .before .before .before .before .before .before .before .set-field .last .1 .1 .1 .1 .1 .0 in
@@ -779,17 +881,22 @@ set-second-slice-relend-prefix-moved-part :
 set-second-slice-relend-prefix-moved-part t c = omega (arith, second-kept t (c .before .before .before .before .before .before), c .before .before .before .before .before .before .before .before .room .ensures .0)
 
 set-second-slice-aggregate-moved-part : (t : ℕ) → set-second-lts.Need-slice-aggregate-moved-part (set-second-claims t) (set-second-at t) set-second.Post
-set-second-slice-aggregate-moved-part t c =     sym (length-take-le (c .before .before .before .before .before .before .before .before .before .room .result) _ (omega (arith, second-kept t (c .before .before .before .before .before .before .before), c .before .before .before .before .before .before .before .before .before .room .ensures .0)))
+set-second-slice-aggregate-moved-part t c = sym (length-take-le (c .before .before .before .before .before .before .before .before .before .room .result) _ (omega (arith, second-kept t (c .before .before .before .before .before .before .before), c .before .before .before .before .before .before .before .before .before .room .ensures .0)))
 
 set-second-moved-part-requires : (t : ℕ) → set-second-lts.Need-moved-part-requires (set-second-claims t) (set-second-at t) set-second.Post
 set-second-moved-part-requires t c κs =
-    let a = c .before .before .before .before .before .before .before .before .before .before .before .before .before .before .before .before .before .before .before .before .before .before .args in
-    move-given (a .line) (c .before .before .before .last .given .0 .0) (fontOf (a .table .now)) _ _ _ (c .before .before .before .before .before .before .before .before .before .before .before .y .given .0 .0) (c .before .before .before .before .before .before .before .before .before .before .before .before .before .before .before .before .before .before .before .before .before .before .pre .1 .2 .small) (second-last t (c .before .before .before) .0 .setting-small)
+    let a = c .before .before .before .before .before .before .before .before .before .before .before .before .before .before
+    .before .before .before .before .before .before .before .before .args in
+    move-given (a .line) (c .before .before .before .last .given .0 .0) (fontOf (a .table .now)) _ _ _
+    (c .before .before .before .before .before .before .before .before .before .before .before .y .given .0 .0)
+    (c .before .before .before .before .before .before .before .before .before .before .before .before .before .before .before .before .before .before .before .before .before .before .pre .1 .2 .small)
+    (second-last t (c .before .before .before) .0 .setting-small)
     (second-field t (c .before .before .before .before .before .before .before .before .before .before .before) .0)
 
 set-second-behind-requires : (t : ℕ) → set-second-lts.Need-behind-requires (set-second-claims t) (set-second-at t) set-second.Post
 set-second-behind-requires t c κs =
-    let p = c .before .before .before .before .before .before .before .before .before .before .before .before .before .before .before .before .before .before .before .before .before .before .before .before .before .pre .1 in
+    let p = c .before .before .before .before .before .before .before .before .before .before .before .before .before .before
+    .before .before .before .before .before .before .before .before .before .before .before .pre .1 in
     let n = noad-of (p .0) in
     let short = p .0 .list .short in
     (omega (arith, c .before .before .moved-part .ensures .count-is, second-field t (c .before .before .before .before .before .before .before .before .before .before .before .before .before .before) .0 .small .count), omega (arith, second-last t (c .before .before .before .before .before .before) .0 .run-small .count))
@@ -807,36 +914,56 @@ set-second-add-t38 t c =
     let n = noad-of (p .0) in
     let is = p .1 .second-is in
     let short = p .0 .list .short in
-    omega (arith, missing-field-in (fontOf (a .table .now)) (a .s .now) (second (a .s .now) (a .kind)) (n .y) (secondStyle (a .kind) (a .style)) false (c .before .y2 .given .0 .0) (second-lacks t (c .before)))
+    omega
+    (arith, missing-field-in (fontOf (a .table .now)) (a .s .now) (second (a .s .now) (a .kind)) (n .y) (secondStyle (a .kind) (a .style)) false (c .before .y2 .given .0 .0) (second-lacks t (c .before)))
 
 set-second-same-length : (t : ℕ) → set-second-lts.Need-same-length (set-second-claims t) (set-second-at t) set-second.Post
 set-second-same-length t c =
     let j = c .before .before .before .before .before .before .before .before .before .before .before .before .before .room .result in
-    let b = c .before .before .before .before .before .before .before .before .before .before .before .before .before .before .before .before .before .before .before .set-field .last .1 .1 .1 .1 .1 .0 in
-    front-back j (putMid j (length b - j) b (c .before .before .before .before .before .before .before .before .before .before .before .set-third .last .1 .1 .1 .1 .1 .1 .1 .1 .1 .0)) (c .before .before .before .moved-part .last .1 .1 .1 .0) (c .before .before .before .moved-part .kept .1 .1 .1 .0)
-    ∙ second-kept t (c .before .before .before .before .before .before .before .before .before .before .before) ∙ c .before .before .before .before .before .before .before .before .before .before .before .before .before .before .before .before .before .before .before .set-field .kept .1 .1 .1 .1 .1 .0
+    let b = c .before .before .before .before .before .before .before .before .before .before .before .before .before .before
+    .before .before .before .before .before .set-field .last .1 .1 .1 .1 .1 .0 in
+    front-back j
+    (putMid j (length b - j) b (c .before .before .before .before .before .before .before .before .before .before .before .set-third .last .1 .1 .1 .1 .1 .1 .1 .1 .1 .0))
+    (c .before .before .before .moved-part .last .1 .1 .1 .0) (c .before .before .before .moved-part .kept .1 .1 .1 .0)
+    ∙ second-kept t (c .before .before .before .before .before .before .before .before .before .before .before) ∙ c .before
+    .before .before .before .before .before .before .before .before .before .before .before .before .before .before .before
+    .before .before .before .set-field .kept .1 .1 .1 .1 .1 .0
 
 set-second-returns : (t : ℕ) → set-second-lts.Need-returns (set-second-claims t) (set-second-at t) set-second.Post
 set-second-returns t c =
-    let a = c .before .before .before .before .before .before .before .before .before .before .before .before .before .before .before .before .before .before .before .before .before .before .before .before .before .before .args in
+    let a = c .before .before .before .before .before .before .before .before .before .before .before .before .before .before
+    .before .before .before .before .before .before .before .before .before .before .before .before .args in
     let r = c .before .before .before .before .before .before .before .before .before .before .before .before .before .room in
-    second-set (fontOf (a .table .now)) (a .style) (a .s .now) (a .kind) (a .line) (a .x) (r .result) (c .before .before .before .before .before .before .before .before .before .before .before .before .before .before .before .y .given .0 .0) (c .before .before .before .before .before .before .before .last .given .0 .0) (c .before .before .before .before .before .before .before .last .given .0 .1 .0)
-    (c .before .before .before .moved-part .result) (c .behind .result) (a .buf .now) (c .before .before .before .before .before .before .before .before .before .before .before .before .before .before .before .before .before .before .before .set-field .last .1 .1 .1 .1 .1 .0) (c .before .before .before .moved-part .last .1 .1 .1 .0) (c .before .before .before .before .before .before .before .before .before .before .before .set-third .last .1 .1 .1 .1 .1 .1 .1 .1 .1 .0)
-    (noad-of (c .before .before .before .before .before .before .before .before .before .before .before .before .before .before .before .before .before .before .before .before .before .before .before .before .before .before .pre .1 .0)) (second-field t (c .before .before .before .before .before .before .before .before .before .before .before .before .before .before .before)) (c .before .before .before .before .before .before .before .before .before .before .before .before .before .before .before .before .before .before .before .set-field .kept .1 .1 .1 .1 .1 .0) (r .ensures .0) (r .ensures .1) (second-last t (c .before .before .before .before .before .before .before)) (c .before .before .before .moved-part .ensures) (c .behind .ensures)
+    second-set (fontOf (a .table .now)) (a .style) (a .s .now) (a .kind) (a .line) (a .x) (r .result)
+    (c .before .before .before .before .before .before .before .before .before .before .before .before .before .before .before .y .given .0 .0)
+    (c .before .before .before .before .before .before .before .last .given .0 .0)
+    (c .before .before .before .before .before .before .before .last .given .0 .1 .0)
+    (c .before .before .before .moved-part .result) (c .behind .result) (a .buf .now)
+    (c .before .before .before .before .before .before .before .before .before .before .before .before .before .before .before .before .before .before .before .set-field .last .1 .1 .1 .1 .1 .0)
+    (c .before .before .before .moved-part .last .1 .1 .1 .0)
+    (c .before .before .before .before .before .before .before .before .before .before .before .set-third .last .1 .1 .1 .1 .1 .1 .1 .1 .1 .0)
+    (noad-of (c .before .before .before .before .before .before .before .before .before .before .before .before .before .before .before .before .before .before .before .before .before .before .before .before .before .before .pre .1 .0))
+    (second-field t (c .before .before .before .before .before .before .before .before .before .before .before .before .before .before .before))
+    (c .before .before .before .before .before .before .before .before .before .before .before .before .before .before .before .before .before .before .before .set-field .kept .1 .1 .1 .1 .1 .0)
+    (r .ensures .0) (r .ensures .1) (second-last t (c .before .before .before .before .before .before .before))
+    (c .before .before .before .moved-part .ensures) (c .behind .ensures)
 
 set-second-same-length-2 : (t : ℕ) → set-second-lts.Need-same-length-2 (set-second-claims t) (set-second-at t) set-second.Post
 set-second-same-length-2 t c = second-kept t (c .before .before .before .before .before) ∙ c .before .before .before .before .before .before .before .before .before .before .before .before .before .set-field .kept .1 .1 .1 .1 .1 .0
 
 set-second-returns-2 : (t : ℕ) → set-second-lts.Need-returns-2 (set-second-claims t) (set-second-at t) set-second.Post
 set-second-returns-2 t c =
-    let a = c .before .before .before .before .before .before .before .before .before .before .before .before .before .before .before .before .before .before .before .before .args in
+    let a = c .before .before .before .before .before .before .before .before .before .before .before .before .before .before
+    .before .before .before .before .before .before .args in
     let F = fontOf (a .table .now) in
     let s = a .s .now in
     let j = c .before .before .before .before .before .before .before .room .result in
-    let b₁ = c .before .before .before .before .before .before .before .before .before .before .before .before .before .set-field .last .1 .1 .1 .1 .1 .0 in
+    let b₁ = c .before .before .before .before .before .before .before .before .before .before .before .before .before .set-field
+    .last .1 .1 .1 .1 .1 .0 in
     let e = c .before .before .before .before .before .set-third .last .1 .1 .1 .1 .1 .1 .1 .1 .1 .0 in
     let y = c .before .before .before .before .before .before .before .before .before .y .given .0 .0 in
-    second-missing F (a .style) (a .kind) (rightOf s (end s (a .kind))) (a .line) s (a .x) 0 _ (end s (a .kind) - third s (a .kind)) (c .before .last2 .given .0 .0) y (a .buf .now) b₁ e
+    second-missing F (a .style) (a .kind) (rightOf s (end s (a .kind))) (a .line) s (a .x) 0 _
+    (end s (a .kind) - third s (a .kind)) (c .before .last2 .given .0 .0) y (a .buf .now) b₁ e
     (drop j b₁) b₁ (second-field t (c .before .before .before .before .before .before .before .before .before))
     (third-at F (a .style) s (a .kind) (a .line) (a .x) (y .shape) j (c .before .before .before .before .before .set-third .result) (last.Missing (c .before .last2 .given .0 .0)) b₁ e (c .before .last2 .given .1) (c .before .before .before .before .before .set-third .ensures))
 
@@ -849,39 +976,54 @@ set-second-returns-3 t c =
     let s = a .s .now in
     let place = c .before .y2 .given .0 .0 in
     let b₁ = c .before .before .before .before .before .set-field .last .1 .1 .1 .1 .1 .0 in
-    second-first-missing (fontOf (a .table .now)) (a .style) (a .kind) (rightOf s (end s (a .kind))) (a .line) s (a .x) 0 0 place (a .buf .now) b₁ b₁ (second-lacks t (c .before))
-    ∙ ap (λ (k : ℕ). some (k + place)) (sym (c .before .before .before .before .before .before .before .before .before .before .before .before .pre .1 .1 .second-is))
+    second-first-missing (fontOf (a .table .now)) (a .style) (a .kind) (rightOf s (end s (a .kind))) (a .line) s (a .x) 0 0 place
+    (a .buf .now) b₁ b₁ (second-lacks t (c .before))
+    ∙ ap (λ (k : ℕ). some (k + place))
+    (sym (c .before .before .before .before .before .before .before .before .before .before .before .before .pre .1 .1 .second-is))
 
 -- ---- set_third
 
 -- the third field is set, or lacks a symbol
 third-done : (t : ℕ) (c : set-third-lts.After-z (set-third-claims t) (set-third-at t) set-third.Post) →
-    let a = c .before .before .before .before .before .before .before .before .before .before .before .before .before .before .before .args in
+    let a = c .before .before .before .before .before .before .before .before .before .before .before .before .before .before
+    .before .args in
     let s = a .s .now in
     let k = third s (a .kind) in
     FieldDone (fontOf (a .table .now)) (thirdStyle (a .style)) false (thirdIn s (hasThird (a .kind)) k)
-    (end s (a .kind) - k) (a .buf .now) (field.Whole (c .z .given .0 .0)) (c .before .before .before .before .set-field .last .1 .1 .1 .1 .1 .0)
+    (end s (a .kind) - k) (a .buf .now) (field.Whole (c .z .given .0 .0))
+    (c .before .before .before .before .set-field .last .1 .1 .1 .1 .1 .0)
 third-done t c =
-    let a = c .before .before .before .before .before .before .before .before .before .before .before .before .before .before .before .args in
+    let a = c .before .before .before .before .before .before .before .before .before .before .before .before .before .before
+    .before .args in
     let s = a .s .now in
     let k = third s (a .kind) in
     let F = fontOf (a .table .now) in
     let z = field.Whole (c .z .given .0 .0) in
-    third-field F (thirdStyle (a .style)) false s (hasThird (a .kind)) k (a .buf .now) z (c .before .before .before .before .set-field .last .1 .1 .1 .1 .1 .0) (sym (c .before .before .before .before .before .before .before .before .before .has-third .ensures) ∙ c .before .before .before .before .before .before .before .before .if1 .taken)
+    third-field F (thirdStyle (a .style)) false s (hasThird (a .kind)) k (a .buf .now) z
+    (c .before .before .before .before .set-field .last .1 .1 .1 .1 .1 .0)
+    (sym (c .before .before .before .before .before .before .before .before .before .has-third .ensures) ∙ c .before .before .before .before .before .before .before .before .if1 .taken)
     (field-at F (c .before .before .before .before .before .before .before .third-style .result) _ false false s (a .at .third) k (a .buf .now) (c .before .before .before .before .set-field .result) z (c .before .before .before .before .set-field .last .1 .1 .1 .1 .1 .0)
-    (c .before .before .before .before .before .before .before .third-style .ensures) refl (c .before .before .before .before .before .before .before .before .before .before .before .before .before .before .before .pre .1 .1 .third-is) (c .z .given .1) (c .before .before .before .before .set-field .ensures))
+    (c .before .before .before .before .before .before .before .third-style .ensures) refl
+    (c .before .before .before .before .before .before .before .before .before .before .before .before .before .before .before .pre .1 .1 .third-is)
+    (c .z .given .1) (c .before .before .before .before .set-field .ensures))
 
 third-lacks : (t : ℕ) (c : set-third-lts.After-z2 (set-third-claims t) (set-third-at t) set-third.Post) →
-    let a = c .before .before .before .before .before .before .before .before .before .before .before .before .before .before .before .args in
+    let a = c .before .before .before .before .before .before .before .before .before .before .before .before .before .before
+    .before .args in
     let s = a .s .now in
     let k = third s (a .kind) in
     FieldDone (fontOf (a .table .now)) (thirdStyle (a .style)) false (fieldIn s k) (headBytes (headAt s k)) (a .buf .now)
     (field.Missing (c .z2 .given .0 .0)) (c .before .before .before .before .set-field .last .1 .1 .1 .1 .1 .0)
 third-lacks t c =
-    let a = c .before .before .before .before .before .before .before .before .before .before .before .before .before .before .before .args in
+    let a = c .before .before .before .before .before .before .before .before .before .before .before .before .before .before
+    .before .args in
     let s = a .s .now in
-    field-at (fontOf (a .table .now)) (c .before .before .before .before .before .before .before .third-style .result) _ false false s (a .at .third) (third s (a .kind)) (a .buf .now) (c .before .before .before .before .set-field .result)
-    (field.Missing (c .z2 .given .0 .0)) (c .before .before .before .before .set-field .last .1 .1 .1 .1 .1 .0) (c .before .before .before .before .before .before .before .third-style .ensures) refl (c .before .before .before .before .before .before .before .before .before .before .before .before .before .before .before .pre .1 .1 .third-is) (c .z2 .given .1) (c .before .before .before .before .set-field .ensures)
+    field-at (fontOf (a .table .now)) (c .before .before .before .before .before .before .before .third-style .result) _ false
+    false s (a .at .third) (third s (a .kind)) (a .buf .now) (c .before .before .before .before .set-field .result)
+    (field.Missing (c .z2 .given .0 .0)) (c .before .before .before .before .set-field .last .1 .1 .1 .1 .1 .0)
+    (c .before .before .before .before .before .before .before .third-style .ensures) refl
+    (c .before .before .before .before .before .before .before .before .before .before .before .before .before .before .before .pre .1 .1 .third-is)
+    (c .z2 .given .1) (c .before .before .before .before .set-field .ensures)
 
 set-third-sub-next-class : (t : ℕ) → set-third-lts.Need-sub-next-class (set-third-claims t) (set-third-at t) set-third.Post
 set-third-sub-next-class t c =
@@ -944,7 +1086,8 @@ set-third-enum-known-z t c = search needs
 
 set-third-arranged-last-requires : (t : ℕ) → set-third-lts.Need-arranged-last-requires (set-third-claims t) (set-third-at t) set-third.Post
 set-third-arranged-last-requires t c κs =
-    let p = c .before .before .before .before .before .before .before .before .before .before .before .before .before .before .before .before .before .pre .1 in
+    let p = c .before .before .before .before .before .before .before .before .before .before .before .before .before .before
+    .before .before .before .pre .1 in
     let n = noad-of (p .0) in
     let short = p .0 .list .short in
     (p .2 .small, p .3, p .4, part-more (omega arith) (third-done t (c .before .before) .0 .small))
@@ -954,15 +1097,19 @@ set-third-enum-known-z-2 t c = search needs
 
 set-third-add-t33 : (t : ℕ) → set-third-lts.Need-add-t33 (set-third-claims t) (set-third-at t) set-third.Post
 set-third-add-t33 t c =
-    let a = c .before .before .before .before .before .before .before .before .before .before .before .before .before .before .before .before .args in
+    let a = c .before .before .before .before .before .before .before .before .before .before .before .before .before .before
+    .before .before .args in
     let s = a .s .now in
-    let p = c .before .before .before .before .before .before .before .before .before .before .before .before .before .before .before .before .pre .1 in
+    let p = c .before .before .before .before .before .before .before .before .before .before .before .before .before .before
+    .before .before .pre .1 in
     let n = noad-of (p .0) in
     let is = p .1 .third-is in
     let short = p .0 .list .short in
-    let has = sym (c .before .before .before .before .before .before .before .before .before .before .has-third .ensures) ∙ c .before .before .before .before .before .before .before .before .before .if1 .taken in
+    let has = sym (c .before .before .before .before .before .before .before .before .before .before .has-third .ensures) ∙ c
+    .before .before .before .before .before .before .before .before .before .if1 .taken in
     let fits = third-fits s (hasThird (a .kind)) (third s (a .kind)) has in
-    omega (arith, missing-field-in (fontOf (a .table .now)) s (third s (a .kind)) (third-good s (hasThird (a .kind)) (third s (a .kind)) has (n .z)) (thirdStyle (a .style)) false (c .before .z2 .given .0 .0) (third-lacks t (c .before)))
+    omega
+    (arith, missing-field-in (fontOf (a .table .now)) s (third s (a .kind)) (third-good s (hasThird (a .kind)) (third s (a .kind)) has (n .z)) (thirdStyle (a .style)) false (c .before .z2 .given .0 .0) (third-lacks t (c .before)))
 
 set-third-empty-part-requires : (t : ℕ) → set-third-lts.Need-empty-part-requires (set-third-claims t) (set-third-at t) set-third.Post
 set-third-empty-part-requires t c κs = search needs
@@ -977,19 +1124,27 @@ set-third-same-length t c = c .before .before .arranged-last .kept .1 .1 .1 .1 .
 
 set-third-returns : (t : ℕ) → set-third-lts.Need-returns (set-third-claims t) (set-third-at t) set-third.Post
 set-third-returns t c =
-    let a = c .before .before .before .before .before .before .before .before .before .before .before .before .before .before .before .before .before .before .before .before .args in
-    let p = c .before .before .before .before .before .before .before .before .before .before .before .before .before .before .before .before .before .before .before .before .pre .1 in
+    let a = c .before .before .before .before .before .before .before .before .before .before .before .before .before .before
+    .before .before .before .before .before .before .args in
+    let p = c .before .before .before .before .before .before .before .before .before .before .before .before .before .before
+    .before .before .before .before .before .before .pre .1 in
     let s = a .s .now in
-    third-set (fontOf (a .table .now)) (a .style) s (a .kind) (a .line) (a .x) (parametersIn (a .p)) (neighbourAs (c .before .before .before .before .before .before .before .before .before .before .before .before .before .before .before .next-class .result)) (a .y) (c .before .before .before .before .before .z .given .0 .0) (c .before .before .arranged-last .result)
-    (a .buf .now) (c .before .before .before .before .before .before .before .before .before .set-field .last .1 .1 .1 .1 .1 .0) (c .before .before .arranged-last .last .1 .1 .1 .1 .1 .1 .1 .1 .0) (third-done t (c .before .before .before .before .before)) (p .0 .list .ready .parameters-are)
-    (right-is s (a .at .end) (end s (a .kind)) _ (c .before .before .before .before .before .before .before .before .before .before .before .before .before .before .before .next-class .ensures) (p .1 .end-is)) (c .before .before .arranged-last .ensures)
+    third-set (fontOf (a .table .now)) (a .style) s (a .kind) (a .line) (a .x) (parametersIn (a .p))
+    (neighbourAs (c .before .before .before .before .before .before .before .before .before .before .before .before .before .before .before .next-class .result))
+    (a .y) (c .before .before .before .before .before .z .given .0 .0) (c .before .before .arranged-last .result)
+    (a .buf .now) (c .before .before .before .before .before .before .before .before .before .set-field .last .1 .1 .1 .1 .1 .0)
+    (c .before .before .arranged-last .last .1 .1 .1 .1 .1 .1 .1 .1 .0) (third-done t (c .before .before .before .before .before))
+    (p .0 .list .ready .parameters-are)
+    (right-is s (a .at .end) (end s (a .kind)) _ (c .before .before .before .before .before .before .before .before .before .before .before .before .before .before .before .next-class .ensures) (p .1 .end-is))
+    (c .before .before .arranged-last .ensures)
 
 set-third-same-length-2 : (t : ℕ) → set-third-lts.Need-same-length-2 (set-third-claims t) (set-third-at t) set-third.Post
 set-third-same-length-2 t c = c .before .before .before .before .before .set-field .kept .1 .1 .1 .1 .1 .0
 
 set-third-returns-2 : (t : ℕ) → set-third-lts.Need-returns-2 (set-third-claims t) (set-third-at t) set-third.Post
 set-third-returns-2 t c =
-    let a = c .before .before .before .before .before .before .before .before .before .before .before .before .before .before .before .before .args in
+    let a = c .before .before .before .before .before .before .before .before .before .before .before .before .before .before
+    .before .before .args in
     let s = a .s .now in
     let k = third s (a .kind) in
     let F = fontOf (a .table .now) in
@@ -997,7 +1152,8 @@ set-third-returns-2 t c =
     let b₁ = c .before .before .before .before .before .set-field .last .1 .1 .1 .1 .1 .0 in
     field-some F (thirdStyle (a .style)) false k place (thirdIn s (hasThird (a .kind)) k)
     (third-field F (thirdStyle (a .style)) false s (hasThird (a .kind)) k (a .buf .now) (field.Missing place) b₁ (sym (c .before .before .before .before .before .before .before .before .before .before .has-third .ensures) ∙ c .before .before .before .before .before .before .before .before .before .if1 .taken) (third-lacks t (c .before)))
-    ∙ ap (λ (k : ℕ). some (k + place)) (sym (c .before .before .before .before .before .before .before .before .before .before .before .before .before .before .before .before .pre .1 .1 .third-is))
+    ∙ ap (λ (k : ℕ). some (k + place))
+    (sym (c .before .before .before .before .before .before .before .before .before .before .before .before .before .before .before .before .pre .1 .1 .third-is))
 
 set-third-same-length-3 : (t : ℕ) → set-third-lts.Need-same-length-3 (set-third-claims t) (set-third-at t) set-third.Post
 set-third-same-length-3 t c = c .before .before .arranged-last2 .kept .1 .1 .1 .1 .1 .1 .1 .1 .0
@@ -1009,10 +1165,14 @@ set-third-returns-3 t c =
     let s = a .s .now in
     let F = fontOf (a .table .now) in
     let b = a .buf .now in
-    third-set F (a .style) s (a .kind) (a .line) (a .x) (parametersIn (a .p)) (neighbourAs (c .before .before .before .before .before .before .before .next-class .result)) (a .y) (c .before .before .before .before .empty-part .result) (c .before .before .arranged-last2 .result)
+    third-set F (a .style) s (a .kind) (a .line) (a .x) (parametersIn (a .p))
+    (neighbourAs (c .before .before .before .before .before .before .before .next-class .result)) (a .y)
+    (c .before .before .before .before .empty-part .result) (c .before .before .arranged-last2 .result)
     b b (c .before .before .arranged-last2 .last .1 .1 .1 .1 .1 .1 .1 .1 .0)
     (third-none F (thirdStyle (a .style)) false s (hasThird (a .kind)) (third s (a .kind)) b (c .before .before .before .before .empty-part .result) (sym (c .before .before .before .before .before .before .has-third .ensures) ∙ c .before .before .before .before .before .if1 .left) (c .before .before .before .before .empty-part .ensures))
-    (p .0 .list .ready .parameters-are) (right-is s (a .at .end) (end s (a .kind)) _ (c .before .before .before .before .before .before .before .next-class .ensures) (p .1 .end-is)) (c .before .before .arranged-last2 .ensures)
+    (p .0 .list .ready .parameters-are)
+    (right-is s (a .at .end) (end s (a .kind)) _ (c .before .before .before .before .before .before .before .next-class .ensures) (p .1 .end-is))
+    (c .before .before .arranged-last2 .ensures)
 
 pub +set-behind+set-field+set-first+set-item+set-list+set-second+set-third-spec :
     {M : Type 1} → statement M
