@@ -8,9 +8,12 @@ use formula::Verdict;
 use formula::reading::read_formula;
 use rules::Style;
 use rules::boxes::Size;
-use rules::styles::{Numbered, style_of};
-use walk::lines::{Line, list_fits};
-use walk::lists::{ListSet, set_list};
+use rules::styles::Numbered;
+use rules::styles::style_of;
+use walk::lines::Line;
+use walk::lines::list_fits;
+use walk::lists::ListSet;
+use walk::lists::set_list;
 
 // One constructor for each answer number. A refusal that has a place has it here.
 pub enum Answer {
@@ -53,7 +56,13 @@ pub fn set(style: u8, table: &[u8], formula: &[u8], nodes: &mut [u8]) -> Answer
                 return Answer::NoRoom;
             }
             let end = 18 * count;
-            set_list(table, font::parameters(table), s, formula, &mut nodes[..end]);
+            set_list(
+                table,
+                font::parameters(table),
+                s,
+                formula,
+                &mut nodes[..end],
+            );
             Answer::Accepted(size, count)
         }
         Finding::Refused(answer) => answer,
