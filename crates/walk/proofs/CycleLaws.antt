@@ -1,8 +1,8 @@
 -- The laws of the walk in the terms of the code: its slices, its lent parts of the buffer, and its results as they are matched.
 --     Noad, noad-at          where the fields of an item with fields stand, in a readable list
 --     kern-small             a kern that is read is small
---     field-given, list-given, front-given, move-given, goes-given     what the calls ask
---     field-at, third-field, third-none     a field that has been set, by its place in the item
+--     field-given, list-given, tail-given, rest-given, front-given, move-given, goes-given     what the calls ask
+--     head-done, field-at, third-field, third-none, list-at     a field that has been set, by its head or its place in the item
 --     third-set, second-set, behind-set, first-set, item-done     what each function of the cycle comes to
 --     along-next, along-stop     a turn of the loop
 -- Assumes nothing.

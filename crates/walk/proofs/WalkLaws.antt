@@ -1,7 +1,7 @@
 -- The laws of the walk, one for each place where the code joins what its calls say.
 --     field-empty, list-whole, list-missing     a field, from an empty part or from the list that it holds
---     third-whole, second-whole, second-missing     the last fields of an item, from each field and those behind it
---     behind-whole, behind-missing, item-first-missing     an item, from its first field and those behind it
+--     third-whole, second-whole, second-missing, second-first-missing     the last fields of an item, from each and those behind it
+--     behind-whole, behind-missing, first-missing     an item, from its first field and those behind it
 --     no-item, item-kern     an item without fields
 -- The buffer's two parts are joined by `drawn-around`; a part is large where one of its lists is.
 -- Assumes nothing.
@@ -73,7 +73,7 @@ or-right : (a b : Bool) → a || b ≡ false → b ≡ false
 or-right true b e = cc
 or-right false b e = e
 
--- one of three is large
+-- one of two is large
 or-nots : (a b : Bool) → not a || not b ≡ not (a && b)
 or-nots true b = refl
 or-nots false b = refl

@@ -186,12 +186,14 @@ behind-last : (t : ℕ) (c : set-behind-lts.After-last (set-behind-claims t) (se
     (last.Whole (c .last .given .0 .0) (c .last .given .0 .1 .0))
     (c .before .before .before .before .set-second .last .1 .1 .1 .1 .1 .1 .1 .1 .0)
 behind-last t c =
-    let a = c .before .before .before .before .before .before .before .before .before .before .before .before .args in
-    second-at (fontOf (a .table .now)) (a .style) (a .s .now) (a .kind) (a .line) (a .a .shape)
-    (c .before .before .before .before .before .before .room .result) (c .before .before .before .before .set-second .result)
+    let at-set-second = c .before .before .before .before in
+    let at-room = at-set-second .before .before in
+    let start = at-room .before .before .before .before .before .before in
+    let a = start .args in
+    second-at (fontOf (a .table .now)) (a .style) (a .s .now) (a .kind) (a .line) (a .a .shape) (at-room .room .result)
+    (at-set-second .set-second .result)
     (last.Whole (c .last .given .0 .0) (c .last .given .0 .1 .0)) (a .buf .now)
-    (c .before .before .before .before .set-second .last .1 .1 .1 .1 .1 .1 .1 .1 .0) (c .last .given .1)
-    (c .before .before .before .before .set-second .ensures)
+    (at-set-second .set-second .last .1 .1 .1 .1 .1 .1 .1 .1 .0) (c .last .given .1) (at-set-second .set-second .ensures)
 
 -- the buffer has its length with the part behind the first field back in it
 behind-kept : (t : ℕ) (c : set-behind-lts.After-set-second (set-behind-claims t) (set-behind-at t) set-behind.Post) →
@@ -199,7 +201,8 @@ behind-kept : (t : ℕ) (c : set-behind-lts.After-set-second (set-behind-claims 
     let j = c .before .before .room .result in
     length (putMid j (length (a .buf .now) - j) (a .buf .now) (c .set-second .last .1 .1 .1 .1 .1 .1 .1 .1 .0)) ≡ length (a .buf .now)
 behind-kept t c =
-    let b = c .before .before .before .before .before .before .before .before .args .buf .now in
+    let start = c .before .before .before .before .before .before .before .before in
+    let b = start .args .buf .now in
     let j = c .before .before .room .result in
     same-len-mid j (length b - j) b (c .set-second .last .1 .1 .1 .1 .1 .1 .1 .1 .0) (c .set-second .kept .1 .1 .1 .1 .1 .1 .1 .1 .0)
 
@@ -208,9 +211,10 @@ set-behind-rule-count-requires t c κs = search needs
 
 set-behind-add-room : (t : ℕ) → set-behind-lts.Need-add-room (set-behind-claims t) (set-behind-at t) set-behind.Post
 set-behind-add-room t c =
-    let n = noad-of (c .before .before .before .before .before .pre .1 .0) in
-    let short = c .before .before .before .before .before .pre .1 .0 .list .short in
-    omega (arith, c .before .before .before .before .before .pre .1 .3 .small .count, c .before .rule-count .ensures .1)
+    let start = c .before .before .before .before .before in
+    let n = noad-of (start .pre .1 .0) in
+    let short = start .pre .1 .0 .list .short in
+    omega (arith, start .pre .1 .3 .small .count, c .before .rule-count .ensures .1)
 
 set-behind-room-requires : (t : ℕ) → set-behind-lts.Need-room-requires (set-behind-claims t) (set-behind-at t) set-behind.Post
 set-behind-room-requires t c κs = search needs
@@ -226,22 +230,30 @@ set-behind-part-set-second-end t c = omega (arith, c .room .ensures .0)
 
 set-behind-set-second-requires : (t : ℕ) → set-behind-lts.Need-set-second-requires (set-behind-claims t) (set-behind-at t) set-behind.Post
 set-behind-set-second-requires t c κs =
-    let p = c .before .before .before .before .before .before .before .pre .1 in
+    let start = c .before .before .before .before .before .before .before in
+    let p = start .pre .1 in
     (omega arith, (p .0, p .1, p .2, p .3 .small .shape))
 
 set-behind-enum-known-last : (t : ℕ) → set-behind-lts.Need-enum-known-last (set-behind-claims t) (set-behind-at t) set-behind.Post
 set-behind-enum-known-last t c = search needs
 
 set-behind-slice-relend-prefix-front : (t : ℕ) → set-behind-lts.Need-slice-relend-prefix-front (set-behind-claims t) (set-behind-at t) set-behind.Post
-set-behind-slice-relend-prefix-front t c = omega (arith, behind-kept t (c .before .before .before .before .before), c .before .before .before .before .before .before .before .room .ensures .0)
+set-behind-slice-relend-prefix-front t c =
+    let at-set-second = c .before .before .before .before .before in
+    let at-room = at-set-second .before .before in
+    omega (arith, behind-kept t at-set-second, at-room .room .ensures .0)
 
 set-behind-slice-aggregate-front : (t : ℕ) → set-behind-lts.Need-slice-aggregate-front (set-behind-claims t) (set-behind-at t) set-behind.Post
-set-behind-slice-aggregate-front t c = sym (length-take-le (c .before .before .before .before .before .before .before .before .room .result) _ (omega (arith, behind-kept t (c .before .before .before .before .before .before), c .before .before .before .before .before .before .before .before .room .ensures .0)))
+set-behind-slice-aggregate-front t c =
+    let at-set-second = c .before .before .before .before .before .before in
+    let at-room = at-set-second .before .before in
+    sym (length-take-le (at-room .room .result) _ (omega (arith, behind-kept t at-set-second, at-room .room .ensures .0)))
 
 set-behind-front-requires : (t : ℕ) → set-behind-lts.Need-front-requires (set-behind-claims t) (set-behind-at t) set-behind.Post
 set-behind-front-requires t c κs =
-    let a = c .before .before .before .before .before .before .before .before .before .before .before .before .before .before .args in
-    let p = c .before .before .before .before .before .before .before .before .before .before .before .before .before .before .pre .1 in
+    let start = c .before .before .before .before .before .before .before .before .before .before .before .before .before .before in
+    let a = start .args in
+    let p = start .pre .1 in
     let n = noad-of (p .0) in
     let short = p .0 .list .short in
     front-given (a .line) (c .before .before .last .given .0 .0) (fontOf (a .table .now)) _ _ _
@@ -250,76 +262,81 @@ set-behind-front-requires t c κs =
 
 set-behind-behind-requires : (t : ℕ) → set-behind-lts.Need-behind-requires (set-behind-claims t) (set-behind-at t) set-behind.Post
 set-behind-behind-requires t c κs =
-    let p = c .before .before .before .before .before .before .before .before .before .before .before .before .before .before
-    .before .before .before .pre .1 in
+    let at-last = c .before .before .before .before .before in
+    let start = at-last .before .before .before .before .before .before .before .before .before .before .before .before in
+    let p = start .pre .1 in
     let n = noad-of (p .0) in
     let short = p .0 .list .short in
-    (omega (arith, front-few (c .before .before .front .ensures), p .3 .small .count), omega (arith, behind-last t (c .before .before .before .before .before) .0 .run-small .count))
+    (omega (arith, front-few (c .before .before .front .ensures), p .3 .small .count), omega (arith, behind-last t at-last .0 .run-small .count))
 
 set-behind-finished-requires : (t : ℕ) → set-behind-lts.Need-finished-requires (set-behind-claims t) (set-behind-at t) set-behind.Post
 set-behind-finished-requires t c κs =
-    let a = c .before .before .before .before .before .before .before .before .before .before .before .before .before .before
-    .before .before .before .before .args in
-    let p = c .before .before .before .before .before .before .before .before .before .before .before .before .before .before
-    .before .before .before .before .pre .1 in
-    let u = behind-last t (c .before .before .before .before .before .before) .0 in
-    goes-given (a .s .now) (a .kind) (a .line) (c .before .before .before .before .before .before .last .given .0 .0)
-    (fontOf (a .table .now)) (a .style) _ _ _ (a .a) (c .before .before .before .front .result)
-    (c .before .before .before .before .before .before .last .given .0 .1 .0)
-    (c .behind .result) _ _ (a .at .end) (noad-of (p .0)) (p .2) (u .setting-small) (p .3)
-    (c .before .before .before .front .ensures) (c .behind .ensures) u (p .1 .end-is)
+    let at-front = c .before .before .before in
+    let at-last = at-front .before .before .before in
+    let start = at-last .before .before .before .before .before .before .before .before .before .before .before .before in
+    let a = start .args in
+    let p = start .pre .1 in
+    let u = behind-last t at-last .0 in
+    goes-given (a .s .now) (a .kind) (a .line) (at-last .last .given .0 .0) (fontOf (a .table .now)) (a .style) _ _ _ (a .a)
+    (at-front .front .result) (at-last .last .given .0 .1 .0)
+    (c .behind .result) _ _ (a .at .end) (noad-of (p .0)) (p .2) (u .setting-small) (p .3) (at-front .front .ensures)
+    (c .behind .ensures) u (p .1 .end-is)
 
 set-behind-enum-known-last-2 : (t : ℕ) → set-behind-lts.Need-enum-known-last-2 (set-behind-claims t) (set-behind-at t) set-behind.Post
 set-behind-enum-known-last-2 t c = search needs
 
 set-behind-same-length : (t : ℕ) → set-behind-lts.Need-same-length (set-behind-claims t) (set-behind-at t) set-behind.Post
 set-behind-same-length t c =
-    let j = c .before .before .before .before .before .before .before .before .before .before .before .before .before .room .result in
-    let b = c .before .before .before .before .before .before .before .before .before .before .before .before .before .before
-    .before .before .before .before .before .args .buf .now in
-    front-back j
-    (putMid j (length b - j) b (c .before .before .before .before .before .before .before .before .before .before .before .set-second .last .1 .1 .1 .1 .1 .1 .1 .1 .0))
-    (c .before .before .before .before .front .last .1 .1 .0) (c .before .before .before .before .front .kept .1 .1 .0) ∙
-    behind-kept t (c .before .before .before .before .before .before .before .before .before .before .before)
+    let at-front = c .before .before .before .before in
+    let at-set-second = at-front .before .before .before .before .before .before .before in
+    let at-room = at-set-second .before .before in
+    let start = at-room .before .before .before .before .before .before in
+    let j = at-room .room .result in
+    let b = start .args .buf .now in
+    front-back j (putMid j (length b - j) b (at-set-second .set-second .last .1 .1 .1 .1 .1 .1 .1 .1 .0))
+    (at-front .front .last .1 .1 .0) (at-front .front .kept .1 .1 .0) ∙ behind-kept t at-set-second
 
 set-behind-returns : (t : ℕ) → set-behind-lts.Need-returns (set-behind-claims t) (set-behind-at t) set-behind.Post
 set-behind-returns t c =
-    let a = c .before .before .before .before .before .before .before .before .before .before .before .before .before .before
-    .before .before .before .before .before .args in
-    let p = c .before .before .before .before .before .before .before .before .before .before .before .before .before .before
-    .before .before .before .before .before .pre .1 in
-    let r = c .before .before .before .before .before .before .before .before .before .before .before .before .before .room in
-    behind-set (fontOf (a .table .now)) (a .style) (a .s .now) (a .kind) (a .line) (r .result)
-    (c .before .before .before .before .before .before .before .before .before .before .before .before .before .before .before .rule-count .result)
+    let at-front = c .before .before .before .before in
+    let at-last = at-front .before .before .before in
+    let at-set-second = at-last .before .before .before .before in
+    let at-room = at-set-second .before .before in
+    let at-rule-count = at-room .before .before in
+    let start = at-rule-count .before .before .before .before in
+    let a = start .args in
+    let p = start .pre .1 in
+    let r = at-room .room in
+    behind-set (fontOf (a .table .now)) (a .style) (a .s .now) (a .kind) (a .line) (r .result) (at-rule-count .rule-count .result)
     (a .at .end) (parametersIn (a .p)) (a .a)
-    (c .before .before .before .before .before .before .before .last .given .0 .0)
-    (c .before .before .before .before .before .before .before .last .given .0 .1 .0)
-    (c .before .before .before .before .front .result) (c .before .behind .result) (c .finished .result) (a .buf .now)
-    (c .before .before .before .before .front .last .1 .1 .0)
-    (c .before .before .before .before .before .before .before .before .before .before .before .set-second .last .1 .1 .1 .1 .1 .1 .1 .1 .0)
-    (noad-of (p .0)) (p .3) (r .ensures .0) (r .ensures .1)
-    (c .before .before .before .before .before .before .before .before .before .before .before .before .before .before .before .rule-count .ensures .0)
-    (p .0 .list .ready .parameters-are)
-    (behind-last t (c .before .before .before .before .before .before .before))
-    (c .before .before .before .before .front .ensures) (c .before .behind .ensures) (p .1 .end-is) (c .finished .ensures)
+    (at-last .last .given .0 .0) (at-last .last .given .0 .1 .0) (at-front .front .result) (c .before .behind .result)
+    (c .finished .result) (a .buf .now) (at-front .front .last .1 .1 .0)
+    (at-set-second .set-second .last .1 .1 .1 .1 .1 .1 .1 .1 .0) (noad-of (p .0)) (p .3) (r .ensures .0) (r .ensures .1)
+    (at-rule-count .rule-count .ensures .0) (p .0 .list .ready .parameters-are)
+    (behind-last t at-last) (at-front .front .ensures) (c .before .behind .ensures) (p .1 .end-is) (c .finished .ensures)
 
 set-behind-same-length-2 : (t : ℕ) → set-behind-lts.Need-same-length-2 (set-behind-claims t) (set-behind-at t) set-behind.Post
-set-behind-same-length-2 t c = behind-kept t (c .before .before .before .before .before)
+set-behind-same-length-2 t c =
+    let at-set-second = c .before .before .before .before .before in
+    behind-kept t at-set-second
 
 set-behind-returns-2 : (t : ℕ) → set-behind-lts.Need-returns-2 (set-behind-claims t) (set-behind-at t) set-behind.Post
 set-behind-returns-2 t c =
-    let a = c .before .before .before .before .before .before .before .before .before .before .before .before .before .args in
-    let p = c .before .before .before .before .before .before .before .before .before .before .before .before .before .pre .1 in
+    let at-set-second = c .before .before .before .before .before in
+    let at-room = at-set-second .before .before in
+    let start = at-room .before .before .before .before .before .before in
+    let a = start .args in
+    let p = start .pre .1 in
     let n = noad-of (p .0) in
     let F = fontOf (a .table .now) in
-    let j = c .before .before .before .before .before .before .before .room .result in
-    let e = c .before .before .before .before .before .set-second .last .1 .1 .1 .1 .1 .1 .1 .1 .0 in
+    let j = at-room .room .result in
+    let e = at-set-second .set-second .last .1 .1 .1 .1 .1 .1 .1 .1 .0 in
     behind-missing F (a .style) (a .kind) (a .line) (a .s .now) (n .x) (n .y) _
     (end (a .s .now) (a .kind) - second (a .s .now) (a .kind)) (c .before .last2 .given .0 .0) (a .a)
     (rightOf (a .s .now) (end (a .s .now) (a .kind)))
     (drop j (a .buf .now)) e (p .3)
-    (second-at F (a .style) (a .s .now) (a .kind) (a .line) (a .a .shape) j (c .before .before .before .before .before .set-second .result) (last.Missing (c .before .last2 .given .0 .0)) (a .buf .now) e
-    (c .before .last2 .given .1) (c .before .before .before .before .before .set-second .ensures))
+    (second-at F (a .style) (a .s .now) (a .kind) (a .line) (a .a .shape) j (at-set-second .set-second .result) (last.Missing (c .before .last2 .given .0 .0)) (a .buf .now) e
+    (c .before .last2 .given .1) (at-set-second .set-second .ensures))
 
 -- ---- set_field
 
@@ -343,13 +360,13 @@ list-lacks : (t : ℕ) (c : set-field-lts.After-l2 (set-field-claims t) (set-fie
     let n = c .before .before .before .before .before .before .before .before .head2 .given .0 .0 in
     missingItems (fontOf (a .table .now)) (a .style) 0 (treeOf (contents n (a .s .now))) ≡ some (c .l2 .given .0 .0)
 list-lacks t c =
-    let a = c .before .before .before .before .before .before .before .before .before .before .before .before .before .before .args in
-    list-at (fontOf (a .table .now)) (a .style) (a .s .now)
-    (c .before .before .before .before .before .before .before .before .head2 .given .0 .0) (a .buf .now)
-    (c .before .before .before .before .set-list .result) (lists.Missing (c .l2 .given .0 .0))
-    (c .before .before .before .before .set-list .last .1 .1 .1 .1 .0)
-    (list-head t (c .before .before .before .before .before .before .before .before)) (c .l2 .given .1)
-    (c .before .before .before .before .set-list .ensures)
+    let at-set-list = c .before .before .before .before in
+    let at-head2 = at-set-list .before .before .before .before in
+    let start = at-head2 .before .before .before .before .before .before in
+    let a = start .args in
+    list-at (fontOf (a .table .now)) (a .style) (a .s .now) (at-head2 .head2 .given .0 .0) (a .buf .now)
+    (at-set-list .set-list .result) (lists.Missing (c .l2 .given .0 .0)) (at-set-list .set-list .last .1 .1 .1 .1 .0)
+    (list-head t at-head2) (c .l2 .given .1) (at-set-list .set-list .ensures)
 
 set-field-field-head-requires : (t : ℕ) → set-field-lts.Need-field-head-requires (set-field-claims t) (set-field-at t) set-field.Post
 set-field-field-head-requires t c κs = search needs
@@ -376,7 +393,9 @@ set-field-enum-known-head-2 : (t : ℕ) → set-field-lts.Need-enum-known-head-2
 set-field-enum-known-head-2 t c = search needs
 
 set-field-add-end : (t : ℕ) → set-field-lts.Need-add-end (set-field-claims t) (set-field-at t) set-field.Post
-set-field-add-end t c = omega (arith, list-fits t (c .before), c .before .before .before .before .before .before .before .pre .1 .short)
+set-field-add-end t c =
+    let start = c .before .before .before .before .before .before .before in
+    omega (arith, list-fits t (c .before), start .pre .1 .short)
 
 set-field-sub-set-list : (t : ℕ) → set-field-lts.Need-sub-set-list (set-field-claims t) (set-field-at t) set-field.Post
 set-field-sub-set-list t c = omega arith
@@ -388,7 +407,10 @@ set-field-part-set-list-end : (t : ℕ) → set-field-lts.Need-part-set-list-end
 set-field-part-set-list-end t c = omega (arith, list-fits t (c .before))
 
 set-field-set-list-requires : (t : ℕ) → set-field-lts.Need-set-list-requires (set-field-claims t) (set-field-at t) set-field.Post
-set-field-set-list-requires t c κs = (omega (arith, c .before .set-list-arg .given .2, list-fits t (c .before .before .before)), list-given _ _ _ _ (c .before .before .before .before .before .before .before .before .before .pre .1) (list-head t (c .before .before .before)))
+set-field-set-list-requires t c κs =
+    let at-head = c .before .before .before in
+    let start = at-head .before .before .before .before .before .before in
+    (omega (arith, c .before .set-list-arg .given .2, list-fits t at-head), list-given _ _ _ _ (start .pre .1) (list-head t at-head))
 
 set-field-enum-known-l : (t : ℕ) → set-field-lts.Need-enum-known-l (set-field-claims t) (set-field-at t) set-field.Post
 set-field-enum-known-l t c = search needs
@@ -401,10 +423,11 @@ set-field-enum-known-l-2 t c = search needs
 
 set-field-add-t28 : (t : ℕ) → set-field-lts.Need-add-t28 (set-field-claims t) (set-field-at t) set-field.Post
 set-field-add-t28 t c =
-    let a = c .before .before .before .before .before .before .before .before .before .before .before .before .before .before
-    .before .args in
+    let at-head = c .before .before .before .before .before .before .before .before .before in
+    let start = at-head .before .before .before .before .before .before in
+    let a = start .args in
     omega
-    (arith, list-place (fontOf (a .table .now)) (a .style) (a .s .now) _ _ (c .before .before .before .before .before .before .before .before .before .before .before .before .before .before .before .pre .1) (list-head t (c .before .before .before .before .before .before .before .before .before)) (list-lacks t (c .before)))
+    (arith, list-place (fontOf (a .table .now)) (a .style) (a .s .now) _ _ (start .pre .1) (list-head t at-head) (list-lacks t (c .before)))
 
 set-field-enum-told-3 : (t : ℕ) → set-field-lts.Need-enum-told-3 (set-field-claims t) (set-field-at t) set-field.Post
 set-field-enum-told-3 t c = search needs
@@ -413,14 +436,20 @@ set-field-empty-part-requires-3 : (t : ℕ) → set-field-lts.Need-empty-part-re
 set-field-empty-part-requires-3 t c κs = search needs
 
 set-field-returns : (t : ℕ) → set-field-lts.Need-returns (set-field-claims t) (set-field-at t) set-field.Post
-set-field-returns t c = absurd (subst (GoodField (c .before .before .before .before .before .before .before .args .s .now)) (sym (c .before .before .before .field-head .ensures) ∙ c .before .enum-told .given .1) (c .before .before .before .before .before .before .before .pre .1 .good))
+set-field-returns t c =
+    let at-field-head = c .before .before .before in
+    let start = at-field-head .before .before .before .before in
+    absurd
+    (subst (GoodField (start .args .s .now)) (sym (at-field-head .field-head .ensures) ∙ c .before .enum-told .given .1) (start .pre .1 .good))
 
 set-field-returns-2 : (t : ℕ) → set-field-lts.Need-returns-2 (set-field-claims t) (set-field-at t) set-field.Post
 set-field-returns-2 t c =
-    let a = c .before .before .before .before .before .before .before .args in
+    let at-field-head = c .before .before .before in
+    let start = at-field-head .before .before .before .before in
+    let a = start .args in
     let F = fontOf (a .table .now) in
     head-done F (a .style) (a .enlarge) (a .s .now) Empty (a .buf .now) (field.Whole (c .empty-part2 .result)) (a .buf .now)
-    (sym (c .before .before .before .field-head .ensures) ∙ c .before .enum-told2 .given .1)
+    (sym (at-field-head .field-head .ensures) ∙ c .before .enum-told2 .given .1)
     (field-empty F (a .style) (a .enlarge) 1 (a .buf .now) (c .empty-part2 .result) (c .empty-part2 .ensures))
 
 set-field-same-length : (t : ℕ) → set-field-lts.Need-same-length (set-field-claims t) (set-field-at t) set-field.Post
@@ -428,46 +457,58 @@ set-field-same-length t c = c .before .before .symbol-part .kept .1 .1 .1 .1 .1 
 
 set-field-returns-3 : (t : ℕ) → set-field-lts.Need-returns-3 (set-field-claims t) (set-field-at t) set-field.Post
 set-field-returns-3 t c =
-    let a = c .before .before .before .before .before .before .before .before .before .before .before .args in
-    let h = c .before .before .before .before .before .head .given in
+    let at-head = c .before .before .before .before .before in
+    let at-field-head = at-head .before .before in
+    let start = at-field-head .before .before .before .before in
+    let a = start .args in
+    let h = at-head .head .given in
     head-done (fontOf (a .table .now)) (a .style) (a .enlarge) (a .s .now) (Symbol (h .0 .0) (h .0 .1 .0)) (a .buf .now)
     (c .before .before .symbol-part .result)
-    (c .before .before .symbol-part .last .1 .1 .1 .1 .1 .0)
-    (sym (c .before .before .before .before .before .before .before .field-head .ensures) ∙ h .1)
+    (c .before .before .symbol-part .last .1 .1 .1 .1 .1 .0) (sym (at-field-head .field-head .ensures) ∙ h .1)
     (c .before .before .symbol-part .ensures)
 
 set-field-same-length-2 : (t : ℕ) → set-field-lts.Need-same-length-2 (set-field-claims t) (set-field-at t) set-field.Post
-set-field-same-length-2 t c = c .before .before .before .before .before .before .set-list .kept .1 .1 .1 .1 .0
+set-field-same-length-2 t c =
+    let at-set-list = c .before .before .before .before .before .before in
+    at-set-list .set-list .kept .1 .1 .1 .1 .0
 
 set-field-returns-4 : (t : ℕ) → set-field-lts.Need-returns-4 (set-field-claims t) (set-field-at t) set-field.Post
 set-field-returns-4 t c =
-    let a = c .before .before .before .before .before .before .before .before .before .before .before .before .before .before
-    .before .before .args in
+    let at-set-list = c .before .before .before .before .before .before in
+    let at-head2 = at-set-list .before .before .before .before in
+    let start = at-head2 .before .before .before .before .before .before in
+    let a = start .args in
     let F = fontOf (a .table .now) in
-    let n = c .before .before .before .before .before .before .before .before .before .before .head2 .given .0 .0 in
+    let n = at-head2 .head2 .given .0 .0 in
     let r = c .list-part .result in
-    let b′ = c .before .before .before .before .before .before .set-list .last .1 .1 .1 .1 .0 in
-    head-done F (a .style) (a .enlarge) (a .s .now) (Sublist n) (a .buf .now) (field.Whole r) b′
-    (list-head t (c .before .before .before .before .before .before .before .before .before .before))
+    let b′ = at-set-list .set-list .last .1 .1 .1 .1 .0 in
+    head-done F (a .style) (a .enlarge) (a .s .now) (Sublist n) (a .buf .now) (field.Whole r) b′ (list-head t at-head2)
     (list-whole F (a .style) (a .enlarge) (treeOf (contents n (a .s .now))) n (a .buf .now) b′ (c .before .before .l .given .0 .0) r (list-set t (c .before .before)) (c .list-part .ensures))
 
 set-field-same-length-3 : (t : ℕ) → set-field-lts.Need-same-length-3 (set-field-claims t) (set-field-at t) set-field.Post
-set-field-same-length-3 t c = c .before .before .before .before .before .set-list .kept .1 .1 .1 .1 .0
+set-field-same-length-3 t c =
+    let at-set-list = c .before .before .before .before .before in
+    at-set-list .set-list .kept .1 .1 .1 .1 .0
 
 set-field-returns-5 : (t : ℕ) → set-field-lts.Need-returns-5 (set-field-claims t) (set-field-at t) set-field.Post
 set-field-returns-5 t c =
-    let a = c .before .before .before .before .before .before .before .before .before .before .before .before .before .before
-    .before .args in
+    let at-set-list = c .before .before .before .before .before in
+    let at-head2 = at-set-list .before .before .before .before in
+    let start = at-head2 .before .before .before .before .before .before in
+    let a = start .args in
     let F = fontOf (a .table .now) in
-    let n = c .before .before .before .before .before .before .before .before .before .head2 .given .0 .0 in
+    let n = at-head2 .head2 .given .0 .0 in
     let place = c .before .l2 .given .0 .0 in
-    let b′ = c .before .before .before .before .before .set-list .last .1 .1 .1 .1 .0 in
-    head-done F (a .style) (a .enlarge) (a .s .now) (Sublist n) (a .buf .now) (field.Missing (3 + place)) b′
-    (list-head t (c .before .before .before .before .before .before .before .before .before))
+    let b′ = at-set-list .set-list .last .1 .1 .1 .1 .0 in
+    head-done F (a .style) (a .enlarge) (a .s .now) (Sublist n) (a .buf .now) (field.Missing (3 + place)) b′ (list-head t at-head2)
     (list-missing F (a .style) (a .enlarge) (treeOf (contents n (a .s .now))) n place (a .buf .now) b′ (list-lacks t (c .before)))
 
 set-field-returns-6 : (t : ℕ) → set-field-lts.Need-returns-6 (set-field-claims t) (set-field-at t) set-field.Post
-set-field-returns-6 t c = absurd (subst (GoodField (c .before .before .before .before .before .before .before .args .s .now)) (sym (c .before .before .before .field-head .ensures) ∙ c .before .enum-told3 .given .1) (c .before .before .before .before .before .before .before .pre .1 .good))
+set-field-returns-6 t c =
+    let at-field-head = c .before .before .before in
+    let start = at-field-head .before .before .before .before in
+    absurd
+    (subst (GoodField (start .args .s .now)) (sym (at-field-head .field-head .ensures) ∙ c .before .enum-told3 .given .1) (start .pre .1 .good))
 
 -- ---- set_first
 
@@ -479,16 +520,17 @@ first-field : (t : ℕ) (c : set-first-lts.After-x (set-first-claims t) (set-fir
     (headBytes (headAt (a .s .now) k)) (a .buf .now) (field.Whole (c .x .given .0 .0))
     (c .before .before .before .before .set-field .last .1 .1 .1 .1 .1 .0)
 first-field t c =
-    let a = c .before .before .before .before .before .before .before .before .before .before .before .before .before .args in
-    field-at (fontOf (a .table .now)) (c .before .before .before .before .before .before .before .before .first-style .result) _
-    (c .before .before .before .before .before .before .before .enlarges .result) _ (a .s .now)
-    (c .before .before .before .before .before .before .before .before .before .places-of .result .first) (openingBytes (a .kind))
-    (a .buf .now) (c .before .before .before .before .set-field .result) (field.Whole (c .x .given .0 .0))
-    (c .before .before .before .before .set-field .last .1 .1 .1 .1 .1 .0)
-    (c .before .before .before .before .before .before .before .before .first-style .ensures)
-    (c .before .before .before .before .before .before .before .enlarges .ensures)
-    (c .before .before .before .before .before .before .before .before .before .places-of .ensures .first-is) (c .x .given .1)
-    (c .before .before .before .before .set-field .ensures)
+    let at-set-field = c .before .before .before .before in
+    let at-enlarges = at-set-field .before .before .before in
+    let at-first-style = at-enlarges .before in
+    let at-places-of = at-first-style .before in
+    let start = at-places-of .before .before .before .before in
+    let a = start .args in
+    field-at (fontOf (a .table .now)) (at-first-style .first-style .result) _ (at-enlarges .enlarges .result) _ (a .s .now)
+    (at-places-of .places-of .result .first) (openingBytes (a .kind))
+    (a .buf .now) (at-set-field .set-field .result) (field.Whole (c .x .given .0 .0))
+    (at-set-field .set-field .last .1 .1 .1 .1 .1 .0) (at-first-style .first-style .ensures)
+    (at-enlarges .enlarges .ensures) (at-places-of .places-of .ensures .first-is) (c .x .given .1) (at-set-field .set-field .ensures)
 
 first-lacks : (t : ℕ) (c : set-first-lts.After-x2 (set-first-claims t) (set-first-at t) set-first.Post) →
     let a = c .before .before .before .before .before .before .before .before .before .before .before .before .before .args in
@@ -497,19 +539,22 @@ first-lacks : (t : ℕ) (c : set-first-lts.After-x2 (set-first-claims t) (set-fi
     (headBytes (headAt (a .s .now) k)) (a .buf .now) (field.Missing (c .x2 .given .0 .0))
     (c .before .before .before .before .set-field .last .1 .1 .1 .1 .1 .0)
 first-lacks t c =
-    let a = c .before .before .before .before .before .before .before .before .before .before .before .before .before .args in
-    field-at (fontOf (a .table .now)) (c .before .before .before .before .before .before .before .before .first-style .result) _
-    (c .before .before .before .before .before .before .before .enlarges .result) _ (a .s .now)
-    (c .before .before .before .before .before .before .before .before .before .places-of .result .first) (openingBytes (a .kind))
-    (a .buf .now) (c .before .before .before .before .set-field .result) (field.Missing (c .x2 .given .0 .0))
-    (c .before .before .before .before .set-field .last .1 .1 .1 .1 .1 .0)
-    (c .before .before .before .before .before .before .before .before .first-style .ensures)
-    (c .before .before .before .before .before .before .before .enlarges .ensures)
-    (c .before .before .before .before .before .before .before .before .before .places-of .ensures .first-is) (c .x2 .given .1)
-    (c .before .before .before .before .set-field .ensures)
+    let at-set-field = c .before .before .before .before in
+    let at-enlarges = at-set-field .before .before .before in
+    let at-first-style = at-enlarges .before in
+    let at-places-of = at-first-style .before in
+    let start = at-places-of .before .before .before .before in
+    let a = start .args in
+    field-at (fontOf (a .table .now)) (at-first-style .first-style .result) _ (at-enlarges .enlarges .result) _ (a .s .now)
+    (at-places-of .places-of .result .first) (openingBytes (a .kind))
+    (a .buf .now) (at-set-field .set-field .result) (field.Missing (c .x2 .given .0 .0))
+    (at-set-field .set-field .last .1 .1 .1 .1 .1 .0) (at-first-style .first-style .ensures)
+    (at-enlarges .enlarges .ensures) (at-places-of .places-of .ensures .first-is) (c .x2 .given .1) (at-set-field .set-field .ensures)
 
 set-first-places-of-requires : (t : ℕ) → set-first-lts.Need-places-of-requires (set-first-claims t) (set-first-at t) set-first.Post
-set-first-places-of-requires t c κs = let given = c .before .before .before .pre .1 .0 in record { opens = given .opens; short = given .list .short }
+set-first-places-of-requires t c κs =
+    let start = c .before .before .before in
+    let given = start .pre .1 .0 in record { opens = given .opens; short = given .list .short }
 
 set-first-first-style-requires : (t : ℕ) → set-first-lts.Need-first-style-requires (set-first-claims t) (set-first-at t) set-first.Post
 set-first-first-style-requires t c κs = search needs
@@ -519,84 +564,97 @@ set-first-enlarges-requires t c κs = search needs
 
 set-first-sub-set-field : (t : ℕ) → set-first-lts.Need-sub-set-field (set-first-claims t) (set-first-at t) set-first.Post
 set-first-sub-set-field t c =
-    let n = noad-of (c .before .before .before .before .before .before .pre .1 .0) in
+    let start = c .before .before .before .before .before .before in
+    let n = noad-of (start .pre .1 .0) in
     let is = c .before .before .places-of .ensures .first-is in
     omega arith
 
 set-first-part-set-field-start : (t : ℕ) → set-first-lts.Need-part-set-field-start (set-first-claims t) (set-first-at t) set-first.Post
 set-first-part-set-field-start t c =
-    let n = noad-of (c .before .before .before .before .before .before .pre .1 .0) in
+    let start = c .before .before .before .before .before .before in
+    let n = noad-of (start .pre .1 .0) in
     let is = c .before .before .places-of .ensures .first-is in
     omega arith
 
 set-first-part-set-field-end : (t : ℕ) → set-first-lts.Need-part-set-field-end (set-first-claims t) (set-first-at t) set-first.Post
 set-first-part-set-field-end t c =
-    let n = noad-of (c .before .before .before .before .before .before .pre .1 .0) in
+    let start = c .before .before .before .before .before .before in
+    let n = noad-of (start .pre .1 .0) in
     let is = c .before .before .places-of .ensures .first-is in
     omega arith
 
 set-first-set-field-requires : (t : ℕ) → set-first-lts.Need-set-field-requires (set-first-claims t) (set-first-at t) set-first.Post
 set-first-set-field-requires t c κs =
-    let given = c .before .before .before .before .before .before .before .before .pre .1 .0 in
+    let at-places-of = c .before .before .before .before in
+    let start = at-places-of .before .before .before .before in
+    let given = start .pre .1 .0 in
     let n = noad-of given in
-    let is = c .before .before .before .before .places-of .ensures .first-is in
+    let is = at-places-of .places-of .ensures .first-is in
     (omega (arith, c .before .set-field-arg .given .2), field-given _ _ _ _ _ (given .list .ready) (given .list .short) is (n .x))
 
 set-first-enum-known-x : (t : ℕ) → set-first-lts.Need-enum-known-x (set-first-claims t) (set-first-at t) set-first.Post
 set-first-enum-known-x t c = search needs
 
 set-first-set-behind-requires : (t : ℕ) → set-first-lts.Need-set-behind-requires (set-first-claims t) (set-first-at t) set-first.Post
-set-first-set-behind-requires t c κs = (omega arith, (c .before .before .before .before .before .before .before .before .before .before .before .before .before .before .before .pre .1 .0, c .before .before .before .before .before .before .before .before .before .before .before .places-of .ensures, c .before .before .before .before .before .before .before .before .before .before .before .before .before .before .before .pre .1 .1, first-field t (c .before .before) .0))
+set-first-set-behind-requires t c κs =
+    let at-places-of = c .before .before .before .before .before .before .before .before .before .before .before in
+    let start = at-places-of .before .before .before .before in
+    (omega arith, (start .pre .1 .0, at-places-of .places-of .ensures, start .pre .1 .1, first-field t (c .before .before) .0))
 
 set-first-enum-known-x-2 : (t : ℕ) → set-first-lts.Need-enum-known-x-2 (set-first-claims t) (set-first-at t) set-first.Post
 set-first-enum-known-x-2 t c = search needs
 
 set-first-add-t24 : (t : ℕ) → set-first-lts.Need-add-t24 (set-first-claims t) (set-first-at t) set-first.Post
 set-first-add-t24 t c =
-    let a = c .before .before .before .before .before .before .before .before .before .before .before .before .before .before .args in
-    let given = c .before .before .before .before .before .before .before .before .before .before .before .before .before .before
-    .pre .1 .0 in
+    let at-places-of = c .before .before .before .before .before .before .before .before .before .before in
+    let start = at-places-of .before .before .before .before in
+    let a = start .args in
+    let given = start .pre .1 .0 in
     let n = noad-of given in
-    let is = c .before .before .before .before .before .before .before .before .before .before .places-of .ensures .first-is in
+    let is = at-places-of .places-of .ensures .first-is in
     let short = given .list .short in
     omega
     (arith, missing-field-in (fontOf (a .table .now)) (a .s .now) (openingBytes (a .kind)) (n .x) (firstStyle (a .kind) (a .style)) (enlarges (a .kind) (a .style)) (c .before .x2 .given .0 .0) (first-lacks t (c .before)))
 
 set-first-same-length : (t : ℕ) → set-first-lts.Need-same-length (set-first-claims t) (set-first-at t) set-first.Post
-set-first-same-length t c = c .before .before .set-behind .kept .1 .1 .1 .1 .1 .1 .1 .1 .0 ∙ c .before .before .before .before .before .before .before .before .before .set-field .kept .1 .1 .1 .1 .1 .0
+set-first-same-length t c =
+    let at-set-field = c .before .before .before .before .before .before .before .before .before in
+    c .before .before .set-behind .kept .1 .1 .1 .1 .1 .1 .1 .1 .0 ∙ at-set-field .set-field .kept .1 .1 .1 .1 .1 .0
 
 set-first-returns : (t : ℕ) → set-first-lts.Need-returns (set-first-claims t) (set-first-at t) set-first.Post
 set-first-returns t c =
-    let a = c .before .before .before .before .before .before .before .before .before .before .before .before .before .before
-    .before .before .before .before .args in
+    let at-x = c .before .before .before .before .before in
+    let at-set-field = at-x .before .before .before .before in
+    let start = at-set-field .before .before .before .before .before .before .before .before .before in
+    let a = start .args in
     let F = fontOf (a .table .now) in
     let b = a .buf .now in
-    let b₁ = c .before .before .before .before .before .before .before .before .before .set-field .last .1 .1 .1 .1 .1 .0 in
+    let b₁ = at-set-field .set-field .last .1 .1 .1 .1 .1 .0 in
     let z = c .before .before .set-behind in
     item-done F (a .style) (a .s .now) (a .line) (Fields (a .kind)) b (z .result) (z .last .1 .1 .1 .1 .1 .1 .1 .1 .0)
-    (c .before .before .before .before .before .before .before .before .before .before .before .before .before .before .before .before .before .before .pre .1 .0 .opens)
-    (first-set F (a .style) (a .s .now) (a .kind) (a .line) (z .result) (c .before .before .before .before .before .x .given .0 .0) b b₁ (z .last .1 .1 .1 .1 .1 .1 .1 .1 .0) (first-field t (c .before .before .before .before .before)) (c .before .before .before .before .before .before .before .before .before .set-field .kept .1 .1 .1 .1 .1 .0) (z .ensures))
+    (start .pre .1 .0 .opens)
+    (first-set F (a .style) (a .s .now) (a .kind) (a .line) (z .result) (at-x .x .given .0 .0) b b₁ (z .last .1 .1 .1 .1 .1 .1 .1 .1 .0) (first-field t at-x) (at-set-field .set-field .kept .1 .1 .1 .1 .1 .0) (z .ensures))
 
 set-first-same-length-2 : (t : ℕ) → set-first-lts.Need-same-length-2 (set-first-claims t) (set-first-at t) set-first.Post
-set-first-same-length-2 t c = c .before .before .before .before .before .set-field .kept .1 .1 .1 .1 .1 .0
+set-first-same-length-2 t c =
+    let at-set-field = c .before .before .before .before .before in
+    at-set-field .set-field .kept .1 .1 .1 .1 .1 .0
 
 set-first-returns-2 : (t : ℕ) → set-first-lts.Need-returns-2 (set-first-claims t) (set-first-at t) set-first.Post
 set-first-returns-2 t c =
-    let a = c .before .before .before .before .before .before .before .before .before .before .before .before .before .before .args in
+    let at-set-field = c .before .before .before .before .before in
+    let at-places-of = at-set-field .before .before .before .before .before in
+    let start = at-places-of .before .before .before .before in
+    let a = start .args in
     let F = fontOf (a .table .now) in
     let b = a .buf .now in
-    let n = noad-of
-    (c .before .before .before .before .before .before .before .before .before .before .before .before .before .before .pre .1 .0)
-    in
+    let n = noad-of (start .pre .1 .0) in
     let place = c .before .x2 .given .0 .0 in
-    let b₁ = c .before .before .before .before .before .set-field .last .1 .1 .1 .1 .1 .0 in
+    let b₁ = at-set-field .set-field .last .1 .1 .1 .1 .1 .0 in
     item-done F (a .style) (a .s .now) (a .line) (Fields (a .kind)) b
-    (steps.Missing (c .before .before .before .before .before .before .before .before .before .before .places-of .result .first + place))
-    b₁
-    (c .before .before .before .before .before .before .before .before .before .before .before .before .before .before .pre .1 .0 .opens)
+    (steps.Missing (at-places-of .places-of .result .first + place)) b₁ (start .pre .1 .0 .opens)
     (first-missing F (a .style) (a .kind) (a .line) (a .s .now) (n .x) (n .y) 0 place b b₁ (first-lacks t (c .before))
-    ∙ ap (λ (k : ℕ). some (k + place))
-    (sym (c .before .before .before .before .before .before .before .before .before .before .places-of .ensures .first-is)))
+    ∙ ap (λ (k : ℕ). some (k + place)) (sym (at-places-of .places-of .ensures .first-is)))
 
 -- ---- set_item
 
@@ -610,29 +668,34 @@ set-item-enum-known-o : (t : ℕ) → set-item-lts.Need-enum-known-o (set-item-c
 set-item-enum-known-o t c = search needs
 
 set-item-set-first-requires : (t : ℕ) → set-item-lts.Need-set-first-requires (set-item-claims t) (set-item-at t) set-item.Post
-set-item-set-first-requires t c κs = (omega arith, (record { list = c .before .before .before .before .before .before .before .before .pre .1 .0; opens = sym (c .before .before .before .before .opening .ensures) ∙ c .before .before .o .given .1 }, c .before .before .before .before .before .before .before .before .pre .1 .1))
+set-item-set-first-requires t c κs =
+    let at-opening = c .before .before .before .before in
+    let start = at-opening .before .before .before .before in
+    (omega arith, (record { list = start .pre .1 .0; opens = sym (at-opening .opening .ensures) ∙ c .before .before .o .given .1 }, start .pre .1 .1))
 
 set-item-enum-known-o-2 : (t : ℕ) → set-item-lts.Need-enum-known-o-2 (set-item-claims t) (set-item-at t) set-item.Post
 set-item-enum-known-o-2 t c = search needs
 
 set-item-kerned-requires : (t : ℕ) → set-item-lts.Need-kerned-requires (set-item-claims t) (set-item-at t) set-item.Post
 set-item-kerned-requires t c κs =
-    let start = c .before .before .before .before .before .before .before in
+    let at-opening = c .before .before .before in
+    let start = at-opening .before .before .before .before in
     let s = start .args .s .now in
     let n = c .before .o2 .given .0 .0 in
-    let opens : openingOf s ≡ Kern n = sym (c .before .before .before .opening .ensures) ∙ c .before .o2 .given .1 in
+    let opens : openingOf s ≡ Kern n = sym (at-opening .opening .ensures) ∙ c .before .o2 .given .1 in
     let given = start .pre .1 .1 in
     (given .small, omega (arith, opening-fits s (Kern n) opens, given .short), kern-small s n opens)
 
 set-item-returns : (t : ℕ) → set-item-lts.Need-returns (set-item-claims t) (set-item-at t) set-item.Post
 set-item-returns t c =
-    let a = c .before .before .before .before .before .before .args in
+    let start = c .before .before .before .before .before .before in
+    let a = start .args in
     let F = fontOf (a .table .now) in
     let s = a .s .now in
     let b = a .buf .now in
     item-done F (a .style) s (a .line) NoItem b (steps.Next (a .line)) b
     (sym (c .before .before .opening .ensures) ∙ c .enum-told .given .1)
-    (no-item F (a .style) (rightOf s 0) (a .line) b (c .before .before .before .before .before .before .pre .1 .1 .small))
+    (no-item F (a .style) (rightOf s 0) (a .line) b (start .pre .1 .1 .small))
 
 set-item-same-length : (t : ℕ) → set-item-lts.Need-same-length (set-item-claims t) (set-item-at t) set-item.Post
 set-item-same-length t c = c .before .before .set-first .kept .1 .1 .1 .1 .1 .1 .0
@@ -642,13 +705,15 @@ set-item-returns-2 t c = c .before .before .set-first .ensures
 
 set-item-returns-3 : (t : ℕ) → set-item-lts.Need-returns-3 (set-item-claims t) (set-item-at t) set-item.Post
 set-item-returns-3 t c =
-    let a = c .before .before .before .before .before .before .before .before .args in
+    let at-opening = c .before .before .before .before in
+    let start = at-opening .before .before .before .before in
+    let a = start .args in
     let F = fontOf (a .table .now) in
     let s = a .s .now in
     let b = a .buf .now in
     let n = c .before .before .o2 .given .0 .0 in
     item-done F (a .style) s (a .line) (Kern n) b (steps.Next (c .kerned .result)) b
-    (sym (c .before .before .before .before .opening .ensures) ∙ c .before .before .o2 .given .1)
+    (sym (at-opening .opening .ensures) ∙ c .before .before .o2 .given .1)
     (item-kern F (a .style) (rightOf s 6) (a .line) b (n .0) (c .kerned .result) (c .kerned .ensures))
 
 -- ---- set_list
@@ -670,14 +735,17 @@ turn-next : (t : ℕ) (c : set-list-lts.After-step (set-list-claims t) (set-list
     (putMid j (length (o .buf) - j) (o .buf) (c .before .before .before .before .set-item .last .1 .1 .1 .1 .1 .0))
     (c .step .given .0 .0)
 turn-next t c =
-    let o = c .before .before .before .before .before .before .before .before .before .before .loop in
-    let a = c .before .before .before .before .before .before .before .before .before .before .before .before .before .before
-    .before .args in
-    let r = c .before .before .before .before .before .before .before .room in
-    let z = c .before .before .before .before .set-item in
-    along-next (fontOf (a .table .now)) (a .style) (a .s .now) (a .buf .now) (o .buf) (o .line) (o .inv)
-    (c .before .before .before .before .before .before .before .before .if1 .taken) (r .result) (z .result)
-    (z .last .1 .1 .1 .1 .1 .0) (c .step .given .0 .0)
+    let at-set-item = c .before .before .before .before in
+    let at-room = at-set-item .before .before .before in
+    let branch = at-room .before in
+    let turn = branch .before .before in
+    let start = turn .before .before .before .before .before in
+    let o = turn .loop in
+    let a = start .args in
+    let r = at-room .room in
+    let z = at-set-item .set-item in
+    along-next (fontOf (a .table .now)) (a .style) (a .s .now) (a .buf .now) (o .buf) (o .line) (o .inv) (branch .if1 .taken)
+    (r .result) (z .result) (z .last .1 .1 .1 .1 .1 .0) (c .step .given .0 .0)
     (c .step .given .1) (r .ensures .0) (r .ensures .1) (z .kept .1 .1 .1 .1 .1 .0) (z .ensures)
 
 turn-stop : (t : ℕ) (c : set-list-lts.After-step2 (set-list-claims t) (set-list-at t) set-list.Post set-list-Inv-loop set-list-μ-loop) →
@@ -687,14 +755,17 @@ turn-stop : (t : ℕ) (c : set-list-lts.After-step2 (set-list-claims t) (set-lis
     let place = o .line .bytes + c .step2 .given .0 .0 in
     (missingItems (fontOf (a .table .now)) (a .style) 0 (treeOf (a .s .now)) ≡ some place) × (place ≤ length (a .s .now))
 turn-stop t c =
-    let o = c .before .before .before .before .before .before .before .before .before .before .loop in
-    let a = c .before .before .before .before .before .before .before .before .before .before .before .before .before .before
-    .before .args in
-    let z = c .before .before .before .before .set-item in
-    let j = c .before .before .before .before .before .before .before .room .result in
-    along-stop (fontOf (a .table .now)) (a .style) (a .s .now) (a .buf .now) (o .buf) (o .line) (o .inv)
-    (c .before .before .before .before .before .before .before .before .if1 .taken)
-    (c .before .before .before .before .before .before .before .before .before .before .before .before .before .before .before .pre .1 .readable)
+    let at-set-item = c .before .before .before .before in
+    let at-room = at-set-item .before .before .before in
+    let branch = at-room .before in
+    let turn = branch .before .before in
+    let start = turn .before .before .before .before .before in
+    let o = turn .loop in
+    let a = start .args in
+    let z = at-set-item .set-item in
+    let j = at-room .room .result in
+    along-stop (fontOf (a .table .now)) (a .style) (a .s .now) (a .buf .now) (o .buf) (o .line) (o .inv) (branch .if1 .taken)
+    (start .pre .1 .readable)
     (z .result) (take (length (o .buf) - j) (drop j (o .buf))) (z .last .1 .1 .1 .1 .1 .0) (c .step2 .given .0 .0)
     (c .step2 .given .1) (z .ensures)
 
@@ -702,19 +773,27 @@ set-list-start-requires : (t : ℕ) → set-list-lts.Need-start-requires (set-li
 set-list-start-requires t c κs = search needs
 
 set-list-loop-holds : (t : ℕ) → set-list-lts.Need-loop-holds (set-list-claims t) (set-list-at t) set-list.Post set-list-Inv-loop set-list-μ-loop
-set-list-loop-holds t c = along-start _ _ _ _ _ (c .before .before .before .before .pre .1 .readable) (c .start .ensures)
+set-list-loop-holds t c =
+    let start = c .before .before .before .before in
+    along-start _ _ _ _ _ (start .pre .1 .readable) (c .start .ensures)
 
 set-list-room-requires : (t : ℕ) → set-list-lts.Need-room-requires (set-list-claims t) (set-list-at t) set-list.Post set-list-Inv-loop set-list-μ-loop
 set-list-room-requires t c κs = search needs
 
 set-list-sub-set-item : (t : ℕ) → set-list-lts.Need-sub-set-item (set-list-claims t) (set-list-at t) set-list.Post set-list-Inv-loop set-list-μ-loop
-set-list-sub-set-item t c = c .before .before .before .loop .inv .low
+set-list-sub-set-item t c =
+    let turn = c .before .before .before in
+    turn .loop .inv .low
 
 set-list-part-set-item-start : (t : ℕ) → set-list-lts.Need-part-set-item-start (set-list-claims t) (set-list-at t) set-list.Post set-list-Inv-loop set-list-μ-loop
-set-list-part-set-item-start t c = omega (arith, c .before .before .before .loop .inv .low)
+set-list-part-set-item-start t c =
+    let turn = c .before .before .before in
+    omega (arith, turn .loop .inv .low)
 
 set-list-part-set-item-end : (t : ℕ) → set-list-lts.Need-part-set-item-end (set-list-claims t) (set-list-at t) set-list.Post set-list-Inv-loop set-list-μ-loop
-set-list-part-set-item-end t c = omega (arith, c .before .before .before .loop .inv .low)
+set-list-part-set-item-end t c =
+    let turn = c .before .before .before in
+    omega (arith, turn .loop .inv .low)
 
 set-list-sub-set-item-2 : (t : ℕ) → set-list-lts.Need-sub-set-item-2 (set-list-claims t) (set-list-at t) set-list.Post set-list-Inv-loop set-list-μ-loop
 set-list-sub-set-item-2 t c = c .before .room .ensures .0
@@ -727,14 +806,18 @@ set-list-part-set-item-end-2 t c = omega (arith, c .before .room .ensures .0)
 
 set-list-set-item-requires : (t : ℕ) → set-list-lts.Need-set-item-requires (set-list-claims t) (set-list-at t) set-list.Post set-list-Inv-loop set-list-μ-loop
 set-list-set-item-requires t c κs =
-    let i = c .before .before .before .before .before .loop .inv in
-    (omega (arith, c .before .set-item-arg .given .2, i .low), rest-given _ _ _ (c .before .before .before .before .before .loop .line) (c .before .before .before .before .before .before .before .before .before .before .pre .1) (i .rest) (i .small) (i .low))
+    let turn = c .before .before .before .before .before in
+    let start = turn .before .before .before .before .before in
+    let i = turn .loop .inv in
+    (omega (arith, c .before .set-item-arg .given .2, i .low), rest-given _ _ _ (turn .loop .line) (start .pre .1) (i .rest) (i .small) (i .low))
 
 set-list-enum-known-step : (t : ℕ) → set-list-lts.Need-enum-known-step (set-list-claims t) (set-list-at t) set-list.Post set-list-Inv-loop set-list-μ-loop
 set-list-enum-known-step t c = search needs
 
 set-list-loop-less : (t : ℕ) → set-list-lts.Need-loop-less (set-list-claims t) (set-list-at t) set-list.Post set-list-Inv-loop set-list-μ-loop
-set-list-loop-less t c = omega (arith, turn-next t (c .before) .0, c .before .before .before .before .before .before .before .before .before .if1 .taken)
+set-list-loop-less t c =
+    let branch = c .before .before .before .before .before .before .before .before .before in
+    omega (arith, turn-next t (c .before) .0, branch .if1 .taken)
 
 set-list-loop-again : (t : ℕ) → set-list-lts.Need-loop-again (set-list-claims t) (set-list-at t) set-list.Post set-list-Inv-loop set-list-μ-loop
 set-list-loop-again t c = turn-next t (c .before) .1
@@ -747,10 +830,13 @@ set-list-add-t21 t c = omega (arith, turn-stop t (c .before) .1)
 
 set-list-same-length : (t : ℕ) → set-list-lts.Need-same-length (set-list-claims t) (set-list-at t) set-list.Post set-list-Inv-loop set-list-μ-loop
 set-list-same-length t c =
-    let j = c .before .before .before .before .before .before .before .before .room .result in
-    let o = c .before .before .before .before .before .before .before .before .before .before .before .loop in
-    same-len-mid j (length (o .buf) - j) (o .buf) (c .before .before .before .before .before .set-item .last .1 .1 .1 .1 .1 .0)
-    (c .before .before .before .before .before .set-item .kept .1 .1 .1 .1 .1 .0) ∙ o .inv .same
+    let at-set-item = c .before .before .before .before .before in
+    let at-room = at-set-item .before .before .before in
+    let turn = at-room .before .before .before in
+    let j = at-room .room .result in
+    let o = turn .loop in
+    same-len-mid j (length (o .buf) - j) (o .buf) (at-set-item .set-item .last .1 .1 .1 .1 .1 .0)
+    (at-set-item .set-item .kept .1 .1 .1 .1 .1 .0) ∙ o .inv .same
 
 set-list-returns : (t : ℕ) → set-list-lts.Need-returns (set-list-claims t) (set-list-at t) set-list.Post set-list-Inv-loop set-list-μ-loop
 set-list-returns t c = turn-stop t (c .before) .0
@@ -771,14 +857,15 @@ second-field : (t : ℕ) (c : set-second-lts.After-y (set-second-claims t) (set-
     (headBytes (headAt (a .s .now) k)) (a .buf .now) (field.Whole (c .y .given .0 .0))
     (c .before .before .before .before .set-field .last .1 .1 .1 .1 .1 .0)
 second-field t c =
-    let a = c .before .before .before .before .before .before .before .before .before .before .before .args in
-    field-at (fontOf (a .table .now)) (c .before .before .before .before .before .before .before .second-style .result) _ false
-    false (a .s .now) (a .at .second) (second (a .s .now) (a .kind))
-    (a .buf .now) (c .before .before .before .before .set-field .result) (field.Whole (c .y .given .0 .0))
-    (c .before .before .before .before .set-field .last .1 .1 .1 .1 .1 .0)
-    (c .before .before .before .before .before .before .before .second-style .ensures) refl
-    (c .before .before .before .before .before .before .before .before .before .before .before .pre .1 .1 .second-is)
-    (c .y .given .1) (c .before .before .before .before .set-field .ensures)
+    let at-set-field = c .before .before .before .before in
+    let at-second-style = at-set-field .before .before .before in
+    let start = at-second-style .before .before .before .before in
+    let a = start .args in
+    field-at (fontOf (a .table .now)) (at-second-style .second-style .result) _ false false (a .s .now) (a .at .second)
+    (second (a .s .now) (a .kind))
+    (a .buf .now) (at-set-field .set-field .result) (field.Whole (c .y .given .0 .0))
+    (at-set-field .set-field .last .1 .1 .1 .1 .1 .0) (at-second-style .second-style .ensures) refl
+    (start .pre .1 .1 .second-is) (c .y .given .1) (at-set-field .set-field .ensures)
 
 second-lacks : (t : ℕ) (c : set-second-lts.After-y2 (set-second-claims t) (set-second-at t) set-second.Post) →
     let a = c .before .before .before .before .before .before .before .before .before .before .before .args in
@@ -787,14 +874,15 @@ second-lacks : (t : ℕ) (c : set-second-lts.After-y2 (set-second-claims t) (set
     (headBytes (headAt (a .s .now) k)) (a .buf .now) (field.Missing (c .y2 .given .0 .0))
     (c .before .before .before .before .set-field .last .1 .1 .1 .1 .1 .0)
 second-lacks t c =
-    let a = c .before .before .before .before .before .before .before .before .before .before .before .args in
-    field-at (fontOf (a .table .now)) (c .before .before .before .before .before .before .before .second-style .result) _ false
-    false (a .s .now) (a .at .second) (second (a .s .now) (a .kind))
-    (a .buf .now) (c .before .before .before .before .set-field .result) (field.Missing (c .y2 .given .0 .0))
-    (c .before .before .before .before .set-field .last .1 .1 .1 .1 .1 .0)
-    (c .before .before .before .before .before .before .before .second-style .ensures) refl
-    (c .before .before .before .before .before .before .before .before .before .before .before .pre .1 .1 .second-is)
-    (c .y2 .given .1) (c .before .before .before .before .set-field .ensures)
+    let at-set-field = c .before .before .before .before in
+    let at-second-style = at-set-field .before .before .before in
+    let start = at-second-style .before .before .before .before in
+    let a = start .args in
+    field-at (fontOf (a .table .now)) (at-second-style .second-style .result) _ false false (a .s .now) (a .at .second)
+    (second (a .s .now) (a .kind))
+    (a .buf .now) (at-set-field .set-field .result) (field.Missing (c .y2 .given .0 .0))
+    (at-set-field .set-field .last .1 .1 .1 .1 .1 .0) (at-second-style .second-style .ensures) refl
+    (start .pre .1 .1 .second-is) (c .y2 .given .1) (at-set-field .set-field .ensures)
 
 -- the third is set behind it
 second-last : (t : ℕ) (c : set-second-lts.After-last (set-second-claims t) (set-second-at t) set-second.Post) →
@@ -806,22 +894,24 @@ second-last : (t : ℕ) (c : set-second-lts.After-last (set-second-claims t) (se
     (last.Whole (c .last .given .0 .0) (c .last .given .0 .1 .0))
     (c .before .before .before .before .set-third .last .1 .1 .1 .1 .1 .1 .1 .1 .1 .0)
 second-last t c =
-    let a = c .before .before .before .before .before .before .before .before .before .before .before .before .before .before
-    .before .before .before .before .before .args in
-    third-at (fontOf (a .table .now)) (a .style) (a .s .now) (a .kind) (a .line) (a .x)
-    (c .before .before .before .before .before .before .before .before .y .given .0 .0 .shape)
-    (c .before .before .before .before .before .before .room .result) (c .before .before .before .before .set-third .result)
-    (last.Whole (c .last .given .0 .0) (c .last .given .0 .1 .0))
-    (c .before .before .before .before .before .before .before .before .before .before .before .before .set-field .last .1 .1 .1 .1 .1 .0)
-    (c .before .before .before .before .set-third .last .1 .1 .1 .1 .1 .1 .1 .1 .1 .0) (c .last .given .1)
-    (c .before .before .before .before .set-third .ensures)
+    let at-set-third = c .before .before .before .before in
+    let at-room = at-set-third .before .before in
+    let at-y = at-room .before .before in
+    let at-set-field = at-y .before .before .before .before in
+    let start = at-set-field .before .before .before .before .before .before .before in
+    let a = start .args in
+    third-at (fontOf (a .table .now)) (a .style) (a .s .now) (a .kind) (a .line) (a .x) (at-y .y .given .0 .0 .shape)
+    (at-room .room .result) (at-set-third .set-third .result)
+    (last.Whole (c .last .given .0 .0) (c .last .given .0 .1 .0)) (at-set-field .set-field .last .1 .1 .1 .1 .1 .0)
+    (at-set-third .set-third .last .1 .1 .1 .1 .1 .1 .1 .1 .1 .0) (c .last .given .1) (at-set-third .set-third .ensures)
 
 second-kept : (t : ℕ) (c : set-second-lts.After-set-third (set-second-claims t) (set-second-at t) set-second.Post) →
     let b = c .before .before .before .before .before .before .before .before .set-field .last .1 .1 .1 .1 .1 .0 in
     let j = c .before .before .room .result in
     length (putMid j (length b - j) b (c .set-third .last .1 .1 .1 .1 .1 .1 .1 .1 .1 .0)) ≡ length b
 second-kept t c =
-    let b = c .before .before .before .before .before .before .before .before .set-field .last .1 .1 .1 .1 .1 .0 in
+    let at-set-field = c .before .before .before .before .before .before .before .before in
+    let b = at-set-field .set-field .last .1 .1 .1 .1 .1 .0 in
     let j = c .before .before .room .result in
     same-len-mid j (length b - j) b (c .set-third .last .1 .1 .1 .1 .1 .1 .1 .1 .1 .0) (c .set-third .kept .1 .1 .1 .1 .1 .1 .1 .1 .1 .0)
 
@@ -830,25 +920,29 @@ set-second-second-style-requires t c κs = search needs
 
 set-second-sub-set-field : (t : ℕ) → set-second-lts.Need-sub-set-field (set-second-claims t) (set-second-at t) set-second.Post
 set-second-sub-set-field t c =
-    let n = noad-of (c .before .before .before .before .pre .1 .0) in
-    let is = c .before .before .before .before .pre .1 .1 .second-is in
+    let start = c .before .before .before .before in
+    let n = noad-of (start .pre .1 .0) in
+    let is = start .pre .1 .1 .second-is in
     omega arith
 
 set-second-part-set-field-start : (t : ℕ) → set-second-lts.Need-part-set-field-start (set-second-claims t) (set-second-at t) set-second.Post
 set-second-part-set-field-start t c =
-    let n = noad-of (c .before .before .before .before .pre .1 .0) in
-    let is = c .before .before .before .before .pre .1 .1 .second-is in
+    let start = c .before .before .before .before in
+    let n = noad-of (start .pre .1 .0) in
+    let is = start .pre .1 .1 .second-is in
     omega arith
 
 set-second-part-set-field-end : (t : ℕ) → set-second-lts.Need-part-set-field-end (set-second-claims t) (set-second-at t) set-second.Post
 set-second-part-set-field-end t c =
-    let n = noad-of (c .before .before .before .before .pre .1 .0) in
-    let is = c .before .before .before .before .pre .1 .1 .second-is in
+    let start = c .before .before .before .before in
+    let n = noad-of (start .pre .1 .0) in
+    let is = start .pre .1 .1 .second-is in
     omega arith
 
 set-second-set-field-requires : (t : ℕ) → set-second-lts.Need-set-field-requires (set-second-claims t) (set-second-at t) set-second.Post
 set-second-set-field-requires t c κs =
-    let p = c .before .before .before .before .before .before .pre .1 in
+    let start = c .before .before .before .before .before .before in
+    let p = start .pre .1 in
     let n = noad-of (p .0) in
     let is = p .1 .second-is in
     (omega (arith, c .before .set-field-arg .given .2), field-given _ _ _ _ _ (p .0 .list .ready) (p .0 .list .short) is (n .y))
@@ -870,36 +964,46 @@ set-second-part-set-third-end t c = omega (arith, c .room .ensures .0)
 
 set-second-set-third-requires : (t : ℕ) → set-second-lts.Need-set-third-requires (set-second-claims t) (set-second-at t) set-second.Post
 set-second-set-third-requires t c κs =
-    let p = c .before .before .before .before .before .before .before .before .before .before .before .before .before .before .pre .1 in
-    (omega arith, (p .0, p .1, p .2, p .3, second-field t (c .before .before .before) .0 .small .shape))
+    let at-y = c .before .before .before in
+    let start = at-y .before .before .before .before .before .before .before .before .before .before .before in
+    let p = start .pre .1 in
+    (omega arith, (p .0, p .1, p .2, p .3, second-field t at-y .0 .small .shape))
 
 set-second-enum-known-last : (t : ℕ) → set-second-lts.Need-enum-known-last (set-second-claims t) (set-second-at t) set-second.Post
 set-second-enum-known-last t c = search needs
 
 set-second-slice-relend-prefix-moved-part :
     (t : ℕ) → set-second-lts.Need-slice-relend-prefix-moved-part (set-second-claims t) (set-second-at t) set-second.Post
-set-second-slice-relend-prefix-moved-part t c = omega (arith, second-kept t (c .before .before .before .before .before .before), c .before .before .before .before .before .before .before .before .room .ensures .0)
+set-second-slice-relend-prefix-moved-part t c =
+    let at-set-third = c .before .before .before .before .before .before in
+    let at-room = at-set-third .before .before in
+    omega (arith, second-kept t at-set-third, at-room .room .ensures .0)
 
 set-second-slice-aggregate-moved-part : (t : ℕ) → set-second-lts.Need-slice-aggregate-moved-part (set-second-claims t) (set-second-at t) set-second.Post
-set-second-slice-aggregate-moved-part t c = sym (length-take-le (c .before .before .before .before .before .before .before .before .before .room .result) _ (omega (arith, second-kept t (c .before .before .before .before .before .before .before), c .before .before .before .before .before .before .before .before .before .room .ensures .0)))
+set-second-slice-aggregate-moved-part t c =
+    let at-set-third = c .before .before .before .before .before .before .before in
+    let at-room = at-set-third .before .before in
+    sym (length-take-le (at-room .room .result) _ (omega (arith, second-kept t at-set-third, at-room .room .ensures .0)))
 
 set-second-moved-part-requires : (t : ℕ) → set-second-lts.Need-moved-part-requires (set-second-claims t) (set-second-at t) set-second.Post
 set-second-moved-part-requires t c κs =
-    let a = c .before .before .before .before .before .before .before .before .before .before .before .before .before .before
-    .before .before .before .before .before .before .before .before .args in
-    move-given (a .line) (c .before .before .before .last .given .0 .0) (fontOf (a .table .now)) _ _ _
-    (c .before .before .before .before .before .before .before .before .before .before .before .y .given .0 .0)
-    (c .before .before .before .before .before .before .before .before .before .before .before .before .before .before .before .before .before .before .before .before .before .before .pre .1 .2 .small)
-    (second-last t (c .before .before .before) .0 .setting-small)
-    (second-field t (c .before .before .before .before .before .before .before .before .before .before .before) .0)
+    let at-last = c .before .before .before in
+    let at-y = at-last .before .before .before .before .before .before .before .before in
+    let start = at-y .before .before .before .before .before .before .before .before .before .before .before in
+    let a = start .args in
+    move-given (a .line) (at-last .last .given .0 .0) (fontOf (a .table .now)) _ _ _ (at-y .y .given .0 .0)
+    (start .pre .1 .2 .small) (second-last t at-last .0 .setting-small)
+    (second-field t at-y .0)
 
 set-second-behind-requires : (t : ℕ) → set-second-lts.Need-behind-requires (set-second-claims t) (set-second-at t) set-second.Post
 set-second-behind-requires t c κs =
-    let p = c .before .before .before .before .before .before .before .before .before .before .before .before .before .before
-    .before .before .before .before .before .before .before .before .before .before .before .pre .1 in
+    let at-last = c .before .before .before .before .before .before in
+    let at-y = at-last .before .before .before .before .before .before .before .before in
+    let start = at-y .before .before .before .before .before .before .before .before .before .before .before in
+    let p = start .pre .1 in
     let n = noad-of (p .0) in
     let short = p .0 .list .short in
-    (omega (arith, c .before .before .moved-part .ensures .count-is, second-field t (c .before .before .before .before .before .before .before .before .before .before .before .before .before .before) .0 .small .count), omega (arith, second-last t (c .before .before .before .before .before .before) .0 .run-small .count))
+    (omega (arith, c .before .before .moved-part .ensures .count-is, second-field t at-y .0 .small .count), omega (arith, second-last t at-last .0 .run-small .count))
 
 set-second-enum-known-last-2 : (t : ℕ) → set-second-lts.Need-enum-known-last-2 (set-second-claims t) (set-second-at t) set-second.Post
 set-second-enum-known-last-2 t c = search needs
@@ -909,8 +1013,9 @@ set-second-enum-known-y-2 t c = search needs
 
 set-second-add-t38 : (t : ℕ) → set-second-lts.Need-add-t38 (set-second-claims t) (set-second-at t) set-second.Post
 set-second-add-t38 t c =
-    let a = c .before .before .before .before .before .before .before .before .before .before .before .before .args in
-    let p = c .before .before .before .before .before .before .before .before .before .before .before .before .pre .1 in
+    let start = c .before .before .before .before .before .before .before .before .before .before .before .before in
+    let a = start .args in
+    let p = start .pre .1 in
     let n = noad-of (p .0) in
     let is = p .1 .second-is in
     let short = p .0 .list .short in
@@ -919,67 +1024,75 @@ set-second-add-t38 t c =
 
 set-second-same-length : (t : ℕ) → set-second-lts.Need-same-length (set-second-claims t) (set-second-at t) set-second.Post
 set-second-same-length t c =
-    let j = c .before .before .before .before .before .before .before .before .before .before .before .before .before .room .result in
-    let b = c .before .before .before .before .before .before .before .before .before .before .before .before .before .before
-    .before .before .before .before .before .set-field .last .1 .1 .1 .1 .1 .0 in
-    front-back j
-    (putMid j (length b - j) b (c .before .before .before .before .before .before .before .before .before .before .before .set-third .last .1 .1 .1 .1 .1 .1 .1 .1 .1 .0))
-    (c .before .before .before .moved-part .last .1 .1 .1 .0) (c .before .before .before .moved-part .kept .1 .1 .1 .0)
-    ∙ second-kept t (c .before .before .before .before .before .before .before .before .before .before .before) ∙ c .before
-    .before .before .before .before .before .before .before .before .before .before .before .before .before .before .before
-    .before .before .before .set-field .kept .1 .1 .1 .1 .1 .0
+    let at-moved-part = c .before .before .before in
+    let at-set-third = at-moved-part .before .before .before .before .before .before .before .before in
+    let at-room = at-set-third .before .before in
+    let at-set-field = at-room .before .before .before .before .before .before in
+    let j = at-room .room .result in
+    let b = at-set-field .set-field .last .1 .1 .1 .1 .1 .0 in
+    front-back j (putMid j (length b - j) b (at-set-third .set-third .last .1 .1 .1 .1 .1 .1 .1 .1 .1 .0))
+    (at-moved-part .moved-part .last .1 .1 .1 .0) (at-moved-part .moved-part .kept .1 .1 .1 .0)
+    ∙ second-kept t at-set-third ∙ at-set-field .set-field .kept .1 .1 .1 .1 .1 .0
 
 set-second-returns : (t : ℕ) → set-second-lts.Need-returns (set-second-claims t) (set-second-at t) set-second.Post
 set-second-returns t c =
-    let a = c .before .before .before .before .before .before .before .before .before .before .before .before .before .before
-    .before .before .before .before .before .before .before .before .before .before .before .before .args in
-    let r = c .before .before .before .before .before .before .before .before .before .before .before .before .before .room in
-    second-set (fontOf (a .table .now)) (a .style) (a .s .now) (a .kind) (a .line) (a .x) (r .result)
-    (c .before .before .before .before .before .before .before .before .before .before .before .before .before .before .before .y .given .0 .0)
-    (c .before .before .before .before .before .before .before .last .given .0 .0)
-    (c .before .before .before .before .before .before .before .last .given .0 .1 .0)
-    (c .before .before .before .moved-part .result) (c .behind .result) (a .buf .now)
-    (c .before .before .before .before .before .before .before .before .before .before .before .before .before .before .before .before .before .before .before .set-field .last .1 .1 .1 .1 .1 .0)
-    (c .before .before .before .moved-part .last .1 .1 .1 .0)
-    (c .before .before .before .before .before .before .before .before .before .before .before .set-third .last .1 .1 .1 .1 .1 .1 .1 .1 .1 .0)
-    (noad-of (c .before .before .before .before .before .before .before .before .before .before .before .before .before .before .before .before .before .before .before .before .before .before .before .before .before .before .pre .1 .0))
-    (second-field t (c .before .before .before .before .before .before .before .before .before .before .before .before .before .before .before))
-    (c .before .before .before .before .before .before .before .before .before .before .before .before .before .before .before .before .before .before .before .set-field .kept .1 .1 .1 .1 .1 .0)
-    (r .ensures .0) (r .ensures .1) (second-last t (c .before .before .before .before .before .before .before))
-    (c .before .before .before .moved-part .ensures) (c .behind .ensures)
+    let at-moved-part = c .before .before .before in
+    let at-last = at-moved-part .before .before .before .before in
+    let at-set-third = at-last .before .before .before .before in
+    let at-room = at-set-third .before .before in
+    let at-y = at-room .before .before in
+    let at-set-field = at-y .before .before .before .before in
+    let start = at-set-field .before .before .before .before .before .before .before in
+    let a = start .args in
+    let r = at-room .room in
+    second-set (fontOf (a .table .now)) (a .style) (a .s .now) (a .kind) (a .line) (a .x) (r .result) (at-y .y .given .0 .0)
+    (at-last .last .given .0 .0) (at-last .last .given .0 .1 .0)
+    (at-moved-part .moved-part .result) (c .behind .result) (a .buf .now) (at-set-field .set-field .last .1 .1 .1 .1 .1 .0)
+    (at-moved-part .moved-part .last .1 .1 .1 .0) (at-set-third .set-third .last .1 .1 .1 .1 .1 .1 .1 .1 .1 .0)
+    (noad-of (start .pre .1 .0)) (second-field t at-y) (at-set-field .set-field .kept .1 .1 .1 .1 .1 .0) (r .ensures .0)
+    (r .ensures .1) (second-last t at-last) (at-moved-part .moved-part .ensures) (c .behind .ensures)
 
 set-second-same-length-2 : (t : ℕ) → set-second-lts.Need-same-length-2 (set-second-claims t) (set-second-at t) set-second.Post
-set-second-same-length-2 t c = second-kept t (c .before .before .before .before .before) ∙ c .before .before .before .before .before .before .before .before .before .before .before .before .before .set-field .kept .1 .1 .1 .1 .1 .0
+set-second-same-length-2 t c =
+    let at-set-third = c .before .before .before .before .before in
+    let at-set-field = at-set-third .before .before .before .before .before .before .before .before in
+    second-kept t at-set-third ∙ at-set-field .set-field .kept .1 .1 .1 .1 .1 .0
 
 set-second-returns-2 : (t : ℕ) → set-second-lts.Need-returns-2 (set-second-claims t) (set-second-at t) set-second.Post
 set-second-returns-2 t c =
-    let a = c .before .before .before .before .before .before .before .before .before .before .before .before .before .before
-    .before .before .before .before .before .before .args in
+    let at-set-third = c .before .before .before .before .before in
+    let at-room = at-set-third .before .before in
+    let at-y = at-room .before .before in
+    let at-set-field = at-y .before .before .before .before in
+    let start = at-set-field .before .before .before .before .before .before .before in
+    let a = start .args in
     let F = fontOf (a .table .now) in
     let s = a .s .now in
-    let j = c .before .before .before .before .before .before .before .room .result in
-    let b₁ = c .before .before .before .before .before .before .before .before .before .before .before .before .before .set-field
-    .last .1 .1 .1 .1 .1 .0 in
-    let e = c .before .before .before .before .before .set-third .last .1 .1 .1 .1 .1 .1 .1 .1 .1 .0 in
-    let y = c .before .before .before .before .before .before .before .before .before .y .given .0 .0 in
+    let j = at-room .room .result in
+    let b₁ = at-set-field .set-field .last .1 .1 .1 .1 .1 .0 in
+    let e = at-set-third .set-third .last .1 .1 .1 .1 .1 .1 .1 .1 .1 .0 in
+    let y = at-y .y .given .0 .0 in
     second-missing F (a .style) (a .kind) (rightOf s (end s (a .kind))) (a .line) s (a .x) 0 _
     (end s (a .kind) - third s (a .kind)) (c .before .last2 .given .0 .0) y (a .buf .now) b₁ e
-    (drop j b₁) b₁ (second-field t (c .before .before .before .before .before .before .before .before .before))
-    (third-at F (a .style) s (a .kind) (a .line) (a .x) (y .shape) j (c .before .before .before .before .before .set-third .result) (last.Missing (c .before .last2 .given .0 .0)) b₁ e (c .before .last2 .given .1) (c .before .before .before .before .before .set-third .ensures))
+    (drop j b₁) b₁ (second-field t at-y)
+    (third-at F (a .style) s (a .kind) (a .line) (a .x) (y .shape) j (at-set-third .set-third .result) (last.Missing (c .before .last2 .given .0 .0)) b₁ e (c .before .last2 .given .1) (at-set-third .set-third .ensures))
 
 set-second-same-length-3 : (t : ℕ) → set-second-lts.Need-same-length-3 (set-second-claims t) (set-second-at t) set-second.Post
-set-second-same-length-3 t c = c .before .before .before .before .before .set-field .kept .1 .1 .1 .1 .1 .0
+set-second-same-length-3 t c =
+    let at-set-field = c .before .before .before .before .before in
+    at-set-field .set-field .kept .1 .1 .1 .1 .1 .0
 
 set-second-returns-3 : (t : ℕ) → set-second-lts.Need-returns-3 (set-second-claims t) (set-second-at t) set-second.Post
 set-second-returns-3 t c =
-    let a = c .before .before .before .before .before .before .before .before .before .before .before .before .args in
+    let at-set-field = c .before .before .before .before .before in
+    let start = at-set-field .before .before .before .before .before .before .before in
+    let a = start .args in
     let s = a .s .now in
     let place = c .before .y2 .given .0 .0 in
-    let b₁ = c .before .before .before .before .before .set-field .last .1 .1 .1 .1 .1 .0 in
+    let b₁ = at-set-field .set-field .last .1 .1 .1 .1 .1 .0 in
     second-first-missing (fontOf (a .table .now)) (a .style) (a .kind) (rightOf s (end s (a .kind))) (a .line) s (a .x) 0 0 place
     (a .buf .now) b₁ b₁ (second-lacks t (c .before))
-    ∙ ap (λ (k : ℕ). some (k + place))
-    (sym (c .before .before .before .before .before .before .before .before .before .before .before .before .pre .1 .1 .second-is))
+    ∙ ap (λ (k : ℕ). some (k + place)) (sym (start .pre .1 .1 .second-is))
 
 -- ---- set_third
 
@@ -993,19 +1106,20 @@ third-done : (t : ℕ) (c : set-third-lts.After-z (set-third-claims t) (set-thir
     (end s (a .kind) - k) (a .buf .now) (field.Whole (c .z .given .0 .0))
     (c .before .before .before .before .set-field .last .1 .1 .1 .1 .1 .0)
 third-done t c =
-    let a = c .before .before .before .before .before .before .before .before .before .before .before .before .before .before
-    .before .args in
+    let at-set-field = c .before .before .before .before in
+    let at-third-style = at-set-field .before .before .before in
+    let branch = at-third-style .before in
+    let at-has-third = branch .before in
+    let start = at-has-third .before .before .before .before .before .before in
+    let a = start .args in
     let s = a .s .now in
     let k = third s (a .kind) in
     let F = fontOf (a .table .now) in
     let z = field.Whole (c .z .given .0 .0) in
     third-field F (thirdStyle (a .style)) false s (hasThird (a .kind)) k (a .buf .now) z
-    (c .before .before .before .before .set-field .last .1 .1 .1 .1 .1 .0)
-    (sym (c .before .before .before .before .before .before .before .before .before .has-third .ensures) ∙ c .before .before .before .before .before .before .before .before .if1 .taken)
-    (field-at F (c .before .before .before .before .before .before .before .third-style .result) _ false false s (a .at .third) k (a .buf .now) (c .before .before .before .before .set-field .result) z (c .before .before .before .before .set-field .last .1 .1 .1 .1 .1 .0)
-    (c .before .before .before .before .before .before .before .third-style .ensures) refl
-    (c .before .before .before .before .before .before .before .before .before .before .before .before .before .before .before .pre .1 .1 .third-is)
-    (c .z .given .1) (c .before .before .before .before .set-field .ensures))
+    (at-set-field .set-field .last .1 .1 .1 .1 .1 .0) (sym (at-has-third .has-third .ensures) ∙ branch .if1 .taken)
+    (field-at F (at-third-style .third-style .result) _ false false s (a .at .third) k (a .buf .now) (at-set-field .set-field .result) z (at-set-field .set-field .last .1 .1 .1 .1 .1 .0)
+    (at-third-style .third-style .ensures) refl (start .pre .1 .1 .third-is) (c .z .given .1) (at-set-field .set-field .ensures))
 
 third-lacks : (t : ℕ) (c : set-third-lts.After-z2 (set-third-claims t) (set-third-at t) set-third.Post) →
     let a = c .before .before .before .before .before .before .before .before .before .before .before .before .before .before
@@ -1015,37 +1129,41 @@ third-lacks : (t : ℕ) (c : set-third-lts.After-z2 (set-third-claims t) (set-th
     FieldDone (fontOf (a .table .now)) (thirdStyle (a .style)) false (fieldIn s k) (headBytes (headAt s k)) (a .buf .now)
     (field.Missing (c .z2 .given .0 .0)) (c .before .before .before .before .set-field .last .1 .1 .1 .1 .1 .0)
 third-lacks t c =
-    let a = c .before .before .before .before .before .before .before .before .before .before .before .before .before .before
-    .before .args in
+    let at-set-field = c .before .before .before .before in
+    let at-third-style = at-set-field .before .before .before in
+    let start = at-third-style .before .before .before .before .before .before .before .before in
+    let a = start .args in
     let s = a .s .now in
-    field-at (fontOf (a .table .now)) (c .before .before .before .before .before .before .before .third-style .result) _ false
-    false s (a .at .third) (third s (a .kind)) (a .buf .now) (c .before .before .before .before .set-field .result)
-    (field.Missing (c .z2 .given .0 .0)) (c .before .before .before .before .set-field .last .1 .1 .1 .1 .1 .0)
-    (c .before .before .before .before .before .before .before .third-style .ensures) refl
-    (c .before .before .before .before .before .before .before .before .before .before .before .before .before .before .before .pre .1 .1 .third-is)
-    (c .z2 .given .1) (c .before .before .before .before .set-field .ensures)
+    field-at (fontOf (a .table .now)) (at-third-style .third-style .result) _ false false s (a .at .third) (third s (a .kind))
+    (a .buf .now) (at-set-field .set-field .result)
+    (field.Missing (c .z2 .given .0 .0)) (at-set-field .set-field .last .1 .1 .1 .1 .1 .0) (at-third-style .third-style .ensures)
+    refl (start .pre .1 .1 .third-is) (c .z2 .given .1) (at-set-field .set-field .ensures)
 
 set-third-sub-next-class : (t : ℕ) → set-third-lts.Need-sub-next-class (set-third-claims t) (set-third-at t) set-third.Post
 set-third-sub-next-class t c =
-    let n = noad-of (c .before .before .before .pre .1 .0) in
-    let is = c .before .before .before .pre .1 .1 .end-is in
+    let start = c .before .before .before in
+    let n = noad-of (start .pre .1 .0) in
+    let is = start .pre .1 .1 .end-is in
     omega arith
 
 set-third-part-next-class-start : (t : ℕ) → set-third-lts.Need-part-next-class-start (set-third-claims t) (set-third-at t) set-third.Post
 set-third-part-next-class-start t c =
-    let n = noad-of (c .before .before .before .pre .1 .0) in
-    let is = c .before .before .before .pre .1 .1 .end-is in
+    let start = c .before .before .before in
+    let n = noad-of (start .pre .1 .0) in
+    let is = start .pre .1 .1 .end-is in
     omega arith
 
 set-third-part-next-class-end : (t : ℕ) → set-third-lts.Need-part-next-class-end (set-third-claims t) (set-third-at t) set-third.Post
 set-third-part-next-class-end t c =
-    let n = noad-of (c .before .before .before .pre .1 .0) in
-    let is = c .before .before .before .pre .1 .1 .end-is in
+    let start = c .before .before .before in
+    let n = noad-of (start .pre .1 .0) in
+    let is = start .pre .1 .1 .end-is in
     omega arith
 
 set-third-next-class-requires : (t : ℕ) → set-third-lts.Need-next-class-requires (set-third-claims t) (set-third-at t) set-third.Post
 set-third-next-class-requires t c κs =
-    let p = c .before .before .before .before .pre .1 in
+    let start = c .before .before .before .before in
+    let p = start .pre .1 in
     tail-given _ _ _ (p .1 .end-is) (noad-of (p .0) .rest) (p .0 .list .short)
 
 set-third-has-third-requires : (t : ℕ) → set-third-lts.Need-has-third-requires (set-third-claims t) (set-third-at t) set-third.Post
@@ -1056,29 +1174,35 @@ set-third-third-style-requires t c κs = search needs
 
 set-third-sub-set-field : (t : ℕ) → set-third-lts.Need-sub-set-field (set-third-claims t) (set-third-at t) set-third.Post
 set-third-sub-set-field t c =
-    let n = noad-of (c .before .before .before .before .before .before .before .before .pre .1 .0) in
-    let is = c .before .before .before .before .before .before .before .before .pre .1 .1 .third-is in
+    let start = c .before .before .before .before .before .before .before .before in
+    let n = noad-of (start .pre .1 .0) in
+    let is = start .pre .1 .1 .third-is in
     omega arith
 
 set-third-part-set-field-start : (t : ℕ) → set-third-lts.Need-part-set-field-start (set-third-claims t) (set-third-at t) set-third.Post
 set-third-part-set-field-start t c =
-    let n = noad-of (c .before .before .before .before .before .before .before .before .pre .1 .0) in
-    let is = c .before .before .before .before .before .before .before .before .pre .1 .1 .third-is in
+    let start = c .before .before .before .before .before .before .before .before in
+    let n = noad-of (start .pre .1 .0) in
+    let is = start .pre .1 .1 .third-is in
     omega arith
 
 set-third-part-set-field-end : (t : ℕ) → set-third-lts.Need-part-set-field-end (set-third-claims t) (set-third-at t) set-third.Post
 set-third-part-set-field-end t c =
-    let n = noad-of (c .before .before .before .before .before .before .before .before .pre .1 .0) in
-    let is = c .before .before .before .before .before .before .before .before .pre .1 .1 .third-is in
+    let start = c .before .before .before .before .before .before .before .before in
+    let n = noad-of (start .pre .1 .0) in
+    let is = start .pre .1 .1 .third-is in
     omega arith
 
 set-third-set-field-requires : (t : ℕ) → set-third-lts.Need-set-field-requires (set-third-claims t) (set-third-at t) set-third.Post
 set-third-set-field-requires t c κs =
-    let a = c .before .before .before .before .before .before .before .before .before .before .args in
-    let p = c .before .before .before .before .before .before .before .before .before .before .pre .1 in
+    let branch = c .before .before .before in
+    let at-has-third = branch .before in
+    let start = at-has-third .before .before .before .before .before .before in
+    let a = start .args in
+    let p = start .pre .1 in
     let n = noad-of (p .0) in
     let is = p .1 .third-is in
-    let has = sym (c .before .before .before .before .has-third .ensures) ∙ c .before .before .before .if1 .taken in
+    let has = sym (at-has-third .has-third .ensures) ∙ branch .if1 .taken in
     (omega (arith, c .before .set-field-arg .given .2), field-given _ _ _ _ _ (p .0 .list .ready) (p .0 .list .short) is (third-good (a .s .now) (hasThird (a .kind)) (third (a .s .now) (a .kind)) has (n .z)))
 
 set-third-enum-known-z : (t : ℕ) → set-third-lts.Need-enum-known-z (set-third-claims t) (set-third-at t) set-third.Post
@@ -1086,8 +1210,9 @@ set-third-enum-known-z t c = search needs
 
 set-third-arranged-last-requires : (t : ℕ) → set-third-lts.Need-arranged-last-requires (set-third-claims t) (set-third-at t) set-third.Post
 set-third-arranged-last-requires t c κs =
-    let p = c .before .before .before .before .before .before .before .before .before .before .before .before .before .before
-    .before .before .before .pre .1 in
+    let start = c .before .before .before .before .before .before .before .before .before .before .before .before .before .before
+    .before .before .before in
+    let p = start .pre .1 in
     let n = noad-of (p .0) in
     let short = p .0 .list .short in
     (p .2 .small, p .3, p .4, part-more (omega arith) (third-done t (c .before .before) .0 .small))
@@ -1097,16 +1222,16 @@ set-third-enum-known-z-2 t c = search needs
 
 set-third-add-t33 : (t : ℕ) → set-third-lts.Need-add-t33 (set-third-claims t) (set-third-at t) set-third.Post
 set-third-add-t33 t c =
-    let a = c .before .before .before .before .before .before .before .before .before .before .before .before .before .before
-    .before .before .args in
+    let branch = c .before .before .before .before .before .before .before .before .before in
+    let at-has-third = branch .before in
+    let start = at-has-third .before .before .before .before .before .before in
+    let a = start .args in
     let s = a .s .now in
-    let p = c .before .before .before .before .before .before .before .before .before .before .before .before .before .before
-    .before .before .pre .1 in
+    let p = start .pre .1 in
     let n = noad-of (p .0) in
     let is = p .1 .third-is in
     let short = p .0 .list .short in
-    let has = sym (c .before .before .before .before .before .before .before .before .before .before .has-third .ensures) ∙ c
-    .before .before .before .before .before .before .before .before .before .if1 .taken in
+    let has = sym (at-has-third .has-third .ensures) ∙ branch .if1 .taken in
     let fits = third-fits s (hasThird (a .kind)) (third s (a .kind)) has in
     omega
     (arith, missing-field-in (fontOf (a .table .now)) s (third s (a .kind)) (third-good s (hasThird (a .kind)) (third s (a .kind)) has (n .z)) (thirdStyle (a .style)) false (c .before .z2 .given .0 .0) (third-lacks t (c .before)))
@@ -1116,62 +1241,73 @@ set-third-empty-part-requires t c κs = search needs
 
 set-third-arranged-last-requires-2 : (t : ℕ) → set-third-lts.Need-arranged-last-requires-2 (set-third-claims t) (set-third-at t) set-third.Post
 set-third-arranged-last-requires-2 t c κs =
-    let p = c .before .before .before .before .before .before .before .before .before .pre .1 in
+    let start = c .before .before .before .before .before .before .before .before .before in
+    let p = start .pre .1 in
     (p .2 .small, p .3, p .4, part-more (omega arith) (c .before .empty-part .ensures .small))
 
 set-third-same-length : (t : ℕ) → set-third-lts.Need-same-length (set-third-claims t) (set-third-at t) set-third.Post
-set-third-same-length t c = c .before .before .arranged-last .kept .1 .1 .1 .1 .1 .1 .1 .1 .0 ∙ c .before .before .before .before .before .before .before .before .before .set-field .kept .1 .1 .1 .1 .1 .0
+set-third-same-length t c =
+    let at-set-field = c .before .before .before .before .before .before .before .before .before in
+    c .before .before .arranged-last .kept .1 .1 .1 .1 .1 .1 .1 .1 .0 ∙ at-set-field .set-field .kept .1 .1 .1 .1 .1 .0
 
 set-third-returns : (t : ℕ) → set-third-lts.Need-returns (set-third-claims t) (set-third-at t) set-third.Post
 set-third-returns t c =
-    let a = c .before .before .before .before .before .before .before .before .before .before .before .before .before .before
-    .before .before .before .before .before .before .args in
-    let p = c .before .before .before .before .before .before .before .before .before .before .before .before .before .before
-    .before .before .before .before .before .before .pre .1 in
+    let at-z = c .before .before .before .before .before in
+    let at-set-field = at-z .before .before .before .before in
+    let at-next-class = at-set-field .before .before .before .before .before .before in
+    let start = at-next-class .before .before .before .before .before in
+    let a = start .args in
+    let p = start .pre .1 in
     let s = a .s .now in
     third-set (fontOf (a .table .now)) (a .style) s (a .kind) (a .line) (a .x) (parametersIn (a .p))
-    (neighbourAs (c .before .before .before .before .before .before .before .before .before .before .before .before .before .before .before .next-class .result))
-    (a .y) (c .before .before .before .before .before .z .given .0 .0) (c .before .before .arranged-last .result)
-    (a .buf .now) (c .before .before .before .before .before .before .before .before .before .set-field .last .1 .1 .1 .1 .1 .0)
-    (c .before .before .arranged-last .last .1 .1 .1 .1 .1 .1 .1 .1 .0) (third-done t (c .before .before .before .before .before))
-    (p .0 .list .ready .parameters-are)
-    (right-is s (a .at .end) (end s (a .kind)) _ (c .before .before .before .before .before .before .before .before .before .before .before .before .before .before .before .next-class .ensures) (p .1 .end-is))
+    (neighbourAs (at-next-class .next-class .result)) (a .y) (at-z .z .given .0 .0) (c .before .before .arranged-last .result)
+    (a .buf .now) (at-set-field .set-field .last .1 .1 .1 .1 .1 .0)
+    (c .before .before .arranged-last .last .1 .1 .1 .1 .1 .1 .1 .1 .0) (third-done t at-z) (p .0 .list .ready .parameters-are)
+    (right-is s (a .at .end) (end s (a .kind)) _ (at-next-class .next-class .ensures) (p .1 .end-is))
     (c .before .before .arranged-last .ensures)
 
 set-third-same-length-2 : (t : ℕ) → set-third-lts.Need-same-length-2 (set-third-claims t) (set-third-at t) set-third.Post
-set-third-same-length-2 t c = c .before .before .before .before .before .set-field .kept .1 .1 .1 .1 .1 .0
+set-third-same-length-2 t c =
+    let at-set-field = c .before .before .before .before .before in
+    at-set-field .set-field .kept .1 .1 .1 .1 .1 .0
 
 set-third-returns-2 : (t : ℕ) → set-third-lts.Need-returns-2 (set-third-claims t) (set-third-at t) set-third.Post
 set-third-returns-2 t c =
-    let a = c .before .before .before .before .before .before .before .before .before .before .before .before .before .before
-    .before .before .args in
+    let at-set-field = c .before .before .before .before .before in
+    let branch = at-set-field .before .before .before .before in
+    let at-has-third = branch .before in
+    let start = at-has-third .before .before .before .before .before .before in
+    let a = start .args in
     let s = a .s .now in
     let k = third s (a .kind) in
     let F = fontOf (a .table .now) in
     let place = c .before .z2 .given .0 .0 in
-    let b₁ = c .before .before .before .before .before .set-field .last .1 .1 .1 .1 .1 .0 in
+    let b₁ = at-set-field .set-field .last .1 .1 .1 .1 .1 .0 in
     field-some F (thirdStyle (a .style)) false k place (thirdIn s (hasThird (a .kind)) k)
-    (third-field F (thirdStyle (a .style)) false s (hasThird (a .kind)) k (a .buf .now) (field.Missing place) b₁ (sym (c .before .before .before .before .before .before .before .before .before .before .has-third .ensures) ∙ c .before .before .before .before .before .before .before .before .before .if1 .taken) (third-lacks t (c .before)))
-    ∙ ap (λ (k : ℕ). some (k + place))
-    (sym (c .before .before .before .before .before .before .before .before .before .before .before .before .before .before .before .before .pre .1 .1 .third-is))
+    (third-field F (thirdStyle (a .style)) false s (hasThird (a .kind)) k (a .buf .now) (field.Missing place) b₁ (sym (at-has-third .has-third .ensures) ∙ branch .if1 .taken) (third-lacks t (c .before)))
+    ∙ ap (λ (k : ℕ). some (k + place)) (sym (start .pre .1 .1 .third-is))
 
 set-third-same-length-3 : (t : ℕ) → set-third-lts.Need-same-length-3 (set-third-claims t) (set-third-at t) set-third.Post
 set-third-same-length-3 t c = c .before .before .arranged-last2 .kept .1 .1 .1 .1 .1 .1 .1 .1 .0
 
 set-third-returns-3 : (t : ℕ) → set-third-lts.Need-returns-3 (set-third-claims t) (set-third-at t) set-third.Post
 set-third-returns-3 t c =
-    let a = c .before .before .before .before .before .before .before .before .before .before .before .before .args in
-    let p = c .before .before .before .before .before .before .before .before .before .before .before .before .pre .1 in
+    let at-empty-part = c .before .before .before .before in
+    let branch = at-empty-part .before in
+    let at-has-third = branch .before in
+    let at-next-class = at-has-third .before in
+    let start = at-next-class .before .before .before .before .before in
+    let a = start .args in
+    let p = start .pre .1 in
     let s = a .s .now in
     let F = fontOf (a .table .now) in
     let b = a .buf .now in
-    third-set F (a .style) s (a .kind) (a .line) (a .x) (parametersIn (a .p))
-    (neighbourAs (c .before .before .before .before .before .before .before .next-class .result)) (a .y)
-    (c .before .before .before .before .empty-part .result) (c .before .before .arranged-last2 .result)
+    third-set F (a .style) s (a .kind) (a .line) (a .x) (parametersIn (a .p)) (neighbourAs (at-next-class .next-class .result))
+    (a .y) (at-empty-part .empty-part .result) (c .before .before .arranged-last2 .result)
     b b (c .before .before .arranged-last2 .last .1 .1 .1 .1 .1 .1 .1 .1 .0)
-    (third-none F (thirdStyle (a .style)) false s (hasThird (a .kind)) (third s (a .kind)) b (c .before .before .before .before .empty-part .result) (sym (c .before .before .before .before .before .before .has-third .ensures) ∙ c .before .before .before .before .before .if1 .left) (c .before .before .before .before .empty-part .ensures))
+    (third-none F (thirdStyle (a .style)) false s (hasThird (a .kind)) (third s (a .kind)) b (at-empty-part .empty-part .result) (sym (at-has-third .has-third .ensures) ∙ branch .if1 .left) (at-empty-part .empty-part .ensures))
     (p .0 .list .ready .parameters-are)
-    (right-is s (a .at .end) (end s (a .kind)) _ (c .before .before .before .before .before .before .before .next-class .ensures) (p .1 .end-is))
+    (right-is s (a .at .end) (end s (a .kind)) _ (at-next-class .next-class .ensures) (p .1 .end-is))
     (c .before .before .arranged-last2 .ensures)
 
 pub +set-behind+set-field+set-first+set-item+set-list+set-second+set-third-spec :
