@@ -1,0 +1,65 @@
+-- Five words stored at the front of a lent answer, and the words that a caller finds.
+--     five-stores     the five stores, one after the other
+--     kept            a word that was stored is read back as it was
+--     count-kept      the same of a place or a count
+--     enough, short   what an answer with room, and one without, is given
+-- Assumes nothing.
+use mathlib.Core.Path.{_≡_, refl, sym, ap, _∙_}
+use mathlib.Core.Bool.{Bool, true, false, cond}
+use mathlib.Core.List.{List, [], _∷_}
+use Prim.Native.Nat.{ℕ, _≤_, _<_, _^_}
+use native.Mathlib.Omega.{arith}
+use lib.Dec.{ltb, leb}
+use lib.IntN.{ℤ, pos}
+use lib.ListN.{length, drop, set}
+use borrow.Author.Tests.{ltb-true, le-leb, lt-leb}
+use mir.Syntax.{w64}
+use mir.Val.{SFits, toZ, ofZ}
+use mir.ValLaws.{toZ-ofZ}
+use Rattle.layout.specs.Answers.{Answered}
+use Rattle.capi.specs.Words.{countWord, answerSpace, noAnswer, answerWords, numberBy, wordsBy, bufferBy}
+
+pub five-stores : (w : List ℤ) (a b c d e : ℤ) → 5 ≤ length w →
+    set (set (set (set (set w 0 a) 1 b) 2 c) 3 d) 4 e ≡ a ∷ b ∷ c ∷ d ∷ e ∷ drop 5 w
+five-stores [] a b c d e h = absurd (omega arith)
+five-stores (_ ∷ []) a b c d e h = absurd (omega arith)
+five-stores (_ ∷ _ ∷ []) a b c d e h = absurd (omega arith)
+five-stores (_ ∷ _ ∷ _ ∷ []) a b c d e h = absurd (omega arith)
+five-stores (_ ∷ _ ∷ _ ∷ _ ∷ []) a b c d e h = absurd (omega arith)
+five-stores (_ ∷ _ ∷ _ ∷ _ ∷ _ ∷ w) a b c d e h = refl
+
+pub kept : (z : ℤ) → SFits w64 z → toZ w64 (ofZ w64 z) ≡ z
+kept z h = toZ-ofZ w64 z h
+
+count-fits : (n : ℕ) (t : Bool) → ltb n (2 ^ 63) ≡ t → SFits w64 (cond t (pos n) (pos 0))
+count-fits n true e = record { sfits = ltb-true n (2 ^ 63) e }
+count-fits n false e = record { sfits = omega arith }
+
+pub count-kept : (n : ℕ) → toZ w64 (ofZ w64 (countWord n)) ≡ countWord n
+count-kept n = kept (countWord n) (count-fits n (ltb n (2 ^ 63)) refl)
+
+module _ (a : Answered) (w : List ℤ) where
+  pub number-enough : answerSpace ≤ length w → a .number ≡ numberBy a w
+  unfolding numberBy
+  number-enough h = sym (ap (λ (t : Bool). cond t (a .number) noAnswer) (le-leb answerSpace (length w) h))
+
+  pub words-enough : answerSpace ≤ length w → answerWords a w ≡ wordsBy a w
+  unfolding wordsBy
+  words-enough h = sym (ap (λ (t : Bool). cond t (answerWords a w) w) (le-leb answerSpace (length w) h))
+
+  pub number-short : length w < answerSpace → noAnswer ≡ numberBy a w
+  unfolding numberBy
+  number-short h = sym (ap (λ (t : Bool). cond t (a .number) noAnswer) (lt-leb answerSpace (length w) h))
+
+  pub words-short : length w < answerSpace → w ≡ wordsBy a w
+  unfolding wordsBy
+  words-short h = sym (ap (λ (t : Bool). cond t (answerWords a w) w) (lt-leb answerSpace (length w) h))
+
+module _ (after before : List ℕ) (w : List ℤ) where
+  pub buffer-enough : answerSpace ≤ length w → after ≡ bufferBy after before w
+  unfolding bufferBy
+  buffer-enough h = sym (ap (λ (t : Bool). cond t after before) (le-leb answerSpace (length w) h))
+
+  pub buffer-short : length w < answerSpace → before ≡ bufferBy after before w
+  unfolding bufferBy
+  buffer-short h = sym (ap (λ (t : Bool). cond t after before) (lt-leb answerSpace (length w) h))

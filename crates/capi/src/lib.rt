@@ -1,0 +1,104 @@
+// The interface for C, and through C for Rust (include/torfianka.h). What the calls give is defined in specs/Words.antt.
+
+ghost use mathlib.Core.Path.{_≡_};
+ghost use Prim.Native.Nat.{_≤_};
+ghost use lib.ListN.{length};
+ghost use Rattle.layout.specs.Answers.{measured, setting, bufferAfter, refusal};
+ghost use Rattle.layout.specs.Answering.{answeredAs};
+ghost use Rattle.capi.specs.Words.{numberBy, wordsBy, bufferBy, answerWords, countWord};
+use layout::Answer;
+use rules::boxes::Size;
+
+// How many words an answer takes.
+const ANSWER_SPACE: usize = 5;
+
+// The number where the answer has no room. Nothing is measured or set then.
+const NO_ANSWER: u8 = 255;
+
+// Measures a formula.
+#[no_mangle]
+pub extern "C" fn torfianka_measure(
+    style: u8,
+    table: &[u8],
+    formula: &[u8],
+    answer: &mut [i64],
+) -> u8
+    ensures { λ r. ⌜ r ≡ numberBy (measured style (now (table .entry)) (now (formula .entry))) (now (answer .entry)) ⌝ }
+    ensures { λ _. ⌜ now (answer .exit) ≡ wordsBy (measured style (now (table .entry)) (now (formula .entry))) (now (answer .entry)) ⌝ }
+{
+    if answer.len() < ANSWER_SPACE {
+        return NO_ANSWER;
+    }
+    report(layout::measure(style, table, formula), answer)
+}
+
+// Sets a formula into the front of the node buffer.
+#[no_mangle]
+pub extern "C" fn torfianka_set(
+    style: u8,
+    table: &[u8],
+    formula: &[u8],
+    nodes: &mut [u8],
+    answer: &mut [i64],
+) -> u8
+    ensures { λ r. ⌜ r ≡ numberBy (setting style (now (table .entry)) (now (formula .entry)) (length (now (nodes .entry)))) (now (answer .entry)) ⌝ }
+    ensures { λ _. ⌜ now (answer .exit) ≡ wordsBy (setting style (now (table .entry)) (now (formula .entry)) (length (now (nodes .entry)))) (now (answer .entry)) ⌝ }
+    ensures { λ _. ⌜ now (nodes .exit) ≡ bufferBy (bufferAfter style (now (table .entry)) (now (formula .entry)) (now (nodes .entry))) (now (nodes .entry)) (now (answer .entry)) ⌝ }
+{
+    if answer.len() < ANSWER_SPACE {
+        return NO_ANSWER;
+    }
+    report(layout::set(style, table, formula, nodes), answer)
+}
+
+// Writes an answer's place, sizes and count, and gives its number.
+fn report(answer: Answer, words: &mut [i64]) -> u8
+    requires { ⌜ 5 ≤ length (now words) ⌝ }
+    ensures { λ r. ⌜ (r ≡ answeredAs answer .number) × (now (words .exit) ≡ answerWords (answeredAs answer) (now (words .entry))) ⌝ }
+{
+    match answer {
+        Answer::Accepted(size, count) => accept(size, count, words),
+        Answer::NoStyle => refuse(1, 0, words),
+        Answer::BadTable => refuse(2, 0, words),
+        Answer::Unreadable(place) => refuse(3, place, words),
+        Answer::TooDeep(place) => refuse(4, place, words),
+        Answer::Missing(place) => refuse(5, place, words),
+        Answer::TooLarge => refuse(6, 0, words),
+        Answer::NoRoom => refuse(7, 0, words),
+    }
+}
+
+// An acceptance has the place 0.
+fn accept(size: Size, count: usize, words: &mut [i64]) -> u8
+    requires { ⌜ 5 ≤ length (now words) ⌝ }
+    ensures { λ r. ⌜ (r ≡ 0) × (now (words .exit) ≡ answerWords (answeredAs (Answer.Accepted size count)) (now (words .entry))) ⌝ }
+{
+    let width = size.width.0;
+    let height = size.height.0;
+    let depth = size.depth.0;
+    words[0] = 0;
+    words[1] = width;
+    words[2] = height;
+    words[3] = depth;
+    words[4] = count_word(count);
+    0
+}
+
+// A refusal has sizes and count 0.
+fn refuse(number: u8, place: usize, words: &mut [i64]) -> u8
+    requires { ⌜ 5 ≤ length (now words) ⌝ }
+    ensures { λ r. ⌜ (r ≡ number) × (now (words .exit) ≡ answerWords (refusal number place) (now (words .entry))) ⌝ }
+{
+    words[0] = count_word(place);
+    words[1] = 0;
+    words[2] = 0;
+    words[3] = 0;
+    words[4] = 0;
+    number
+}
+
+fn count_word(n: usize) -> i64
+    ensures { λ r. ⌜ r ≡ countWord n ⌝ }
+{
+    if n < 9223372036854775808 { n as i64 } else { 0 }
+}
