@@ -6,8 +6,8 @@ use torfianka::{Measured, Node};
 const SP_PER_POINT: f64 = 65_536.0;
 const PIXELS_PER_POINT: f64 = 10.0;
 const MARGIN: f64 = 3.0;
-/// The x-height of Computer Modern in parts of its size.
-const X_HEIGHT_SHARE: f64 = 0.43;
+/// The x-height of usual text fonts in parts of their size.
+const X_HEIGHT_SHARE: f64 = 0.48;
 /// How far a large operator reaches below its baseline in usual text fonts, in
 /// parts of its size.
 const OPERATOR_DEPTH: f64 = 0.2;
