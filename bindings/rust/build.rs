@@ -1,5 +1,5 @@
-//! Links the static library: the one that TORFIANKA_LIB names, or else the
-//! repository's own.
+//! Links the static library: the one whose whole path is TORFIANKA_LIB, or else
+//! the repository's own.
 
 use std::env;
 use std::path::{Path, PathBuf};
