@@ -3,8 +3,8 @@
  *
  * A style, a font table and a formula go in. Out come the formula's width,
  * height and depth, the number of its nodes and, when setting, the nodes.
- * All lengths are whole scaled points, 65,536 to the point. Nothing is kept
- * between calls, nothing is allocated, and every input has an answer.
+ * All lengths are whole scaled points, 65,536 to the point. Every input has an
+ * answer, and nothing is kept between calls.
  *
  * Link with target/staticlib/libcapi.a, which `rt staticlib capi` writes.
  */
@@ -33,8 +33,8 @@ enum torfianka_number {
                                   list around it, passes 1,073,741,823 */
     TORFIANKA_NO_ROOM = 7,     /* setting only: nodes_len is less than 18 bytes
                                   for each node */
-    TORFIANKA_SHORT_ANSWER = 255 /* answer_len is less than 5; nothing else was
-                                  looked at */
+    TORFIANKA_SHORT_ANSWER = 255 /* answer_len is less than 5; nothing was
+                                  changed */
 };
 
 /* The words of an answer. */

@@ -4,8 +4,7 @@ use reference::NODE_BYTES;
 use std::hint::black_box;
 use std::time::{Duration, Instant};
 
-const ROUNDS: usize = 15;
-const ROUND: Duration = Duration::from_millis(15);
+const ROUND: Duration = Duration::from_millis(10);
 const DISPLAY: u8 = 0;
 
 #[derive(Clone, Copy, Debug)]
@@ -14,19 +13,23 @@ pub enum Call {
     Set,
 }
 
+/// Formulas to time, and the times so far.
 pub struct Job {
+    pub name: String,
     pub call: Call,
-    pub table: &'static [u8],
-    pub formulas: Vec<Vec<u8>>,
+    table: &'static [u8],
+    formulas: Vec<Vec<u8>>,
+    nodes: Vec<u8>,
+    library: Timer,
+    reference: Timer,
 }
 
-/// Medians over the rounds.
-pub struct Times {
-    /// Nanoseconds a formula.
-    pub library: f64,
-    pub reference: f64,
-    /// The library's formulas a second for one of the reference.
-    pub speed_ratio: f64,
+/// How often the formulas are set in a round, and the nanoseconds that one took
+/// in each.
+#[derive(Default)]
+struct Timer {
+    turns: usize,
+    rounds: Vec<f64>,
 }
 
 /// Sets a formula and gives the number of its nodes, none if it is refused.
@@ -48,71 +51,91 @@ fn by_reference(call: Call, table: &[u8], formula: &[u8], nodes: &mut [u8]) -> O
     (answer.number == 0).then_some(answer.count as usize)
 }
 
-pub fn timed(job: &Job) -> Times {
-    let mut nodes = buffer(job);
-    let library_turns = turns(job, by_library, &mut nodes);
-    let reference_turns = turns(job, by_reference, &mut nodes);
-    let rounds: Vec<(f64, f64)> = (0..ROUNDS)
-        .map(|_| {
-            let library = time(job, by_library, &mut nodes, library_turns);
-            let reference = time(job, by_reference, &mut nodes, reference_turns);
-            (library, reference)
-        })
-        .collect();
-    Times {
-        library: median(rounds.iter().map(|(library, _)| *library)),
-        reference: median(rounds.iter().map(|(_, reference)| *reference)),
-        speed_ratio: median(
+impl Job {
+    pub fn new(
+        name: impl Into<String>,
+        call: Call,
+        table: &'static [u8],
+        formulas: Vec<Vec<u8>>,
+    ) -> Job {
+        let mut job = Job {
+            name: name.into(),
+            call,
+            table,
+            nodes: room(table, &formulas),
+            formulas,
+            library: Timer::default(),
+            reference: Timer::default(),
+        };
+        job.library.turns = job.turns(by_library);
+        job.reference.turns = job.turns(by_reference);
+        job
+    }
+
+    /// Times the library, then the reference.
+    pub fn round(&mut self) {
+        let library = self.time(by_library, self.library.turns);
+        self.library.rounds.push(library);
+        let reference = self.time(by_reference, self.reference.turns);
+        self.reference.rounds.push(reference);
+    }
+
+    /// The library's nanoseconds a formula.
+    pub fn library(&self) -> f64 {
+        median(self.library.rounds.clone())
+    }
+
+    /// The reference's nanoseconds a formula.
+    pub fn reference(&self) -> f64 {
+        median(self.reference.rounds.clone())
+    }
+
+    /// The library's formulas a second for one of the reference.
+    pub fn speed_ratio(&self) -> f64 {
+        let rounds = self.library.rounds.iter().zip(&self.reference.rounds);
+        median(
             rounds
-                .iter()
-                .map(|(library, reference)| reference / library),
-        ),
+                .map(|(library, reference)| reference / library)
+                .collect(),
+        )
+    }
+
+    /// How many turns fill a round.
+    fn turns(&mut self, setter: Setter) -> usize {
+        let mut turns = 1;
+        loop {
+            let nanoseconds = self.time(setter, turns) * (turns * self.formulas.len()) as f64;
+            if nanoseconds >= ROUND.as_nanos() as f64 {
+                return turns;
+            }
+            turns *= 2;
+        }
+    }
+
+    /// Nanoseconds a formula.
+    fn time(&mut self, setter: Setter, turns: usize) -> f64 {
+        let (table, nodes) = (black_box(self.table), &mut self.nodes);
+        let start = Instant::now();
+        for _ in 0..turns {
+            for formula in &self.formulas {
+                black_box(setter(self.call, table, black_box(formula), nodes));
+            }
+        }
+        start.elapsed().as_nanos() as f64 / (turns * self.formulas.len()) as f64
     }
 }
 
-/// Room for each formula's nodes, after a look that both setters accept it.
-fn buffer(job: &Job) -> Vec<u8> {
-    let counts = job.formulas.iter().map(|formula| {
-        let count = by_reference(Call::Measure, job.table, formula, &mut []);
-        assert_eq!(
-            count,
-            by_library(Call::Measure, job.table, formula, &mut [])
-        );
+/// A buffer for each formula's nodes, after a look that both setters accept it.
+fn room(table: &[u8], formulas: &[Vec<u8>]) -> Vec<u8> {
+    let counts = formulas.iter().map(|formula| {
+        let count = by_reference(Call::Measure, table, formula, &mut []);
+        assert_eq!(count, by_library(Call::Measure, table, formula, &mut []));
         count.expect("the formulas that are timed are accepted")
     });
     vec![0; NODE_BYTES * counts.max().unwrap_or(0)]
 }
 
-/// How often the formulas are set in a round.
-fn turns(job: &Job, setter: Setter, nodes: &mut [u8]) -> usize {
-    let mut turns = 1;
-    loop {
-        let nanoseconds = time(job, setter, nodes, turns) * (turns * job.formulas.len()) as f64;
-        if nanoseconds >= ROUND.as_nanos() as f64 {
-            return turns;
-        }
-        turns *= 2;
-    }
-}
-
-/// Nanoseconds a formula.
-fn time(job: &Job, setter: Setter, nodes: &mut [u8], turns: usize) -> f64 {
-    let start = Instant::now();
-    for _ in 0..turns {
-        for formula in &job.formulas {
-            black_box(setter(
-                job.call,
-                black_box(job.table),
-                black_box(formula),
-                nodes,
-            ));
-        }
-    }
-    start.elapsed().as_nanos() as f64 / (turns * job.formulas.len()) as f64
-}
-
-fn median(values: impl Iterator<Item = f64>) -> f64 {
-    let mut values: Vec<f64> = values.collect();
+fn median(mut values: Vec<f64>) -> f64 {
     values.sort_by(f64::total_cmp);
     values[values.len() / 2]
 }
