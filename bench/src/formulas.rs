@@ -1,0 +1,98 @@
+//! The formulas that are timed, over letters that both tables have.
+
+use reference::compose::{atom, fraction, kern, list, symbol, EMPTY};
+
+/// Family and code of the signs that stand in other places in other tables.
+pub struct Alphabet {
+    pub plus: (u8, u8),
+    pub equals: (u8, u8),
+}
+
+const A: [u8; 3] = [1, 1, b'a'];
+const F: [u8; 3] = [1, 1, b'f'];
+const SUM: [u8; 3] = [1, 3, 80];
+
+fn ord(fields: [&[u8]; 3]) -> Vec<u8> {
+    atom(0, 0, fields)
+}
+
+fn letter(symbol: &[u8]) -> Vec<u8> {
+    ord([symbol, EMPTY, EMPTY])
+}
+
+impl Alphabet {
+    fn plus(&self) -> Vec<u8> {
+        atom(2, 0, [&symbol(self.plus.0, self.plus.1), EMPTY, EMPTY])
+    }
+
+    fn equals(&self) -> Vec<u8> {
+        atom(3, 0, [&symbol(self.equals.0, self.equals.1), EMPTY, EMPTY])
+    }
+}
+
+/// As on job sheets: a sampling rate, a force, a mean of squares, a sum.
+pub fn typical(letters: &Alphabet) -> Vec<Vec<u8>> {
+    let (plus, equals) = (letters.plus(), letters.equals());
+    let indexed = ord([&F, EMPTY, &A]);
+    let square = ord([&A, &A, &F]);
+    let squares = [&square[..], &plus, &square, &plus, &square].concat();
+    let below = list(&[&letter(&A)[..], &equals, &letter(&F)].concat());
+    vec![
+        [
+            &indexed[..],
+            &equals,
+            &letter(&A),
+            &indexed,
+            &plus,
+            &fraction(0, &F, &A),
+        ]
+        .concat(),
+        [
+            &letter(&F)[..],
+            &equals,
+            &letter(&A),
+            &letter(&A),
+            &ord([&A, &F, EMPTY]),
+        ]
+        .concat(),
+        [&square[..], &equals, &fraction(0, &list(&squares), &F)].concat(),
+        [
+            &letter(&A)[..],
+            &equals,
+            &fraction(0, &A, &F),
+            &atom(1, 0, [&SUM, &A, &below]),
+            &square,
+        ]
+        .concat(),
+    ]
+}
+
+/// The length of a phrase whose nucleus is a symbol.
+pub const PHRASE_BYTES: usize = 64;
+
+/// Symbols, scripts, a fraction and a kern; it opens with the given nucleus.
+fn phrase(letters: &Alphabet, nucleus: &[u8]) -> Vec<u8> {
+    [
+        &letter(nucleus)[..],
+        &letters.plus(),
+        &ord([&F, &A, EMPTY]),
+        &letters.equals(),
+        &ord([&A, EMPTY, &A]),
+        &fraction(0, &A, &F),
+        &kern(1000),
+    ]
+    .concat()
+}
+
+/// Phrases one after the other; `bytes` is a multiple of a phrase's.
+pub fn flat(letters: &Alphabet, bytes: usize) -> Vec<u8> {
+    phrase(letters, &A).repeat(bytes / PHRASE_BYTES)
+}
+
+/// The same number of phrases, each of the first holding the rest as a list,
+/// down to the given depth.
+pub fn nested(letters: &Alphabet, bytes: usize, depth: usize) -> Vec<u8> {
+    let levels = depth - 1;
+    let innermost = flat(letters, bytes - levels * PHRASE_BYTES);
+    (0..levels).fold(innermost, |inner, _| phrase(letters, &list(&inner)))
+}

@@ -1,0 +1,127 @@
+//! Sets formulas by the rules of TeX's Appendix G.
+//!
+//! A style, a font table and a formula go in as bytes; sizes and nodes come
+//! out. Lengths are whole scaled points, 65,536 to the point.
+//!
+//! ```
+//! use torfianka::{measure, nodes, set, Node, NODE_BYTES};
+//!
+//! let table = include_bytes!("../../../data/bench.tab");
+//! let formula = b"UN\x01\x01a\x00\x00"; // an underlined a
+//! let text_style = 2;
+//!
+//! let measured = measure(text_style, table, formula)?;
+//! assert_eq!((measured.width, measured.height, measured.depth), (500, 430, 200));
+//!
+//! let mut buffer = vec![0; NODE_BYTES * measured.count];
+//! set(text_style, table, formula, &mut buffer)?;
+//! let set: Vec<Node> = nodes(&buffer).collect();
+//! assert_eq!(set[0], Node::Glyph { x: 0, y: 0, size: 0, family: 1, code: b'a' });
+//! assert_eq!(set[1], Node::Rule { x: 0, y: -160, width: 500, thickness: 40 });
+//! # Ok::<(), torfianka::Refusal>(())
+//! ```
+
+mod node;
+pub mod sys;
+
+pub use node::{nodes, Node, NODE_BYTES};
+
+use std::error::Error;
+use std::fmt;
+
+/// The sizes of an accepted formula and the number of its nodes.
+#[derive(Clone, Copy, Debug, PartialEq, Eq)]
+pub struct Measured {
+    /// May be negative.
+    pub width: i64,
+    pub height: i64,
+    pub depth: i64,
+    pub count: usize,
+}
+
+/// Why a formula was not accepted.
+///
+/// | number | given when | place |
+/// |---|---|---|
+/// | 1 | the style is above 7 | 0 |
+/// | 2 | the font table breaks a rule of its format | 0 |
+/// | 3 | the formula has over 4,096 bytes (place 0), or an item can't be read | the innermost such item's first byte |
+/// | 4 | a list at depth 17 | its kind byte |
+/// | 5 | a symbol, or a successor the rules take, isn't in the table | the field's kind byte |
+/// | 6 | a list's size, or a node's x or y seen from a list around it, passes 1,073,741,823 | 0 |
+/// | 7 | setting only: the buffer is shorter than [`NODE_BYTES`] for each node | 0 |
+#[derive(Clone, Copy, Debug, PartialEq, Eq)]
+pub struct Refusal {
+    pub number: u8,
+    /// A byte of the formula, counted from 0.
+    pub place: usize,
+}
+
+impl fmt::Display for Refusal {
+    fn fmt(&self, out: &mut fmt::Formatter) -> fmt::Result {
+        write!(out, "refused {} at {}", self.number, self.place)
+    }
+}
+
+impl Error for Refusal {}
+
+/// Finds the sizes of a formula and the number of its nodes.
+///
+/// `style` is 0 to 7 for D, D', T, T', S, S', SS, SS'.
+pub fn measure(style: u8, table: &[u8], formula: &[u8]) -> Result<Measured, Refusal> {
+    let mut answer = Words::default();
+    // SAFETY: every pointer is a slice's, with that slice's length; the ones
+    // written through are borrowed alone.
+    let number = unsafe {
+        sys::torfianka_measure(
+            style,
+            table.as_ptr(),
+            table.len(),
+            formula.as_ptr(),
+            formula.len(),
+            answer.as_mut_ptr(),
+            answer.len(),
+        )
+    };
+    outcome(number, answer)
+}
+
+/// Measures, and writes the nodes to the front of `nodes`.
+///
+/// The bytes past the nodes, and on a refusal all of them, stay as they are.
+pub fn set(style: u8, table: &[u8], formula: &[u8], nodes: &mut [u8]) -> Result<Measured, Refusal> {
+    let mut answer = Words::default();
+    // SAFETY: as in `measure`.
+    let number = unsafe {
+        sys::torfianka_set(
+            style,
+            table.as_ptr(),
+            table.len(),
+            formula.as_ptr(),
+            formula.len(),
+            nodes.as_mut_ptr(),
+            nodes.len(),
+            answer.as_mut_ptr(),
+            answer.len(),
+        )
+    };
+    outcome(number, answer)
+}
+
+type Words = [i64; sys::ANSWER_WORDS];
+
+/// Place and count are never negative.
+fn outcome(number: u8, [place, width, height, depth, count]: Words) -> Result<Measured, Refusal> {
+    match number {
+        0 => Ok(Measured {
+            width,
+            height,
+            depth,
+            count: count as usize,
+        }),
+        _ => Err(Refusal {
+            number,
+            place: place as usize,
+        }),
+    }
+}

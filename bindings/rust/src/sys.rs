@@ -1,0 +1,31 @@
+//! The C interface as it is; `include/torfianka.h` describes it.
+
+/// The words of an answer: place, width, height, depth, count.
+pub const ANSWER_WORDS: usize = 5;
+
+/// What a call with fewer than [`ANSWER_WORDS`] returns.
+pub const SHORT_ANSWER: u8 = 255;
+
+extern "C" {
+    pub fn torfianka_measure(
+        style: u8,
+        table: *const u8,
+        table_len: usize,
+        formula: *const u8,
+        formula_len: usize,
+        answer: *mut i64,
+        answer_len: usize,
+    ) -> u8;
+
+    pub fn torfianka_set(
+        style: u8,
+        table: *const u8,
+        table_len: usize,
+        formula: *const u8,
+        formula_len: usize,
+        nodes: *mut u8,
+        nodes_len: usize,
+        answer: *mut i64,
+        answer_len: usize,
+    ) -> u8;
+}

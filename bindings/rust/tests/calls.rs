@@ -1,0 +1,63 @@
+//! Calls through the safe functions, over the bench table.
+
+use torfianka::{measure, nodes, set, Measured, Refusal, NODE_BYTES};
+
+const TABLE: &[u8] = include_bytes!("../../../data/bench.tab");
+const DISPLAY: u8 = 0;
+const TEXT: u8 = 2;
+const UNDERLINED: &[u8] = b"UN\x01\x01a\x00\x00";
+const FILLING: u8 = 0xA5;
+
+#[test]
+fn an_empty_formula_has_no_nodes() {
+    let nothing = Measured {
+        width: 0,
+        height: 0,
+        depth: 0,
+        count: 0,
+    };
+    assert_eq!(measure(TEXT, TABLE, &[]), Ok(nothing));
+    assert_eq!(set(TEXT, TABLE, &[], &mut []), Ok(nothing));
+}
+
+#[test]
+fn an_underlined_letter_has_the_bytes_of_the_papers() {
+    let mut buffer = [FILLING; 2 * NODE_BYTES + 1];
+    let measured = set(TEXT, TABLE, UNDERLINED, &mut buffer);
+    assert_eq!(measured, measure(TEXT, TABLE, UNDERLINED));
+    assert_eq!(
+        buffer,
+        *b"GL\0\0\0\0\0\0\0\0\0\x01a\0\0\0\0\0\
+           RU\0\0\0\0\x60\xff\xff\xff\xf4\x01\0\0\x28\0\0\0\xa5"
+    );
+}
+
+#[test]
+fn a_sum_takes_its_successor_and_limits_in_display_style() {
+    let formula = b"AT\x01\x00\x01\x03\x50\x00\x01\x01a";
+    let mut buffer = [0; 2 * NODE_BYTES];
+    let measured = set(DISPLAY, TABLE, formula, &mut buffer).unwrap();
+    let sizes = (measured.width, measured.height, measured.depth);
+    assert_eq!(sizes, (1400, 950, 1150));
+    let lines: Vec<String> = nodes(&buffer).map(|node| node.to_string()).collect();
+    assert_eq!(lines, ["glyph 0 950 0 3 88", "glyph 450 -1050 1 1 97"]);
+}
+
+#[test]
+fn refusals_have_number_and_place() {
+    let refused = |number, place| Err(Refusal { number, place });
+    let absent = b"UN\x01\x01b\x00\x00";
+    assert_eq!(measure(8, TABLE, UNDERLINED), refused(1, 0));
+    assert_eq!(measure(TEXT, &TABLE[1..], UNDERLINED), refused(2, 0));
+    assert_eq!(measure(TEXT, TABLE, &UNDERLINED[..6]), refused(3, 0));
+    assert_eq!(measure(TEXT, TABLE, absent), refused(5, 2));
+    assert_eq!(refused(5, 2).unwrap_err().to_string(), "refused 5 at 2");
+}
+
+#[test]
+fn a_short_buffer_stays_as_it_is() {
+    let mut buffer = [FILLING; 2 * NODE_BYTES - 1];
+    let answer = set(TEXT, TABLE, UNDERLINED, &mut buffer);
+    assert_eq!(answer.unwrap_err().number, 7);
+    assert_eq!(buffer, [FILLING; 2 * NODE_BYTES - 1]);
+}

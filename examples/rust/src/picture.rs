@@ -1,0 +1,127 @@
+//! A picture of a set formula: its glyphs' boxes, its rules and its baseline.
+
+use crate::font::{Font, Metrics};
+use torfianka::{Measured, Node};
+
+const SP_PER_POINT: f64 = 65_536.0;
+const PIXELS_PER_POINT: f64 = 10.0;
+const MARGIN: f64 = 3.0;
+/// The x-height of usual text fonts in parts of their size.
+const X_HEIGHT_SHARE: f64 = 0.48;
+/// How far a large operator reaches below its baseline in usual text fonts, in
+/// parts of its size.
+const OPERATOR_DEPTH: f64 = 0.2;
+
+/// Lengths in the picture are points, and y goes down.
+pub fn svg(measured: &Measured, nodes: &[Node], font: &Font) -> String {
+    let (width, height, depth) = (
+        points(measured.width),
+        points(measured.height),
+        points(measured.depth),
+    );
+    let (left, top) = (-MARGIN, -height - MARGIN);
+    let (across, down) = (width + 2.0 * MARGIN, height + depth + 2.0 * MARGIN);
+    let (pixels_across, pixels_down) = (across * PIXELS_PER_POINT, down * PIXELS_PER_POINT);
+    let drawn: String = nodes.iter().map(|node| draw(node, font)).collect();
+    format!(
+        r##"<svg xmlns="http://www.w3.org/2000/svg" width="{pixels_across:.0}" height="{pixels_down:.0}" viewBox="{left:.3} {top:.3} {across:.3} {down:.3}">
+<rect x="{left:.3}" y="{top:.3}" width="{across:.3}" height="{down:.3}" fill="white"/>
+<path d="M{left:.3} 0h{across:.3}" stroke="#c33" stroke-width="0.1" stroke-dasharray="0.6 0.4"/>
+<g font-family="Latin Modern Roman, CMU Serif, Times New Roman, serif" text-anchor="middle">
+{drawn}</g>
+</svg>
+"##
+    )
+}
+
+fn points(sp: impl Into<i64>) -> f64 {
+    sp.into() as f64 / SP_PER_POINT
+}
+
+fn draw(node: &Node, font: &Font) -> String {
+    match *node {
+        Node::Glyph {
+            x,
+            y,
+            size,
+            family,
+            code,
+        } => font
+            .metrics(size, family, code)
+            .map(|metrics| {
+                let letter = letter(family, code).map(|letter| {
+                    let em = points(font.x_height(size)) / X_HEIGHT_SHARE;
+                    letter.draw(points(x), -points(y), em, &metrics)
+                });
+                outline(points(x), -points(y), &metrics) + &letter.unwrap_or_default()
+            })
+            .unwrap_or_default(),
+        Node::Rule {
+            x,
+            y,
+            width,
+            thickness,
+        } => rule(points(x), -points(y), points(width), points(thickness)),
+    }
+}
+
+fn rule(x: f64, y: f64, width: f64, thickness: f64) -> String {
+    let top = y - thickness;
+    format!("<rect x=\"{x:.3}\" y=\"{top:.3}\" width=\"{width:.3}\" height=\"{thickness:.3}\"/>\n")
+}
+
+fn outline(x: f64, y: f64, metrics: &Metrics) -> String {
+    let top = y - points(metrics.height);
+    let (width, height) = (
+        points(metrics.width),
+        points(metrics.height + metrics.depth),
+    );
+    format!(
+        "<rect x=\"{x:.3}\" y=\"{top:.3}\" width=\"{width:.3}\" height=\"{height:.3}\" \
+         fill=\"none\" stroke=\"#69c\" stroke-width=\"0.08\"/>\n"
+    )
+}
+
+enum Letter {
+    Upright(char),
+    Italic(char),
+    /// Its box hangs from the baseline, so it is fitted into the box.
+    Operator(char),
+}
+
+impl Letter {
+    fn draw(&self, x: f64, y: f64, em: f64, metrics: &Metrics) -> String {
+        let reach = points(metrics.height + metrics.depth);
+        let (letter, slope, em, y) = match *self {
+            Letter::Upright(letter) => (letter, "normal", em, y),
+            Letter::Italic(letter) => (letter, "italic", em, y),
+            Letter::Operator(letter) => {
+                let bottom = y + points(metrics.depth);
+                (letter, "normal", reach, bottom - OPERATOR_DEPTH * reach)
+            }
+        };
+        let middle = x + points(metrics.width) / 2.0;
+        format!(
+            "<text x=\"{middle:.3}\" y=\"{y:.3}\" font-size=\"{em:.3}\" \
+             font-style=\"{slope}\">{letter}</text>\n"
+        )
+    }
+}
+
+/// The letters of Computer Modern's layout that can be shown with usual fonts.
+fn letter(family: u8, code: u8) -> Option<Letter> {
+    const GREEK: &str = "αβγδϵζηθικλμνξπρστυϕχψω";
+    const FIRST_GREEK: u8 = 11;
+    match (family, code) {
+        (0, _) if code.is_ascii_alphanumeric() || b"!()*+,-./:;=?[]".contains(&code) => {
+            Some(Letter::Upright(code.into()))
+        }
+        (1, _) if code.is_ascii_alphabetic() => Some(Letter::Italic(code.into())),
+        (1, FIRST_GREEK..) => {
+            let letter = GREEK.chars().nth((code - FIRST_GREEK).into());
+            letter.map(Letter::Italic)
+        }
+        (3, 80 | 88) => Some(Letter::Operator('∑')),
+        _ => None,
+    }
+}

@@ -1,0 +1,198 @@
+//! The calls made for an input, and what is compared.
+
+use crate::guarded::Guarded;
+use crate::input::Input;
+use reference::generate::Random;
+use reference::{Answer, NODE_BYTES};
+use torfianka::sys::{self, ANSWER_WORDS, SHORT_ANSWER};
+use torfianka::{Measured, Refusal};
+
+#[derive(Clone, Copy, Debug)]
+pub enum Call {
+    Measure,
+    Set,
+}
+
+/// A call's result and the memory lent to it.
+#[derive(Clone)]
+pub struct Outcome {
+    pub number: u8,
+    pub answer: Guarded<i64>,
+    pub nodes: Guarded<u8>,
+}
+
+pub struct Disagreement {
+    pub call: Call,
+    pub fault: &'static str,
+    pub library: Outcome,
+    pub reference: Outcome,
+}
+
+/// The first call whose outcomes differ, if any.
+pub fn disagreement(input: &Input) -> Option<Disagreement> {
+    let mut random = Random::new(input.filling);
+    let long = ANSWER_WORDS + random.below(4);
+    let short = random.below(ANSWER_WORDS);
+    [
+        (Call::Measure, long),
+        (Call::Set, long),
+        (Call::Measure, short),
+        (Call::Set, short),
+    ]
+    .into_iter()
+    .find_map(|(call, words)| disagreement_in(call, words, input, &mut random))
+}
+
+fn disagreement_in(
+    call: Call,
+    words: usize,
+    input: &Input,
+    random: &mut Random,
+) -> Option<Disagreement> {
+    let room = match call {
+        Call::Measure => 0,
+        Call::Set => input.room,
+    };
+    let before = Outcome {
+        number: 0,
+        answer: Guarded::drawn(words, random, |random| random.word() as i64),
+        nodes: Guarded::drawn(room, random, Random::byte),
+    };
+    let library = by_library(call, input, before.clone());
+    let reference = by_reference(call, input, before.clone());
+    let fault = fault(call, &before, &library, &reference).or_else(|| {
+        (!binding_agrees(call, input, &library)).then_some("the Rust binding differs")
+    })?;
+    Some(Disagreement {
+        call,
+        fault,
+        library,
+        reference,
+    })
+}
+
+/// What is wrong with the library's outcome, if anything.
+fn fault(
+    call: Call,
+    before: &Outcome,
+    library: &Outcome,
+    reference: &Outcome,
+) -> Option<&'static str> {
+    let is_short = before.answer.lent().len() < ANSWER_WORDS;
+    let answered = if is_short { 0 } else { ANSWER_WORDS };
+    let written = match (call, reference.number) {
+        (Call::Set, 0) => NODE_BYTES * reference.answer.lent()[ANSWER_WORDS - 1] as usize,
+        _ => 0,
+    };
+    let answer = |outcome: &Outcome| outcome.answer.lent()[..answered].to_vec();
+    let faults = [
+        (
+            library.number != reference.number,
+            "the answer numbers differ",
+        ),
+        (answer(library) != answer(reference), "the answers differ"),
+        (
+            !library.answer.kept_but(answered, &before.answer),
+            "words outside the answer changed",
+        ),
+        (
+            !library.nodes.kept_but(written, &before.nodes),
+            "bytes outside the nodes changed",
+        ),
+        (
+            library.nodes.lent() != reference.nodes.lent(),
+            "the nodes differ",
+        ),
+    ];
+    faults
+        .into_iter()
+        .find_map(|(is_so, fault)| is_so.then_some(fault))
+}
+
+fn by_library(call: Call, input: &Input, mut lent: Outcome) -> Outcome {
+    let Input { table, formula, .. } = input;
+    let (answer, nodes) = (lent.answer.lent_mut(), lent.nodes.lent_mut());
+    // SAFETY: every pointer is a slice's, with that slice's length; the ones
+    // written through are borrowed alone.
+    lent.number = unsafe {
+        match call {
+            Call::Measure => sys::torfianka_measure(
+                input.style,
+                table.as_ptr(),
+                table.len(),
+                formula.as_ptr(),
+                formula.len(),
+                answer.as_mut_ptr(),
+                answer.len(),
+            ),
+            Call::Set => sys::torfianka_set(
+                input.style,
+                table.as_ptr(),
+                table.len(),
+                formula.as_ptr(),
+                formula.len(),
+                nodes.as_mut_ptr(),
+                nodes.len(),
+                answer.as_mut_ptr(),
+                answer.len(),
+            ),
+        }
+    };
+    lent
+}
+
+fn by_reference(call: Call, input: &Input, mut lent: Outcome) -> Outcome {
+    let Some(words) = lent.answer.lent_mut().first_chunk_mut() else {
+        lent.number = SHORT_ANSWER;
+        return lent;
+    };
+    let answer = match call {
+        Call::Measure => reference::measure(input.style, &input.table, &input.formula),
+        Call::Set => reference::set(
+            input.style,
+            &input.table,
+            &input.formula,
+            lent.nodes.lent_mut(),
+        ),
+    };
+    *words = words_of(&answer);
+    lent.number = answer.number;
+    lent
+}
+
+fn words_of(answer: &Answer) -> [i64; ANSWER_WORDS] {
+    [
+        answer.place as i64,
+        answer.width,
+        answer.height,
+        answer.depth,
+        answer.count as i64,
+    ]
+}
+
+/// Whether the safe functions tell what the C interface told.
+fn binding_agrees(call: Call, input: &Input, library: &Outcome) -> bool {
+    let Some(&[place, width, height, depth, count]) = library.answer.lent().first_chunk() else {
+        return true;
+    };
+    let expected = match library.number {
+        0 => Ok(Measured {
+            width,
+            height,
+            depth,
+            count: count as usize,
+        }),
+        number => Err(Refusal {
+            number,
+            place: place as usize,
+        }),
+    };
+    match call {
+        Call::Measure => torfianka::measure(input.style, &input.table, &input.formula) == expected,
+        Call::Set => {
+            let mut nodes = library.nodes.lent().to_vec();
+            let result = torfianka::set(input.style, &input.table, &input.formula, &mut nodes);
+            result == expected && nodes == library.nodes.lent()
+        }
+    }
+}

@@ -1,0 +1,48 @@
+//! What both setters are given.
+
+use reference::generate::{case, Random};
+use reference::{measure, set, NODE_BYTES};
+
+#[derive(Clone)]
+pub struct Input {
+    pub style: u8,
+    pub table: Vec<u8>,
+    pub formula: Vec<u8>,
+    /// The length of the buffer to set in.
+    pub room: usize,
+    /// The seed of what the lent memory holds before a call.
+    pub filling: u64,
+}
+
+impl Input {
+    pub fn drawn(random: &mut Random) -> Input {
+        let case = case(random);
+        let measured = measure(case.style, &case.table, &case.formula);
+        let needed = NODE_BYTES * measured.count as usize;
+        let more = needed + NODE_BYTES + random.below(1000);
+        let room = *random.pick(&[
+            0,
+            NODE_BYTES - 1,
+            needed.saturating_sub(1),
+            needed,
+            needed,
+            needed,
+            needed + 1,
+            more,
+            case.room,
+        ]);
+        Input {
+            style: case.style,
+            table: case.table,
+            formula: case.formula,
+            room,
+            filling: random.word(),
+        }
+    }
+
+    /// The reference's answer number when setting.
+    pub fn number(&self) -> u8 {
+        let mut nodes = vec![0; self.room];
+        set(self.style, &self.table, &self.formula, &mut nodes).number
+    }
+}

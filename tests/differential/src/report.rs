@@ -1,0 +1,27 @@
+//! Prints a disagreement, so that it can be run again from what is printed.
+
+use crate::calls::{disagreement, Outcome};
+use crate::input::Input;
+
+pub fn print(input: &Input) {
+    let Some(found) = disagreement(input) else {
+        return;
+    };
+    println!("disagreement in {:?}: {}", found.call, found.fault);
+    println!("  style     {}", input.style);
+    println!("  table     {}", hex(&input.table));
+    println!("  formula   {}", hex(&input.formula));
+    println!("  room      {}", input.room);
+    print_outcome("library", &found.library);
+    print_outcome("reference", &found.reference);
+}
+
+fn print_outcome(name: &str, outcome: &Outcome) {
+    let words: Vec<String> = outcome.answer.lent().iter().map(i64::to_string).collect();
+    println!("  {name:9} {}: {}", outcome.number, words.join(" "));
+    println!("    buffer  {}", hex(outcome.nodes.lent()));
+}
+
+fn hex(bytes: &[u8]) -> String {
+    bytes.iter().map(|byte| format!("{byte:02x}")).collect()
+}

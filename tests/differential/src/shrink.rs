@@ -1,0 +1,98 @@
+//! Makes an input on which the setters disagree smaller.
+
+use crate::calls::disagreement;
+use crate::input::Input;
+use std::ops::Range;
+
+/// The parameter rows at a table's start, which stay.
+const TABLE_HEAD: usize = 426;
+const RECORD_BYTES: usize = 23;
+/// The kind byte of a list field, and the bytes before the list's items.
+const LIST: u8 = 2;
+const LIST_HEAD: usize = 3;
+/// Every run up to this length is tried; longer ones by halves.
+const ALL_RUNS: usize = 32;
+
+/// Drops bytes of the formula, then records of the table.
+pub fn shrunk(mut input: Input) -> Input {
+    let formula_bytes = Units {
+        head: 0,
+        length: 1,
+        without: without_items,
+    };
+    let formula = input.formula.clone();
+    input.formula = formula_bytes.dropped(formula, |formula| {
+        disagrees(Input {
+            formula: formula.to_vec(),
+            ..input.clone()
+        })
+    });
+    let records = Units {
+        head: TABLE_HEAD,
+        length: RECORD_BYTES,
+        without,
+    };
+    let table = input.table.clone();
+    input.table = records.dropped(table, |table| {
+        disagrees(Input {
+            table: table.to_vec(),
+            ..input.clone()
+        })
+    });
+    input
+}
+
+fn disagrees(input: Input) -> bool {
+    disagreement(&input).is_some()
+}
+
+/// What can be dropped from some bytes: units past a head.
+struct Units {
+    head: usize,
+    length: usize,
+    without: fn(&[u8], Range<usize>) -> Vec<u8>,
+}
+
+impl Units {
+    /// Drops runs of units, long ones first, while `holds` stays true.
+    fn dropped(&self, mut bytes: Vec<u8>, holds: impl Fn(&[u8]) -> bool) -> Vec<u8> {
+        let mut run = bytes.len().saturating_sub(self.head) / self.length;
+        while run > 0 {
+            let mut start = self.head;
+            while start + run * self.length <= bytes.len() {
+                let candidate = (self.without)(&bytes, start..start + run * self.length);
+                if holds(&candidate) {
+                    bytes = candidate;
+                } else {
+                    start += self.length;
+                }
+            }
+            run = if run > ALL_RUNS { run / 2 } else { run - 1 };
+        }
+        bytes
+    }
+}
+
+fn without(bytes: &[u8], dropped: Range<usize>) -> Vec<u8> {
+    [&bytes[..dropped.start], &bytes[dropped.end..]].concat()
+}
+
+/// Lowers the lengths of what look like the lists around the dropped bytes.
+fn without_items(formula: &[u8], dropped: Range<usize>) -> Vec<u8> {
+    let mut shortened = formula.to_vec();
+    let mut end = formula.len();
+    let mut place = 0;
+    while place + LIST_HEAD <= dropped.start {
+        let length = u16::from_le_bytes([formula[place + 1], formula[place + 2]]);
+        let list_end = place + LIST_HEAD + usize::from(length);
+        if formula[place] == LIST && (dropped.end..=end).contains(&list_end) {
+            let length = length - dropped.len() as u16;
+            shortened[place + 1..place + LIST_HEAD].copy_from_slice(&length.to_le_bytes());
+            end = list_end;
+            place += LIST_HEAD;
+        } else {
+            place += 1;
+        }
+    }
+    without(&shortened, dropped)
+}

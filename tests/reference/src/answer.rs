@@ -1,0 +1,58 @@
+//! What a call gives back.
+
+use crate::boxes::MathBox;
+
+/// A refusal has its number and place; its sizes and count are 0.
+#[derive(Clone, Copy, Debug, Default, PartialEq, Eq)]
+pub struct Answer {
+    pub number: u8,
+    pub place: u64,
+    pub width: i64,
+    pub height: i64,
+    pub depth: i64,
+    pub count: u64,
+}
+
+impl Answer {
+    pub(crate) fn accepted(formula_box: &MathBox, count: usize) -> Answer {
+        Answer {
+            number: 0,
+            place: 0,
+            width: formula_box.width,
+            height: formula_box.height,
+            depth: formula_box.depth,
+            count: count as u64,
+        }
+    }
+}
+
+/// Why a formula is refused; a place counts the formula's bytes from 0.
+#[derive(Clone, Copy, Debug, PartialEq, Eq)]
+pub(crate) enum Refusal {
+    Style,
+    Table,
+    Unreadable(usize),
+    TooDeep(usize),
+    Absent(usize),
+    Size,
+    Room,
+}
+
+impl From<Refusal> for Answer {
+    fn from(refusal: Refusal) -> Answer {
+        let (number, place) = match refusal {
+            Refusal::Style => (1, 0),
+            Refusal::Table => (2, 0),
+            Refusal::Unreadable(place) => (3, place),
+            Refusal::TooDeep(place) => (4, place),
+            Refusal::Absent(place) => (5, place),
+            Refusal::Size => (6, 0),
+            Refusal::Room => (7, 0),
+        };
+        Answer {
+            number,
+            place: place as u64,
+            ..Answer::default()
+        }
+    }
+}

@@ -1,0 +1,67 @@
+//! Runs a file of cases and prints what the thin program prints for each.
+//!
+//! The file has parts: `T`, a four-byte length and a table, which holds from
+//! there on; or `F`, a style byte, a two-byte length and a formula.
+
+use reference::{measure, printed, set, NODE_BYTES};
+use std::io::{self, BufWriter, Write};
+use std::process::ExitCode;
+
+fn main() -> ExitCode {
+    let Some(path) = std::env::args_os().nth(1) else {
+        eprintln!("usage: vectors FILE");
+        return ExitCode::FAILURE;
+    };
+    match std::fs::read(path).and_then(|cases| run(&cases)) {
+        Ok(()) => ExitCode::SUCCESS,
+        Err(error) => {
+            eprintln!("vectors: {error}");
+            ExitCode::FAILURE
+        }
+    }
+}
+
+fn run(mut cases: &[u8]) -> io::Result<()> {
+    let mut out = BufWriter::new(io::stdout().lock());
+    let mut table: &[u8] = &[];
+    while let Some((&mark, rest)) = cases.split_first() {
+        cases = rest;
+        match mark {
+            b'T' => {
+                let length = u32::from_le_bytes(take(&mut cases)?);
+                table = take_slice(&mut cases, length as usize)?;
+            }
+            b'F' => {
+                let [style] = take(&mut cases)?;
+                let length = u16::from_le_bytes(take(&mut cases)?);
+                let formula = take_slice(&mut cases, usize::from(length))?;
+                out.write_all(outcome(style, table, formula).as_bytes())?;
+            }
+            _ => return Err(malformed()),
+        }
+    }
+    out.flush()
+}
+
+fn outcome(style: u8, table: &[u8], formula: &[u8]) -> String {
+    let count = measure(style, table, formula).count as usize;
+    let mut nodes = vec![0; NODE_BYTES * count];
+    let answer = set(style, table, formula, &mut nodes);
+    printed(&answer, &nodes)
+}
+
+fn take<const N: usize>(cases: &mut &[u8]) -> io::Result<[u8; N]> {
+    let (taken, rest) = cases.split_first_chunk().ok_or_else(malformed)?;
+    *cases = rest;
+    Ok(*taken)
+}
+
+fn take_slice<'a>(cases: &mut &'a [u8], length: usize) -> io::Result<&'a [u8]> {
+    let (taken, rest) = cases.split_at_checked(length).ok_or_else(malformed)?;
+    *cases = rest;
+    Ok(taken)
+}
+
+fn malformed() -> io::Error {
+    io::Error::new(io::ErrorKind::InvalidData, "not a file of cases")
+}

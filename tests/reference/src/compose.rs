@@ -1,0 +1,81 @@
+//! Bytes of font tables and formulas, put together from their parts.
+
+use crate::table::{CHARACTER_MARK, PARAMETERS, PARAMETER_MARK, RECORD_BYTES, ROWS, ROW_BYTES};
+
+/// A font table before it is written; nothing makes it a good one.
+#[derive(Clone, Debug)]
+pub struct TableParts {
+    pub rows: [[u32; PARAMETERS]; ROWS],
+    pub characters: Vec<CharacterParts>,
+}
+
+#[derive(Clone, Copy, Debug)]
+pub struct CharacterParts {
+    pub size: u8,
+    pub family: u8,
+    pub code: u8,
+    pub successor: Option<u8>,
+    /// Width, height, depth, italic correction.
+    pub measures: [u32; 4],
+}
+
+impl TableParts {
+    pub fn bytes(&self) -> Vec<u8> {
+        let length = ROWS * ROW_BYTES + RECORD_BYTES * self.characters.len();
+        let mut bytes = Vec::with_capacity(length);
+        for row in &self.rows {
+            bytes.extend(PARAMETER_MARK);
+            bytes.extend(row.iter().flat_map(|word| word.to_le_bytes()));
+        }
+        for character in &self.characters {
+            bytes.extend(CHARACTER_MARK);
+            bytes.extend([character.size, character.family, character.code]);
+            bytes.extend([
+                u8::from(character.successor.is_some()),
+                character.successor.unwrap_or(0),
+            ]);
+            bytes.extend(
+                character
+                    .measures
+                    .iter()
+                    .flat_map(|word| word.to_le_bytes()),
+            );
+        }
+        bytes
+    }
+}
+
+/// A field with nothing in it.
+pub const EMPTY: &[u8] = &[0];
+
+pub fn symbol(family: u8, code: u8) -> Vec<u8> {
+    vec![1, family, code]
+}
+
+/// A list field; the length of `items` must fit two bytes.
+pub fn list(items: &[u8]) -> Vec<u8> {
+    let length = u16::try_from(items.len()).expect("a list has fewer than 65,536 bytes");
+    [&[2], &length.to_le_bytes()[..], items].concat()
+}
+
+/// An atom of the given class and limits; the fields are nucleus, superscript
+/// and subscript.
+pub fn atom(class: u8, limits: u8, fields: [&[u8]; 3]) -> Vec<u8> {
+    [b"AT", &[class, limits][..], &fields.concat()].concat()
+}
+
+pub fn overline(fields: [&[u8]; 3]) -> Vec<u8> {
+    [b"OV", &fields.concat()[..]].concat()
+}
+
+pub fn underline(fields: [&[u8]; 3]) -> Vec<u8> {
+    [b"UN", &fields.concat()[..]].concat()
+}
+
+pub fn fraction(bar: u8, numerator: &[u8], denominator: &[u8]) -> Vec<u8> {
+    [b"FR", &[bar][..], numerator, denominator].concat()
+}
+
+pub fn kern(length: i32) -> Vec<u8> {
+    [b"KN", &length.to_le_bytes()[..]].concat()
+}

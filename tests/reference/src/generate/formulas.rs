@@ -1,0 +1,298 @@
+//! Random formulas that can be read, and ones built to come near a limit.
+
+use super::{Random, Symbols};
+use crate::compose::{
+    atom, fraction, kern, list, overline, symbol, underline, CharacterParts, TableParts, EMPTY,
+};
+use crate::reading::KERN_LIMIT;
+use crate::table::{PARAMETERS, ROWS};
+use crate::{DEPTH_LIMIT, FORMULA_LIMIT, SIZE_LIMIT};
+
+/// Grows formulas over some symbols.
+pub struct Grower<'a> {
+    random: &'a mut Random,
+    symbols: &'a Symbols,
+    /// So many symbols of a hundred may be absent.
+    absent: u64,
+}
+
+impl<'a> Grower<'a> {
+    pub fn new(random: &'a mut Random, symbols: &'a Symbols, absent: u64) -> Grower<'a> {
+        Grower {
+            random,
+            symbols,
+            absent,
+        }
+    }
+
+    /// A formula of any usual length and depth.
+    pub fn formula(&mut self) -> Vec<u8> {
+        let depth = self.random.below(DEPTH_LIMIT) + 1;
+        let most = *self.random.pick(&[20, 60, 60, 200, 200, 600, 2000]);
+        self.items(depth, most)
+    }
+
+    /// A list's items, of at most `most` bytes, with lists down to `depth`
+    /// levels, this one counted.
+    pub fn items(&mut self, depth: usize, most: usize) -> Vec<u8> {
+        let mut items = Vec::new();
+        let wanted = self.random.below(most + 1);
+        while items.len() < wanted {
+            let item = self.item(depth, most - items.len());
+            if items.len() + item.len() > most {
+                break;
+            }
+            items.extend(item);
+        }
+        items
+    }
+
+    /// An item; its lists together have fewer bytes than `most`.
+    pub fn item(&mut self, depth: usize, most: usize) -> Vec<u8> {
+        let share = most / 4;
+        match self.random.below(20) {
+            0 | 1 => kern(self.kern_length()),
+            2 | 3 => {
+                let bar = self.random.below(2) as u8;
+                let (numerator, denominator) = (self.field(depth, share), self.field(depth, share));
+                fraction(bar, &numerator, &denominator)
+            }
+            form => {
+                let fields: [Vec<u8>; 3] = std::array::from_fn(|_| self.field(depth, share));
+                self.with_fields(form, &fields)
+            }
+        }
+    }
+
+    /// An overline, an underline or an atom of any class.
+    fn with_fields(&mut self, form: usize, fields: &[Vec<u8>; 3]) -> Vec<u8> {
+        let fields = fields.each_ref().map(Vec::as_slice);
+        match form {
+            4 => overline(fields),
+            5 => underline(fields),
+            6..9 => atom(1, self.random.below(3) as u8, fields),
+            _ => atom(self.plain_class(), 0, fields),
+        }
+    }
+
+    fn plain_class(&mut self) -> u8 {
+        *self.random.pick(&[0, 0, 0, 1, 2, 2, 2, 3, 4, 5, 6, 7])
+    }
+
+    fn field(&mut self, depth: usize, most: usize) -> Vec<u8> {
+        match self.random.below(10) {
+            0..3 => EMPTY.to_vec(),
+            3..5 if depth > 1 => list(&self.items(depth - 1, most.saturating_sub(3))),
+            _ => self.symbol(),
+        }
+    }
+
+    /// A symbol field, or an empty one if there is no symbol to use.
+    fn symbol(&mut self) -> Vec<u8> {
+        let drawn = if !self.random.percent(self.absent) {
+            self.symbols.usable(self.random)
+        } else if self.random.percent(60) {
+            self.symbols.known(self.random)
+        } else {
+            Some((self.random.below(16) as u8, self.random.byte()))
+        };
+        match drawn {
+            Some((family, code)) => symbol(family, code),
+            None => EMPTY.to_vec(),
+        }
+    }
+
+    fn kern_length(&mut self) -> i32 {
+        let greatest = match self.random.below(8) {
+            0 => 0,
+            1..5 => 1000,
+            5 | 6 => KERN_LIMIT,
+            _ => return *self.random.pick(&[KERN_LIMIT, -KERN_LIMIT]),
+        };
+        self.random.between((-greatest).into(), greatest.into()) as i32
+    }
+}
+
+/// A formula whose deepest list is at a depth around the limit.
+pub fn deep_formula(grower: &mut Grower) -> Vec<u8> {
+    let levels = *grower.random.pick(&[
+        DEPTH_LIMIT - 1,
+        DEPTH_LIMIT,
+        DEPTH_LIMIT,
+        DEPTH_LIMIT + 1,
+        DEPTH_LIMIT + 2,
+    ]);
+    nested(grower, 1, levels)
+}
+
+fn nested(grower: &mut Grower, depth: usize, levels: usize) -> Vec<u8> {
+    let shallow = DEPTH_LIMIT.saturating_sub(depth).clamp(1, 3);
+    let mut items = grower.items(shallow, 30);
+    if depth < levels {
+        let inner = list(&nested(grower, depth + 1, levels));
+        items.extend(holding(grower, inner));
+        items.extend(grower.items(shallow, 20));
+    }
+    items
+}
+
+/// An item with the given field in any of its places.
+fn holding(grower: &mut Grower, field: Vec<u8>) -> Vec<u8> {
+    let form = grower.random.below(12) + 2;
+    if form < 4 {
+        let other = grower.symbol();
+        return match form {
+            2 => fraction(0, &field, &other),
+            _ => fraction(1, &other, &field),
+        };
+    }
+    let mut fields: [Vec<u8>; 3] = std::array::from_fn(|_| grower.field(1, 0));
+    fields[grower.random.below(3)] = field;
+    grower.with_fields(form, &fields)
+}
+
+/// A formula of a length around the limit, at times all in one field.
+pub fn long_formula(grower: &mut Grower) -> Vec<u8> {
+    let limit = FORMULA_LIMIT as i64;
+    let length = match grower.random.below(4) {
+        0 => limit,
+        1 => limit + 1,
+        _ => grower.random.between(limit - 8, limit + 8),
+    } as usize;
+    if grower.random.percent(70) {
+        return exactly(grower, length);
+    }
+    let rest = atom(0, 0, [&list(&[]), EMPTY, EMPTY]).len();
+    let inner = list(&exactly(grower, length - rest));
+    atom(0, 0, [&inner, EMPTY, EMPTY])
+}
+
+/// Items of exactly so many bytes, which are not few.
+fn exactly(grower: &mut Grower, length: usize) -> Vec<u8> {
+    const MOST: usize = 200;
+    let mut items = Vec::with_capacity(length);
+    while items.len() + MOST < length {
+        items.extend(grower.items(DEPTH_LIMIT - 2, MOST - 24));
+    }
+    let rest = length - items.len();
+    let (kern, line) = (kern(0), underline([EMPTY; 3]));
+    let kerns = rest % line.len();
+    let lines = (rest - kerns * kern.len()) / line.len();
+    items.extend(kern.repeat(kerns));
+    items.extend(line.repeat(lines));
+    items
+}
+
+/// A formula with long kerns, so that widths and x come near the size limit.
+pub fn wide_formula(grower: &mut Grower) -> Vec<u8> {
+    let edge = edge(grower.random);
+    let outside = match grower.random.below(3) {
+        0 => 0,
+        1 => edge / 2,
+        _ => grower.random.between(-SIZE_LIMIT, SIZE_LIMIT),
+    };
+    let mut items = kerns(outside);
+    match grower.random.below(4) {
+        0 => {
+            items.extend(kerns(edge - outside));
+            items.extend(grower.item(1, 0));
+        }
+        _ => {
+            let inner = wide_list(grower, edge - outside);
+            items.extend(holding(grower, inner));
+        }
+    }
+    if grower.random.percent(50) {
+        let back = grower.random.between(-SIZE_LIMIT, SIZE_LIMIT);
+        items.extend(kerns(back));
+        items.extend(grower.item(1, 0));
+    }
+    items
+}
+
+fn wide_list(grower: &mut Grower, width: i64) -> Vec<u8> {
+    let mut items = kerns(width);
+    if grower.random.percent(70) {
+        items.extend(grower.item(1, 0));
+    }
+    if grower.random.percent(30) {
+        items.extend(kerns(-width));
+    }
+    list(&items)
+}
+
+/// The size limit with either sign, or a length near it.
+fn edge(random: &mut Random) -> i64 {
+    let off = *random.pick(&[0, 2, 1000, 40_000, 2_000_000]);
+    let length = SIZE_LIMIT + random.between(-off, off);
+    if random.percent(50) {
+        length
+    } else {
+        -length
+    }
+}
+
+/// Kerns of the given sum.
+fn kerns(sum: i64) -> Vec<u8> {
+    let longest = i64::from(KERN_LIMIT);
+    let long_kern = kern(KERN_LIMIT * sum.signum() as i32);
+    let mut items = long_kern.repeat((sum.abs() / longest) as usize);
+    items.extend(kern((sum % longest) as i32));
+    items
+}
+
+/// A table and a formula whose lines, one over the other, come near the size
+/// limit upwards or downwards.
+pub fn tall_case(random: &mut Random) -> (Vec<u8>, Vec<u8>) {
+    let nucleus_lines = random.between(13, DEPTH_LIMIT as i64);
+    let script_lines = random.between(13, DEPTH_LIMIT as i64 - 1);
+    let off = *random.pick(&[2, 40, 3000]);
+    let reach = SIZE_LIMIT + random.between(-off, off);
+    let thickness = (reach / (5 * (nucleus_lines + script_lines))) as u32;
+    let table = tall_table(thickness, random);
+
+    let upwards = random.percent(50);
+    let letter = symbol(1, 97);
+    let nucleus = lines(upwards, nucleus_lines - 1, &letter);
+    let script = lines(upwards, script_lines, &letter);
+    let formula = if upwards {
+        overline([&nucleus, &script, EMPTY])
+    } else {
+        underline([&nucleus, EMPTY, &script])
+    };
+    (table.bytes(), formula)
+}
+
+/// All lines are equally thick; what else has an effect on heights is small.
+fn tall_table(thickness: u32, random: &mut Random) -> TableParts {
+    const RULE_THICKNESS: usize = 29;
+    let greatest = *random.pick(&[0, 50, 2000]);
+    let mut word = || random.between(0, greatest) as u32;
+    let mut rows = [[0; PARAMETERS]; ROWS];
+    for row in &mut rows {
+        row.fill_with(&mut word);
+        row[RULE_THICKNESS] = thickness;
+    }
+    let characters = (0..ROWS as u8)
+        .map(|size| CharacterParts {
+            size,
+            family: 1,
+            code: 97,
+            successor: None,
+            measures: std::array::from_fn(|_| word()),
+        })
+        .collect();
+    TableParts { rows, characters }
+}
+
+/// So many lines over or under a field, as a field.
+fn lines(upwards: bool, count: i64, field: &[u8]) -> Vec<u8> {
+    (0..count).fold(field.to_vec(), |inner, _| {
+        let fields: [&[u8]; 3] = [&inner, EMPTY, EMPTY];
+        list(&if upwards {
+            overline(fields)
+        } else {
+            underline(fields)
+        })
+    })
+}

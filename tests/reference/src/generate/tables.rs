@@ -1,0 +1,161 @@
+//! Random font tables that keep every rule, and the symbols to use with them.
+
+use super::Random;
+use crate::compose::{CharacterParts, TableParts};
+use crate::table::{PARAMETERS, ROWS};
+use crate::{CHARACTER_LIMIT, WORD_LIMIT};
+use std::collections::{BTreeMap, BTreeSet};
+
+pub fn good_table(random: &mut Random) -> TableParts {
+    let scale = Scale::drawn(random);
+    let rows = rows(scale, random);
+    let characters = characters(scale, random);
+    TableParts { rows, characters }
+}
+
+/// How large a table's words are.
+#[derive(Clone, Copy)]
+enum Scale {
+    Zero,
+    Small,
+    Usual,
+    Large,
+    Mixed,
+}
+
+impl Scale {
+    fn drawn(random: &mut Random) -> Scale {
+        *random.weighted(&[
+            (Scale::Zero, 3),
+            (Scale::Small, 30),
+            (Scale::Usual, 30),
+            (Scale::Large, 12),
+            (Scale::Mixed, 25),
+        ])
+    }
+
+    fn word(self, random: &mut Random) -> u32 {
+        let greatest = match self {
+            Scale::Zero => 0,
+            Scale::Small => 1000,
+            Scale::Usual => 1 << 20,
+            Scale::Large => WORD_LIMIT,
+            Scale::Mixed => match random.below(8) {
+                0 | 1 => 0,
+                2..5 => 1000,
+                5 | 6 => 1 << 20,
+                _ => return WORD_LIMIT,
+            },
+        };
+        random.between(0, greatest.into()) as u32
+    }
+}
+
+fn rows(scale: Scale, random: &mut Random) -> [[u32; PARAMETERS]; ROWS] {
+    let mut row = || std::array::from_fn(|_| scale.word(random));
+    let rows = [row(), row(), row()];
+    if random.percent(20) {
+        [rows[0]; ROWS]
+    } else {
+        rows
+    }
+}
+
+fn characters(scale: Scale, random: &mut Random) -> Vec<CharacterParts> {
+    let symbols: Vec<(u8, u8)> = symbol_set(random).into_iter().collect();
+    let presence = *random.pick(&[100, 100, 95, 80]);
+    let flagged = *random.pick(&[0, 20, 70]);
+    let mut characters = Vec::new();
+    for size in 0..ROWS as u8 {
+        for &(family, code) in &symbols {
+            if characters.len() < CHARACTER_LIMIT && random.percent(presence) {
+                characters.push(CharacterParts {
+                    size,
+                    family,
+                    code,
+                    successor: random
+                        .percent(flagged)
+                        .then(|| successor(family, &symbols, random)),
+                    measures: std::array::from_fn(|_| scale.word(random)),
+                });
+            }
+        }
+    }
+    characters
+}
+
+/// A few families, some with many codes; one table in fifty is full.
+fn symbol_set(random: &mut Random) -> BTreeSet<(u8, u8)> {
+    let wanted = match random.below(50) {
+        0 => 0,
+        1 => CHARACTER_LIMIT.div_ceil(ROWS),
+        2..6 => random.below(300),
+        _ => random.below(24) + 1,
+    };
+    let families = random.below(4) + 3;
+    let mut symbols = BTreeSet::new();
+    while symbols.len() < wanted {
+        let family = (random.below(families) * 3) as u8;
+        symbols.insert((family, random.byte()));
+    }
+    symbols
+}
+
+/// Mostly a code that the family has.
+fn successor(family: u8, symbols: &[(u8, u8)], random: &mut Random) -> u8 {
+    let (family_of, code) = *random.pick(symbols);
+    if family_of == family || random.percent(3) {
+        return code;
+    }
+    let same: Vec<u8> = symbols
+        .iter()
+        .filter(|(other, _)| *other == family)
+        .map(|(_, code)| *code)
+        .collect();
+    *random.pick(&same)
+}
+
+/// The families and codes of a table.
+#[derive(Clone, Debug)]
+pub struct Symbols {
+    known: Vec<(u8, u8)>,
+    /// Those that a formula can use in every style without a refusal.
+    usable: Vec<(u8, u8)>,
+}
+
+impl Symbols {
+    pub fn of(table: &TableParts) -> Symbols {
+        let successors: BTreeMap<(u8, u8, u8), Option<u8>> = table
+            .characters
+            .iter()
+            .map(|c| ((c.size, c.family, c.code), c.successor))
+            .collect();
+        let is_usable = |&(family, code): &(u8, u8)| {
+            let in_all = (0..ROWS as u8).all(|size| successors.contains_key(&(size, family, code)));
+            let enlarged = successors.get(&(0, family, code)).copied().flatten();
+            in_all && enlarged.is_none_or(|code| successors.contains_key(&(0, family, code)))
+        };
+        let known: BTreeSet<(u8, u8)> = successors
+            .keys()
+            .map(|(_, family, code)| (*family, *code))
+            .collect();
+        Symbols {
+            usable: known.iter().copied().filter(is_usable).collect(),
+            known: known.into_iter().collect(),
+        }
+    }
+
+    /// None if the table has no usable symbol.
+    pub fn usable(&self, random: &mut Random) -> Option<(u8, u8)> {
+        drawn(&self.usable, random)
+    }
+
+    /// A symbol that the table has at one size at least; none if it has none.
+    pub fn known(&self, random: &mut Random) -> Option<(u8, u8)> {
+        drawn(&self.known, random)
+    }
+}
+
+fn drawn(symbols: &[(u8, u8)], random: &mut Random) -> Option<(u8, u8)> {
+    (!symbols.is_empty()).then(|| *random.pick(symbols))
+}

@@ -1,0 +1,152 @@
+//! Lists, items and fields: each is set from those it holds.
+
+use crate::answer::Refusal;
+use crate::boxes::{Extent, MathBox};
+use crate::nodes::{Ink, Node, Pen, Run};
+use crate::reading::{Field, Formula, Item, List, Symbol};
+use crate::spacing;
+use crate::style::Style;
+use crate::table::{Character, Table};
+use crate::SIZE_LIMIT;
+
+pub struct Layout<'a, P> {
+    pub table: &'a Table<'a>,
+    pub formula: &'a Formula,
+    pub pen: P,
+    /// A list or node past the size limit was met. An absent symbol further
+    /// on still goes before it.
+    pub oversize: bool,
+}
+
+impl<'a, P: Pen> Layout<'a, P> {
+    pub fn new(table: &'a Table<'a>, formula: &'a Formula, pen: P) -> Self {
+        Layout {
+            table,
+            formula,
+            pen,
+            oversize: false,
+        }
+    }
+
+    pub fn list(&mut self, list: List, style: Style) -> Result<MathBox, Refusal> {
+        let font = self.table.parameters(style.size());
+        let start = self.pen.count();
+        let mut row = MathBox::default();
+        let mut left = None;
+        let mut items = self.formula.items(list);
+        while let Some(item) = items.next() {
+            if let Some(class) = item.class() {
+                let next_class = || items.clone().find_map(Item::class);
+                let class = spacing::settled(class, left, next_class);
+                if let Some(left) = left {
+                    row.width += spacing::space(left, class, style, font);
+                }
+                left = Some(class);
+            }
+            let item_box = self.item(item, style)?;
+            row.extent = row.extent.joined(self.place(&item_box, row.width, 0));
+            row.width += item_box.width;
+            row.height = row.height.max(item_box.height);
+            row.depth = row.depth.max(item_box.depth);
+        }
+        row.nodes = self.run_from(start);
+        self.oversize |= is_oversize(&row);
+        Ok(row)
+    }
+
+    fn item(&mut self, item: &Item, style: Style) -> Result<MathBox, Refusal> {
+        match item {
+            Item::Atom {
+                class,
+                limits,
+                nucleus,
+                scripts,
+            } => self.atom(*class, *limits, nucleus, scripts, style),
+            Item::Lined {
+                line,
+                nucleus,
+                scripts,
+            } => {
+                let nucleus = self.lined(*line, nucleus, style)?;
+                self.attach_scripts(nucleus, scripts, style)
+            }
+            Item::Fraction {
+                barred,
+                numerator,
+                denominator,
+            } => self.fraction(*barred, numerator, denominator, style),
+            Item::Kern(kern) => Ok(MathBox {
+                width: i64::from(*kern),
+                ..MathBox::default()
+            }),
+        }
+    }
+
+    /// A field as a box of its own: a symbol's italic correction is in its width.
+    pub fn field(&mut self, field: &Field, style: Style) -> Result<MathBox, Refusal> {
+        match field {
+            Field::Empty => Ok(MathBox {
+                nodes: self.run_from(self.pen.count()),
+                ..MathBox::default()
+            }),
+            Field::List(list) => self.list(*list, style),
+            Field::Symbol(symbol) => {
+                let character = self.character(symbol, style)?;
+                let glyph = self.glyph(symbol, style, &character);
+                Ok(MathBox {
+                    width: character.width + character.italic,
+                    ..glyph
+                })
+            }
+        }
+    }
+
+    pub fn character(&self, symbol: &Symbol, style: Style) -> Result<Character, Refusal> {
+        self.table
+            .character(style.size(), symbol.family, symbol.code)
+            .ok_or(Refusal::Absent(symbol.place as usize))
+    }
+
+    /// Writes a symbol at its reference point; the width is without the
+    /// italic correction.
+    pub fn glyph(&mut self, symbol: &Symbol, style: Style, character: &Character) -> MathBox {
+        let start = self.pen.count();
+        let ink = Ink::Glyph {
+            size: style.size(),
+            family: symbol.family,
+            code: symbol.code,
+        };
+        self.pen.push(Node { x: 0, y: 0, ink });
+        MathBox {
+            width: character.width,
+            height: character.height,
+            depth: character.depth,
+            nodes: self.run_from(start),
+            extent: Extent::point(0, 0),
+        }
+    }
+
+    /// Moves a box's nodes to where its reference point comes to stand in the
+    /// box around it, and tells how far they reach there.
+    pub fn place(&mut self, part: &MathBox, x: i64, y: i64) -> Extent {
+        if (x, y) != (0, 0) {
+            self.pen.shift(part.nodes, x, y);
+        }
+        part.extent.moved(x, y)
+    }
+
+    /// The nodes written since there were `start`.
+    pub fn run_from(&self, start: usize) -> Run {
+        Run {
+            start,
+            end: self.pen.count(),
+        }
+    }
+}
+
+fn is_oversize(row: &MathBox) -> bool {
+    row.width.abs() > SIZE_LIMIT
+        || row.height > SIZE_LIMIT
+        || row.depth > SIZE_LIMIT
+        || !row.extent.is_within(SIZE_LIMIT)
+}

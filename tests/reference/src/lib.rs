@@ -1,0 +1,83 @@
+//! A formula setter written from the papers, apart from the proved one.
+//!
+//! [`measure`] and [`set`] take a style, a font table and a formula, all as
+//! bytes. Nothing is kept between calls, so every call checks the table anew.
+
+mod answer;
+mod boxes;
+pub mod compose;
+pub mod generate;
+mod layout;
+mod nodes;
+mod printed;
+mod reading;
+mod rules;
+mod spacing;
+mod style;
+mod table;
+
+pub use answer::Answer;
+pub use nodes::NODE_BYTES;
+pub use printed::printed;
+pub use reading::{DEPTH_LIMIT, FORMULA_LIMIT};
+pub use table::{CHARACTER_LIMIT, WORD_LIMIT};
+
+/// The greatest size of a list's dimensions and of a node's coordinates.
+pub const SIZE_LIMIT: i64 = 1_073_741_823;
+
+use answer::Refusal;
+use boxes::MathBox;
+use layout::Layout;
+use nodes::{Count, Node, Pen};
+use reading::Formula;
+use style::Style;
+use table::Table;
+
+/// Finds the formula's sizes and the number of its nodes.
+pub fn measure(style: u8, table: &[u8], formula: &[u8]) -> Answer {
+    match lay_out(style, table, formula, Count::default()) {
+        Ok((formula_box, pen)) => Answer::accepted(&formula_box, pen.count()),
+        Err(refusal) => refusal.into(),
+    }
+}
+
+/// Measures, and writes the nodes to the front of `nodes`.
+pub fn set(style: u8, table: &[u8], formula: &[u8], nodes: &mut [u8]) -> Answer {
+    match try_set(style, table, formula, nodes) {
+        Ok(answer) => answer,
+        Err(refusal) => refusal.into(),
+    }
+}
+
+fn try_set(style: u8, table: &[u8], formula: &[u8], nodes: &mut [u8]) -> Result<Answer, Refusal> {
+    let pen: Vec<Node> = Vec::with_capacity(most_nodes(formula));
+    let (formula_box, pen) = lay_out(style, table, formula, pen)?;
+    let room = nodes
+        .get_mut(..NODE_BYTES * pen.len())
+        .ok_or(Refusal::Room)?;
+    nodes::write(&pen, room);
+    Ok(Answer::accepted(&formula_box, pen.len()))
+}
+
+/// No item has more nodes for its bytes than a fraction of two symbols.
+fn most_nodes(formula: &[u8]) -> usize {
+    formula.len().min(FORMULA_LIMIT) / 3
+}
+
+/// Everything but the buffer, with the refusals in the order they are tested.
+fn lay_out<P: Pen>(
+    style: u8,
+    table: &[u8],
+    formula: &[u8],
+    pen: P,
+) -> Result<(MathBox, P), Refusal> {
+    let style = Style::new(style).ok_or(Refusal::Style)?;
+    let table = Table::read(table).ok_or(Refusal::Table)?;
+    let formula = Formula::read(formula)?;
+    let mut layout = Layout::new(&table, &formula, pen);
+    let formula_box = layout.list(formula.top, style)?;
+    if layout.oversize {
+        return Err(Refusal::Size);
+    }
+    Ok((formula_box, layout.pen))
+}

@@ -1,0 +1,340 @@
+//! From bytes to a tree: which formulas can be read, and what they hold.
+
+use crate::answer::Refusal;
+
+/// The most bytes a formula may have.
+pub const FORMULA_LIMIT: usize = 4096;
+/// The deepest list; the formula itself is at depth 1.
+pub const DEPTH_LIMIT: usize = 16;
+
+pub(crate) const KERN_LIMIT: i32 = 8_388_607;
+
+/// The bytes of the shortest item, a line without fields.
+const LEAST_ITEM: usize = 5;
+
+// Places and indices are kept in 32 bits.
+const _: () = assert!(FORMULA_LIMIT < u32::MAX as usize);
+
+#[derive(Clone, Copy, Debug, PartialEq, Eq)]
+pub enum Class {
+    Ord,
+    Op,
+    Bin,
+    Rel,
+    Open,
+    Close,
+    Punct,
+    Inner,
+}
+
+const CLASSES: [Class; 8] = [
+    Class::Ord,
+    Class::Op,
+    Class::Bin,
+    Class::Rel,
+    Class::Open,
+    Class::Close,
+    Class::Punct,
+    Class::Inner,
+];
+
+#[derive(Clone, Copy, Debug, PartialEq, Eq)]
+pub enum Limits {
+    Display,
+    Always,
+    Never,
+}
+
+#[derive(Clone, Copy, Debug, PartialEq, Eq)]
+pub enum Line {
+    Over,
+    Under,
+}
+
+#[derive(Clone, Copy, Debug)]
+pub enum Item {
+    Atom {
+        class: Class,
+        limits: Limits,
+        nucleus: Field,
+        scripts: Scripts,
+    },
+    Lined {
+        line: Line,
+        nucleus: Field,
+        scripts: Scripts,
+    },
+    Fraction {
+        barred: bool,
+        numerator: Field,
+        denominator: Field,
+    },
+    Kern(i32),
+}
+
+impl Item {
+    /// The class an item counts as; a kern is not an atom.
+    pub fn class(&self) -> Option<Class> {
+        match *self {
+            Item::Atom { class, .. } => Some(class),
+            Item::Lined { .. } => Some(Class::Ord),
+            Item::Fraction { .. } => Some(Class::Inner),
+            Item::Kern(_) => None,
+        }
+    }
+}
+
+#[derive(Clone, Copy, Debug)]
+pub struct Scripts {
+    pub superscript: Field,
+    pub subscript: Field,
+}
+
+#[derive(Clone, Copy, Debug)]
+pub enum Field {
+    Empty,
+    Symbol(Symbol),
+    List(List),
+}
+
+impl Field {
+    pub fn is_empty(&self) -> bool {
+        matches!(self, Field::Empty)
+    }
+}
+
+/// A symbol and the place of its field's kind byte.
+#[derive(Clone, Copy, Debug)]
+pub struct Symbol {
+    pub place: u32,
+    pub family: u8,
+    pub code: u8,
+}
+
+/// A list's entries, with all that stands in them, are from `first` up to `end`.
+#[derive(Clone, Copy, Debug)]
+pub struct List {
+    first: u32,
+    end: u32,
+}
+
+#[derive(Clone, Copy, Debug)]
+struct Entry {
+    item: Item,
+    /// The entry after all that this item holds.
+    next: u32,
+}
+
+/// A formula that was read: its items in reading order.
+pub struct Formula {
+    entries: Vec<Entry>,
+    pub top: List,
+}
+
+impl Formula {
+    pub fn read(bytes: &[u8]) -> Result<Formula, Refusal> {
+        if bytes.len() > FORMULA_LIMIT {
+            return Err(Refusal::Unreadable(0));
+        }
+        let mut reader = Reader {
+            bytes,
+            entries: Vec::with_capacity(bytes.len() / LEAST_ITEM),
+        };
+        let top = reader.list(0, bytes.len(), 1)?;
+        Ok(Formula {
+            entries: reader.entries,
+            top,
+        })
+    }
+
+    pub fn items(&self, list: List) -> Items<'_> {
+        Items {
+            entries: &self.entries,
+            at: list.first,
+            end: list.end,
+        }
+    }
+}
+
+/// The items of one list, without those inside them.
+#[derive(Clone)]
+pub struct Items<'a> {
+    entries: &'a [Entry],
+    at: u32,
+    end: u32,
+}
+
+impl<'a> Iterator for Items<'a> {
+    type Item = &'a Item;
+
+    fn next(&mut self) -> Option<&'a Item> {
+        if self.at == self.end {
+            return None;
+        }
+        let entry = &self.entries[self.at as usize];
+        self.at = entry.next;
+        Some(&entry.item)
+    }
+}
+
+struct Reader<'a> {
+    bytes: &'a [u8],
+    entries: Vec<Entry>,
+}
+
+/// Where an item is being read, and at which depth its list stands.
+struct Cursor {
+    item: usize,
+    at: usize,
+    end: usize,
+    depth: usize,
+}
+
+impl Cursor {
+    fn fault(&self) -> Refusal {
+        Refusal::Unreadable(self.item)
+    }
+}
+
+impl Reader<'_> {
+    fn list(&mut self, start: usize, end: usize, depth: usize) -> Result<List, Refusal> {
+        let first = self.entries.len() as u32;
+        let mut at = start;
+        while at < end {
+            let mut cursor = Cursor {
+                item: at,
+                at,
+                end,
+                depth,
+            };
+            self.entry(&mut cursor)?;
+            at = cursor.at;
+        }
+        let end = self.entries.len() as u32;
+        Ok(List { first, end })
+    }
+
+    /// An item's entry comes before those of the lists in it.
+    fn entry(&mut self, cursor: &mut Cursor) -> Result<(), Refusal> {
+        let index = self.entries.len();
+        self.entries.push(Entry {
+            item: Item::Kern(0),
+            next: 0,
+        });
+        let item = self.item(cursor)?;
+        let next = self.entries.len() as u32;
+        self.entries[index] = Entry { item, next };
+        Ok(())
+    }
+
+    fn item(&mut self, cursor: &mut Cursor) -> Result<Item, Refusal> {
+        match &self.take::<2>(cursor)? {
+            b"AT" => self.atom(cursor),
+            b"OV" => self.lined(Line::Over, cursor),
+            b"UN" => self.lined(Line::Under, cursor),
+            b"FR" => self.fraction(cursor),
+            b"KN" => self.kern(cursor),
+            _ => Err(cursor.fault()),
+        }
+    }
+
+    fn atom(&mut self, cursor: &mut Cursor) -> Result<Item, Refusal> {
+        let [class] = self.take(cursor)?;
+        let class = *CLASSES
+            .get(usize::from(class))
+            .ok_or_else(|| cursor.fault())?;
+        let limits = match (class, self.take(cursor)?) {
+            (_, [0]) => Limits::Display,
+            (Class::Op, [1]) => Limits::Always,
+            (Class::Op, [2]) => Limits::Never,
+            _ => return Err(cursor.fault()),
+        };
+        Ok(Item::Atom {
+            class,
+            limits,
+            nucleus: self.field(cursor)?,
+            scripts: self.scripts(cursor)?,
+        })
+    }
+
+    fn lined(&mut self, line: Line, cursor: &mut Cursor) -> Result<Item, Refusal> {
+        Ok(Item::Lined {
+            line,
+            nucleus: self.field(cursor)?,
+            scripts: self.scripts(cursor)?,
+        })
+    }
+
+    fn scripts(&mut self, cursor: &mut Cursor) -> Result<Scripts, Refusal> {
+        Ok(Scripts {
+            superscript: self.field(cursor)?,
+            subscript: self.field(cursor)?,
+        })
+    }
+
+    fn fraction(&mut self, cursor: &mut Cursor) -> Result<Item, Refusal> {
+        let barred = match self.take(cursor)? {
+            [0] => true,
+            [1] => false,
+            _ => return Err(cursor.fault()),
+        };
+        Ok(Item::Fraction {
+            barred,
+            numerator: self.field(cursor)?,
+            denominator: self.field(cursor)?,
+        })
+    }
+
+    fn kern(&mut self, cursor: &mut Cursor) -> Result<Item, Refusal> {
+        let kern = i32::from_le_bytes(self.take(cursor)?);
+        if (-KERN_LIMIT..=KERN_LIMIT).contains(&kern) {
+            Ok(Item::Kern(kern))
+        } else {
+            Err(cursor.fault())
+        }
+    }
+
+    fn field(&mut self, cursor: &mut Cursor) -> Result<Field, Refusal> {
+        let place = cursor.at;
+        match self.take(cursor)? {
+            [0] => Ok(Field::Empty),
+            [1] => self.symbol(place, cursor),
+            [2] if cursor.depth >= DEPTH_LIMIT => Err(Refusal::TooDeep(place)),
+            [2] => self.list_field(cursor),
+            _ => Err(cursor.fault()),
+        }
+    }
+
+    fn symbol(&mut self, place: usize, cursor: &mut Cursor) -> Result<Field, Refusal> {
+        let [family] = self.take(cursor)?;
+        if family > 15 {
+            return Err(cursor.fault());
+        }
+        let [code] = self.take(cursor)?;
+        Ok(Field::Symbol(Symbol {
+            place: place as u32,
+            family,
+            code,
+        }))
+    }
+
+    fn list_field(&mut self, cursor: &mut Cursor) -> Result<Field, Refusal> {
+        let length = usize::from(u16::from_le_bytes(self.take(cursor)?));
+        if length > cursor.end - cursor.at {
+            return Err(cursor.fault());
+        }
+        let start = cursor.at;
+        cursor.at += length;
+        let list = self.list(start, cursor.at, cursor.depth + 1)?;
+        Ok(Field::List(list))
+    }
+
+    /// The next bytes of the item, if its list has them.
+    fn take<const N: usize>(&self, cursor: &mut Cursor) -> Result<[u8; N], Refusal> {
+        let taken = self.bytes[cursor.at..cursor.end]
+            .first_chunk()
+            .ok_or_else(|| cursor.fault())?;
+        cursor.at += N;
+        Ok(*taken)
+    }
+}

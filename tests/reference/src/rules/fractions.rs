@@ -1,0 +1,110 @@
+//! Fractions (rules 15 to 15d).
+
+use crate::answer::Refusal;
+use crate::boxes::{half, Extent, MathBox};
+use crate::layout::Layout;
+use crate::nodes::{Ink, Node, Pen};
+use crate::reading::Field;
+use crate::style::Style;
+use crate::table::Parameters;
+
+/// How far the numerator goes up and the denominator goes down.
+struct Shifts {
+    up: i64,
+    down: i64,
+}
+
+impl<P: Pen> Layout<'_, P> {
+    pub fn fraction(
+        &mut self,
+        barred: bool,
+        numerator: &Field,
+        denominator: &Field,
+        style: Style,
+    ) -> Result<MathBox, Refusal> {
+        let font = self.table.parameters(style.size());
+        let thickness = if barred { font.rule_thickness() } else { 0 };
+        let start = self.pen.count();
+
+        // 15a. The bar's node stands before the denominator's, its width is
+        // known after it.
+        let numerator = self.field(numerator, style.numerator())?;
+        let bar_index = self.pen.count();
+        if thickness > 0 {
+            self.pen.push(bar(0, thickness, font));
+        }
+        let denominator = self.field(denominator, style.denominator())?;
+        let width = numerator.width.max(denominator.width);
+
+        let shifts = if thickness > 0 {
+            barred_shifts(thickness, &numerator, &denominator, style, font)
+        } else {
+            barless_shifts(&numerator, &denominator, style, font)
+        };
+        let over = self.place(&numerator, half(width - numerator.width), shifts.up);
+        let under = self.place(&denominator, half(width - denominator.width), -shifts.down);
+        let mut extent = over.joined(under);
+        if thickness > 0 {
+            let bar = bar(width, thickness, font);
+            extent = extent.joined(Extent::point(bar.x, bar.y));
+            self.pen.replace(bar_index, bar);
+        }
+        Ok(MathBox {
+            width,
+            height: numerator.height + shifts.up,
+            depth: denominator.depth + shifts.down,
+            nodes: self.run_from(start),
+            extent,
+        })
+    }
+}
+
+fn bar(width: i64, thickness: i64, font: &Parameters) -> Node {
+    Node {
+        x: 0,
+        y: font.axis_height() + half(thickness) - thickness,
+        ink: Ink::Rule { width, thickness },
+    }
+}
+
+/// 15b and 15d.
+fn barred_shifts(
+    thickness: i64,
+    numerator: &MathBox,
+    denominator: &MathBox,
+    style: Style,
+    font: &Parameters,
+) -> Shifts {
+    let (up, down, clearance) = if style.is_display() {
+        (font.num1(), font.denom1(), 3 * thickness)
+    } else {
+        (font.num2(), font.denom2(), thickness)
+    };
+    let axis_height = font.axis_height();
+    let bar_top = axis_height + half(thickness);
+    let bar_bottom = axis_height - half(thickness);
+    Shifts {
+        up: up.max(bar_top + clearance + numerator.depth),
+        down: down.max(clearance + denominator.height - bar_bottom),
+    }
+}
+
+/// 15b and 15c.
+fn barless_shifts(
+    numerator: &MathBox,
+    denominator: &MathBox,
+    style: Style,
+    font: &Parameters,
+) -> Shifts {
+    let (up, down, clearance) = if style.is_display() {
+        (font.num1(), font.denom1(), 7 * font.rule_thickness())
+    } else {
+        (font.num3(), font.denom2(), 3 * font.rule_thickness())
+    };
+    let gap = (up - numerator.depth) - (denominator.height - down);
+    let more = half((clearance - gap).max(0));
+    Shifts {
+        up: up + more,
+        down: down + more,
+    }
+}
