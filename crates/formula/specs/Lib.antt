@@ -1,3 +1,4 @@
+-- A formula as bytes and as a tree, its reading, what the reader promises; the laws of these. Assumes nothing.
 pub mod Tree
 pub mod Heads
 pub mod Reading

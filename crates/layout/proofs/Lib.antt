@@ -1,3 +1,4 @@
+-- The worked examples; measuring and setting agree; a field in the whole as it stands alone; laws of the entries. Assumes nothing.
 mod BenchTable
 mod Definitions
 mod Examples

@@ -1,2 +1,3 @@
+-- The answers, and how a value of the code stands for one. Assumes nothing.
 pub mod Answers
 pub mod Answering

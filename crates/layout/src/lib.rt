@@ -6,6 +6,7 @@ ghost use Rattle.layout.specs.Answers.{measured, setting, bufferAfter};
 ghost use Rattle.layout.specs.Answering.{answeredAs, FaultIs, Examined, Reads, ReadDone, Weighed};
 use formula::Verdict;
 use formula::reading::read_formula;
+use nodes::BYTES_IN_NODE;
 use rules::Style;
 use rules::boxes::Size;
 use rules::styles::Numbered;
@@ -52,10 +53,10 @@ pub fn set(style: u8, table: &[u8], formula: &[u8], nodes: &mut [u8]) -> Answer
     let finding = examine(style, table, formula);
     match finding {
         Finding::Boxed(s, size, count) => {
-            if nodes.len() / 18 < count {
+            if nodes.len() / BYTES_IN_NODE < count {
                 return Answer::NoRoom;
             }
-            let end = 18 * count;
+            let end = BYTES_IN_NODE * count;
             set_list(
                 table,
                 font::parameters(table),

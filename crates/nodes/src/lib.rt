@@ -10,7 +10,7 @@ ghost use Rattle.nodes.specs.Nodes.{glyph, rule, bytesInNode};
 ghost use Rattle.nodes.specs.Buffer.{written, put, nodeOf, movedHead, movedFront};
 use scaled::Sp;
 
-const BYTES_IN_NODE: usize = 18;
+pub const BYTES_IN_NODE: usize = 18;
 
 // Writes a glyph's node at the front, if there is room.
 pub fn put_glyph(buf: &mut [u8], x: Sp, y: Sp, size: u8, family: u8, code: u8)

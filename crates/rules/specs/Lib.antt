@@ -1,3 +1,4 @@
+-- The rules of Appendix G, idea by idea up to `arrange`; how values of the code stand for theirs, and bounds. Assumes nothing.
 pub mod Styles
 pub mod Parameters
 pub mod Classes
