@@ -57,13 +57,7 @@ pub fn set(style: u8, table: &[u8], formula: &[u8], nodes: &mut [u8]) -> Answer
                 return Answer::NoRoom;
             }
             let end = BYTES_IN_NODE * count;
-            set_list(
-                table,
-                font::parameters(table),
-                s,
-                formula,
-                &mut nodes[..end],
-            );
+            set_list(table, s, formula, &mut nodes[..end]);
             Answer::Accepted(size, count)
         }
         Finding::Refused(answer) => answer,
@@ -105,7 +99,7 @@ fn examine_read(style: Style, table: &[u8], formula: &[u8]) -> Finding
     ensures { λ r. ⌜ ReadDone style (now (table .entry)) (now (formula .entry)) r ⌝ }
 {
     let mut none = [0u8; 1];
-    let l = set_list(table, font::parameters(table), style, formula, &mut none);
+    let l = set_list(table, style, formula, &mut none);
     match l {
         ListSet::Whole(line) => weighed(style, line),
         ListSet::Missing(place) => Finding::Refused(Answer::Missing(place)),

@@ -2,11 +2,11 @@
 --     Noad, noad-at          where the fields of an item with fields stand, in a readable list
 --     kern-small             a kern that is read is small
 --     field-given, list-given, tail-given, rest-given, front-given, move-given, goes-given     what the calls ask
---     head-done, field-at, third-field, third-none, list-at     a field that has been set, by its head or its place in the item
+--     head-done, field-at, third-some, third-none, list-at     a field that has been set, by its head or its place in the item
 --     third-set, second-set, behind-set, first-set, item-done     what each function of the cycle comes to
 --     along-next, along-stop     a turn of the loop
 -- Assumes nothing.
-use mathlib.Core.Path.{_≡_, refl, sym, subst, ap, _∙_}
+use mathlib.Core.Path.{_≡_, refl, sym, subst, ap, fun-ext, _∙_}
 use mathlib.Core.Bool.{Bool, true, false, not, _&&_, _||_}
 use mathlib.Core.List.{List, [], _∷_, _++_, append-nil}
 use mathlib.Core.Option.{Option, none, some}
@@ -19,7 +19,9 @@ use lib.Seq.{length-take-le, drop-at}
 use borrow.Author.Tests.{leb-true}
 use borrow.Rule.Slice.PartMut.{putMid, take-put}
 use Rattle.scaled.specs.Signed.{Within}
-use Rattle.font.specs.Font.{Font}
+use Rattle.font.specs.Table.{goodTable}
+use Rattle.font.specs.Font.{Font, fontOf}
+use Rattle.font.specs.Answers.{HoldsParameters}
 use Rattle.formula.specs.declared.Kind.{Kind}
 use Rattle.formula.specs.declared.Kind.the-variants.{Atom, Over, Under, Fraction}
 use Rattle.formula.specs.declared.Opening.{Opening}
@@ -45,7 +47,7 @@ use Rattle.rules.specs.Parameters.{Parameters}
 use Rattle.rules.specs.Classes.{Neighbour}
 use Rattle.rules.specs.Boxes.{Rule}
 use Rattle.rules.specs.Arrange.{firstStyle, secondStyle, thirdStyle, enlarges}
-use Rattle.rules.specs.Values.{placeAs, lineAs}
+use Rattle.rules.specs.Values.{parametersIn, placeAs, lineAs}
 use Rattle.nodes.specs.Nodes.{bytesInNode}
 use Rattle.walk.specs.declared.parts.Part as parts
 use Rattle.walk.specs.declared.parts.FieldSet.{FieldSet}
@@ -61,7 +63,7 @@ use Rattle.walk.specs.declared.lists.LastSet.the-variants as last
 use Rattle.walk.specs.Setting.{nextClass, ruleNodes}
 use Rattle.walk.specs.Missing.{missingItems}
 use Rattle.walk.specs.Fitting.{fieldFits, itemFits}
-use Rattle.walk.specs.Walked.{longest, Ready, ListGiven, LineGiven, FieldGiven, ItemGiven, LineWithin, PartWithin, EmptyPart, ListDone, FieldWhole, FieldDone, HeadDone, ArrangedLast, SettingWithin, MoveGiven, FrontGiven, ItemGoes, itemFrom, MovedPart, BothRuns, FrontRun, FinishedLine, LastWhole, secondLast, ThirdDone, SecondDone, BehindDone, StepDone, ItemDone, rightOf, ruleCount}
+use Rattle.walk.specs.Walked.{longest, ListGiven, ItemsGiven, LineGiven, FieldGiven, ItemGiven, LineWithin, PartWithin, EmptyPart, ListDone, FieldWhole, FieldDone, HeadDone, ArrangedLast, SettingWithin, MoveGiven, FrontGiven, ItemGoes, itemFrom, MovedPart, BothRuns, FrontRun, FinishedLine, LastWhole, secondLast, ThirdDone, SecondDone, BehindDone, StepDone, ItemDone, rightOf, ruleCount}
 use Rattle.walk.proofs.ItemLaws.{front-reach, both-within}
 use Rattle.walk.proofs.MissingIn.{missing-in}
 use Rattle.walk.proofs.WalkLaws.{field-empty, third-whole, second-whole, behind-whole}
@@ -144,16 +146,11 @@ noad-at s kind e readable =
     five (Fraction bar) a b g = omega arith
 
 pub noad-of : {t : List ℕ} {p : List (List ℕ)} {s : List ℕ} {kind : Kind} → ItemGiven t p s kind → Noad s kind
-noad-of {s} {kind} given = noad-at s kind (given .opens) (given .list .readable)
+noad-of {s} {kind} given = noad-at s kind (given .opens) (given .items .list .readable)
 
 pub third-good : (s : List ℕ) (has : Bool) (k : ℕ) → has ≡ true → GoodThird s has k → GoodFieldAt s k
 third-good s true k e g = g
 third-good s false k e g = let z : _≡_ {A = ℕ} 0 1 = cc in absurd (omega arith)
-
--- the third field lies in the item, if there is one
-pub third-fits : (s : List ℕ) (has : Bool) (k : ℕ) → has ≡ true → k + headBytes (headAt s k) ≡ thirdEnd s has k
-third-fits s true k e = refl
-third-fits s false k e = cc
 
 -- ---- a kern
 
@@ -213,25 +210,24 @@ kern-small s n e = subst KernIn e (opening-small s)
 
 -- ---- what the calls ask
 
-pub field-given : (t : List ℕ) (p : List (List ℕ)) (s : List ℕ) (k k′ : ℕ) → Ready p t → length s ≤ longest → k ≡ k′ → GoodFieldAt s k′ →
-    FieldGiven t p (take (length s - k) (drop k s))
-field-given t p s k k′ ready short e good =
+pub field-given : (t s : List ℕ) (k k′ : ℕ) → goodTable t ≡ true → length s ≤ longest → k ≡ k′ → GoodFieldAt s k′ →
+    FieldGiven t (take (length s - k) (drop k s))
+field-given t s k k′ table-good short e good =
     let part : take (length s - k) (drop k s) ≡ drop k′ s = tail-part s k ∙ ap (λ (n : ℕ). drop n s) e in
-    rw part record { ready = ready; good = good; short = omega (arith, length-drop k′ s) }
+    rw part record { table-good = table-good; good = good; short = omega (arith, length-drop k′ s) }
 
 -- the bytes of a list field
 pub list-part : (s : List ℕ) (n : ℕ) → take (3 + n - 3) (drop 3 s) ≡ contents n s
 list-part s n = let e : 3 + n - 3 ≡ n = omega arith in rw e
 
-pub list-given : (t : List ℕ) (p : List (List ℕ)) (s : List ℕ) (n : ℕ) → FieldGiven t p s → fieldHead s ≡ Sublist n →
-    ListGiven t p (take (3 + n - 3) (drop 3 s))
-list-given t p s n given e =
+pub list-given : (t s : List ℕ) (n : ℕ) → FieldGiven t s → fieldHead s ≡ Sublist n → ListGiven t (take (3 + n - 3) (drop 3 s))
+list-given t s n given e =
     let size = contents-shorter s n e in
     let short = given .short in
-    rw (list-part s n) record { ready = given .ready; readable = subst (GoodField s) e (given .good); short = omega arith }
+    rw (list-part s n) record { good = given .table-good; readable = subst (GoodField s) e (given .good); short = omega arith }
 
 -- the place of a symbol that a list field lacks can be added up
-pub list-place : (F : Font) (st : Style) {t : List ℕ} {p : List (List ℕ)} (s : List ℕ) (n place : ℕ) → FieldGiven t p s → fieldHead s ≡ Sublist n →
+pub list-place : (F : Font) (st : Style) {t : List ℕ} (s : List ℕ) (n place : ℕ) → FieldGiven t s → fieldHead s ≡ Sublist n →
     missingItems F st 0 (treeOf (contents n s)) ≡ some place → 3 + place ≤ 3 + longest
 list-place F st s n place given e lacks =
     let size = contents-shorter s n e in
@@ -245,14 +241,19 @@ tail-given s k k′ e readable short =
     let part : take (length s - k) (drop k s) ≡ drop k′ s = tail-part s k ∙ ap (λ (n : ℕ). drop n s) e in
     rw part (readable, omega (arith, length-drop k′ s))
 
-pub rest-given : (t : List ℕ) (p : List (List ℕ)) (s : List ℕ) (l : lines.Line) → ListGiven t p s → Readable (drop (l .bytes) s) →
-    LineWithin l → l .bytes ≤ length s →
-    ListGiven t p (take (length s - l .bytes) (drop (l .bytes) s)) × LineGiven l (take (length s - l .bytes) (drop (l .bytes) s))
-rest-given t p s l given readable small low =
+pub taken-out : (t : List ℕ) (p : List (List ℕ)) → HoldsParameters p t → parametersIn p ≡ fontOf t .parameter
+unfolding parametersIn
+taken-out t p holds = fun-ext (λ size. fun-ext (λ number. holds .held size number))
+
+pub rest-given : (t : List ℕ) (p : List (List ℕ)) (s : List ℕ) (l : lines.Line) → ListGiven t s → HoldsParameters p t →
+    Readable (drop (l .bytes) s) → LineWithin l → l .bytes < length s →
+    let rest = take (length s - l .bytes) (drop (l .bytes) s) in
+    ItemsGiven t p rest × LineGiven l rest × (0 < length rest)
+rest-given t p s l given holds readable small low =
     let size = length-drop (l .bytes) s in
     let short = given .short in
     rw (tail-part s (l .bytes))
-    (record { ready = given .ready; readable = readable; short = omega arith }, record { small = small; short = omega arith })
+    (record { list = record { good = given .good; readable = readable; short = omega arith }; parameters-are = taken-out t p holds }, record { small = small; short = omega arith }, omega arith)
 
 pub part-more : {j k : ℕ} {c : parts.Part} → j ≤ k → PartWithin j c → PartWithin k c
 part-more few w = record { shape = w .shape; count = omega (arith, w .count); hull = w .hull }
@@ -327,12 +328,12 @@ module _ (F : Font) where
       (subst (λ (x : List ℕ). HeadDone F st g x b r′ b′) part
       (subst (λ (x : FieldSet). HeadDone F st g (take (length s - k) (drop k s)) b x b′) e₄ d)))
 
-  pub third-field : (st : Style) (g : Bool) (s : List ℕ) (has : Bool) (k : ℕ) (b : List ℕ) (r : FieldSet) (b′ : List ℕ) → has ≡ true →
+  pub third-some : (st : Style) (g : Bool) (s : List ℕ) (has : Bool) (k : ℕ) (b : List ℕ) (r : FieldSet) (b′ : List ℕ) → has ≡ true →
       FieldDone F st g (fieldIn s k) (headBytes (headAt s k)) b r b′ → FieldDone F st g (thirdIn s has k) (thirdEnd s has k - k) b r b′
-  third-field st g s true k b r b′ e d =
+  third-some st g s true k b r b′ e d =
       let n : headBytes (headAt s k) ≡ k + headBytes (headAt s k) - k = omega arith in
       subst (λ (n : ℕ). FieldDone F st g (fieldIn s k) n b r b′) n d
-  third-field st g s false k b r b′ e d = let z : _≡_ {A = ℕ} 0 1 = cc in absurd (omega arith)
+  third-some st g s false k b r b′ e d = let z : _≡_ {A = ℕ} 0 1 = cc in absurd (omega arith)
 
   pub third-none : (st : Style) (g : Bool) (s : List ℕ) (has : Bool) (k : ℕ) (b : List ℕ) (c : parts.Part) → has ≡ false → EmptyPart c →
       FieldDone F st g (thirdIn s has k) (thirdEnd s has k - k) b (field.Whole c) b

@@ -126,3 +126,10 @@ module _ (F : Font) where
   missing-field-in s k good st g place is =
       let h = field-by s (λ r l. missing-in r) st g 0 k good place is in
       omega arith
+
+  pub missing-third-in : (s : List ℕ) (k : ℕ) (has : Bool) → GoodThird s has k → (st : Style) (place : ℕ) →
+      missingField F st false 0 (thirdIn s has k) ≡ some place → place ≤ thirdEnd s has k - k
+  unfolding Inside
+  missing-third-in s k has good st place is =
+      let h = third-by s (λ r l. missing-in r) st 0 k has good place is in
+      omega arith

@@ -2,7 +2,7 @@
 --     field-empty, list-whole, list-missing     a field, from an empty part or from the list that it holds
 --     third-whole, second-whole, second-missing, second-first-missing     the last fields of an item, from each and those behind it
 --     behind-whole, behind-missing, first-missing     an item, from its first field and those behind it
---     no-item, item-kern     an item without fields
+--     item-kern              an item without fields
 -- The buffer's two parts are joined by `drawn-around`; a part is large where one of its lists is.
 -- Assumes nothing.
 use mathlib.Core.Path.{_≡_, refl, sym, subst, ap, ap₂, _∙_}
@@ -442,29 +442,7 @@ module _ (F : Font) (s : Style) (kind : Kind) (l : lines.Line) (bytes : List ℕ
 
 -- ---- an item without fields
 
-still : (z : ℤ) → z +ℤ pos 0 ≡ z
-still z = eq-by (# z ⊕ # (pos 0)) (# z) (omega arith)
-
 module _ (F : Font) (s : Style) (right : Neighbour) (l : lines.Line) (b : List ℕ) where
-  pub no-item : LineWithin l → StepDone F s right (kern (pos 0)) 0 l b (step.Next l) b
-  unfolding missingItem itemFits setItem
-  no-item small = (
-    record {
-      present = refl;
-      bytes-is = omega arith;
-      large-is = sym (or-false (l .large));
-      small = small;
-      is = λ h L is.
-          record {
-            left-is = is .left-is;
-            size-is = is .size-is ∙ rw (still (L .box .size .width));
-            count-is = is .count-is;
-            hull-is = is .hull-is;
-          };
-    },
-    λ h. drawn-none b,
-  )
-
   pub item-kern : (n : ℤ) (c : lines.Line) → KernedLine l n c → StepDone F s right (kern n) kernBytes l b (step.Next c) b
   unfolding missingItem itemFits setItem
   item-kern n c k = (

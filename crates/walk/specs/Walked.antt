@@ -76,13 +76,6 @@ abbrev pub soughtAs : Sought → Option Symbol
 soughtAs (Present s) = some (symbolAs s)
 soughtAs Absent = none
 
--- ---- the font
-
--- a table that breaks no rule, and its parameters
-pub record Ready (p : List (List ℕ)) (t : List ℕ) : Type 0 where
-  pub good : goodTable t ≡ true
-  pub parameters-are : parametersIn p ≡ fontOf t .parameter
-
 -- ---- a field
 
 pub record PartIs (x : Part) (c : parts.Part) : Type 0 where
@@ -303,10 +296,15 @@ FinishedLine l g r bytes c = ExtendedLine l (g .class) (g .x .0) (itemFrom g r b
 -- ---- the walk over a list of bytes
 
 -- a list's bytes, from the first byte of an item on
-pub record ListGiven (t : List ℕ) (p : List (List ℕ)) (s : List ℕ) : Type 0 where
-  pub ready : Ready p t
+pub record ListGiven (t s : List ℕ) : Type 0 where
+  pub good : goodTable t ≡ true
   pub readable : Readable s
   pub short : length s ≤ longest
+
+-- the same, with the table's parameters taken out of it
+pub record ItemsGiven (t : List ℕ) (p : List (List ℕ)) (s : List ℕ) : Type 0 where
+  pub list : ListGiven t s
+  pub parameters-are : parametersIn p ≡ fontOf t .parameter
 
 -- an item with fields at the head of a list
 pub record NoadAt (s : List ℕ) (kind : Kind) : Type 0 where
@@ -315,7 +313,7 @@ pub record NoadAt (s : List ℕ) (kind : Kind) : Type 0 where
 
 -- the same in a readable list, and the places of the fields
 pub record ItemGiven (t : List ℕ) (p : List (List ℕ)) (s : List ℕ) (kind : Kind) : Type 0 where
-  pub list : ListGiven t p s
+  pub items : ItemsGiven t p s
   pub opens : openingOf s ≡ Fields kind
 
 pub record PlacesAre (s : List ℕ) (kind : Kind) (at : Places) : Type 0 where
@@ -336,10 +334,16 @@ FirstGiven t s bytes kind c =
     (headBytes (headAt bytes (openingBytes kind))) c
 
 -- a field at the head of some bytes of a list
-pub record FieldGiven (t : List ℕ) (p : List (List ℕ)) (s : List ℕ) : Type 0 where
-  pub ready : Ready p t
+pub record FieldGiven (t s : List ℕ) : Type 0 where
+  pub table-good : goodTable t ≡ true
   pub good : GoodField s (fieldHead s)
   pub short : length s ≤ longest
+
+-- an item with fields, and the place of the third, if there is one
+pub record ThirdGiven (t s : List ℕ) (kind : Kind) (at : ℕ) : Type 0 where
+  pub list : ListGiven t s
+  pub opens : openingOf s ≡ Fields kind
+  pub at-is : at ≡ third s kind
 
 -- ---- the last fields of an item, from the line that it follows
 
@@ -450,6 +454,10 @@ ListDone F s l bytes b (lists.Missing place) b′ = missingItems F s 0 l ≡ som
 abbrev pub HeadDone : Font → Style → Bool → List ℕ → List ℕ → FieldSet → List ℕ → Type 0
 HeadDone F s enlarge bytes b r b′ =
     FieldDone F s enlarge (fieldOf bytes (fieldHead bytes)) (headBytes (fieldHead bytes)) b r b′
+
+abbrev pub ThirdFieldDone : Font → Style → List ℕ → Kind → List ℕ → FieldSet → List ℕ → Type 0
+ThirdFieldDone F s bytes kind b r b′ =
+    FieldDone F (thirdStyle s) false (fieldZ F s kind bytes) (end bytes kind - third bytes kind) b r b′
 
 abbrev pub ThirdDone : Font → Style → List ℕ → Kind → lines.Line → Shape → Shape → List ℕ → LastSet → List ℕ → Type 0
 ThirdDone F s bytes kind l x y b r b′ =

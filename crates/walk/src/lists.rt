@@ -2,12 +2,14 @@
 // The nodes of an item stand in the order first field, rule, second field, third field. Each field is set into the front of
 // the rest of the buffer, and once all three are there their nodes are moved, from the last to the first.
 
+ghost use mathlib.Core.Path.{_≡_};
+ghost use Prim.Native.Nat.{_<_};
 ghost use lib.ListN.{length};
 ghost use Rattle.font.specs.Font.{fontOf};
 ghost use Rattle.formula.specs.Places as tree;
 ghost use Rattle.rules.specs.Values.{neighbourAs, parametersIn};
 ghost use Rattle.rules.specs.Bounds.{ModerateShape};
-ghost use Rattle.walk.specs.Walked.{longest, PartWithin, LineWithin, ListGiven, LineGiven, ItemGiven, PlacesAre, FieldGiven, FirstGiven, ListDone, ItemDone, BehindDone, SecondDone, ThirdDone, ArrangedLast, HeadDone};
+ghost use Rattle.walk.specs.Walked.{longest, PartWithin, LineWithin, ListGiven, LineGiven, ItemsGiven, ItemGiven, PlacesAre, FieldGiven, ThirdGiven, FirstGiven, ListDone, ItemDone, BehindDone, SecondDone, ThirdDone, ThirdFieldDone, ArrangedLast, HeadDone};
 use crate::items::Run;
 use crate::items::Setting;
 use crate::items::behind;
@@ -62,10 +64,11 @@ pub enum LastSet {
 }
 
 // Sets a list at its own reference point, into the front of buf.
-pub fn set_list(table: &[u8], p: Parameters, style: Style, s: &[u8], buf: &mut [u8]) -> ListSet
-    requires { ⌜ ListGiven (now table) p (now s) ⌝ }
+pub fn set_list(table: &[u8], style: Style, s: &[u8], buf: &mut [u8]) -> ListSet
+    requires { ⌜ ListGiven (now table) (now s) ⌝ }
     ensures { λ r. ⌜ ListDone (fontOf (now (table .entry))) style (tree.treeOf (now (s .entry))) (length (now (s .entry))) (now (buf .entry)) r (now (buf .exit)) ⌝ }
 {
+    let p = font::parameters(table);
     let mut line = start();
     while line.bytes < s.len() {
         let at = line.bytes;
@@ -85,12 +88,12 @@ pub fn set_list(table: &[u8], p: Parameters, style: Style, s: &[u8], buf: &mut [
 
 // Sets the item at the head of s behind what stands so far; buf starts behind the nodes of that.
 fn set_item(table: &[u8], p: Parameters, style: Style, s: &[u8], line: Line, buf: &mut [u8]) -> Step
-    requires { ⌜ ListGiven (now table) p (now s) × LineGiven line (now s) ⌝ }
+    requires { ⌜ ItemsGiven (now table) p (now s) × LineGiven line (now s) × (0 < length (now s)) ⌝ }
     ensures { λ r. ⌜ ItemDone (fontOf (now (table .entry))) style (now (s .entry)) line (now (buf .entry)) r (now (buf .exit)) ⌝ }
 {
     let o = opening(s);
     match o {
-        Opening::NoItem => Step::Next(line),
+        Opening::NoItem => Step::Missing(0), // not in a list that reads
         Opening::Fields(kind) => set_first(table, p, style, kind, s, line, buf),
         Opening::Kern(n) => Step::Next(kerned(line, n)),
     }
@@ -113,7 +116,6 @@ fn set_first(
     let first = at.first;
     let x = set_field(
         table,
-        p,
         first_style(kind, style),
         enlarges(kind, style),
         &s[first..],
@@ -168,14 +170,7 @@ fn set_second(
     ensures { λ r. ⌜ SecondDone (fontOf (now (table .entry))) style (now (s .entry)) kind line x (now (buf .entry)) r (now (buf .exit)) ⌝ }
 {
     let second = at.second;
-    let y = set_field(
-        table,
-        p,
-        second_style(kind, style),
-        false,
-        &s[second..],
-        buf,
-    );
+    let y = set_field(table, second_style(kind, style), false, &s[second..], buf);
     match y {
         FieldSet::Whole(b) => {
             let j = room(b.count, buf.len());
@@ -213,14 +208,29 @@ fn set_third(
     let third = at.third;
     let end = at.end;
     let right = next_class(&s[end..]);
+    let z = third_field(table, style, kind, s, third, buf);
+    match z {
+        FieldSet::Whole(c) => arranged_last(p, style, kind, right, line, x, y, c, buf),
+        FieldSet::Missing(place) => LastSet::Missing(third + place),
+    }
+}
+
+// Sets the third field, which stands at `at`, alone; a fraction has none.
+fn third_field(
+    table: &[u8],
+    style: Style,
+    kind: Kind,
+    s: &[u8],
+    at: usize,
+    buf: &mut [u8],
+) -> FieldSet
+    requires { ⌜ ThirdGiven (now table) (now s) kind at ⌝ }
+    ensures { λ r. ⌜ ThirdFieldDone (fontOf (now (table .entry))) style (now (s .entry)) kind (now (buf .entry)) r (now (buf .exit)) ⌝ }
+{
     if has_third(kind) {
-        let z = set_field(table, p, third_style(style), false, &s[third..], buf);
-        match z {
-            FieldSet::Whole(c) => arranged_last(p, style, kind, right, line, x, y, c, buf),
-            FieldSet::Missing(place) => LastSet::Missing(third + place),
-        }
+        set_field(table, third_style(style), false, &s[at..], buf)
     } else {
-        arranged_last(p, style, kind, right, line, x, y, empty_part(), buf)
+        FieldSet::Whole(empty_part())
     }
 }
 
@@ -246,15 +256,8 @@ fn arranged_last(
 }
 
 // Sets the field at the head of s alone, at its own reference point, into the front of buf.
-fn set_field(
-    table: &[u8],
-    p: Parameters,
-    style: Style,
-    enlarge: bool,
-    s: &[u8],
-    buf: &mut [u8],
-) -> FieldSet
-    requires { ⌜ FieldGiven (now table) p (now s) ⌝ }
+fn set_field(table: &[u8], style: Style, enlarge: bool, s: &[u8], buf: &mut [u8]) -> FieldSet
+    requires { ⌜ FieldGiven (now table) (now s) ⌝ }
     ensures { λ r. ⌜ HeadDone (fontOf (now (table .entry))) style enlarge (now (s .entry)) (now (buf .entry)) r (now (buf .exit)) ⌝ }
 {
     let head = field_head(s);
@@ -264,7 +267,7 @@ fn set_field(
         FieldHead::Symbol(family, code) => symbol_part(table, style, enlarge, family, code, buf),
         FieldHead::Sublist(n) => {
             let end = 3 + n;
-            let l = set_list(table, p, style, &s[3..end], buf);
+            let l = set_list(table, style, &s[3..end], buf);
             match l {
                 ListSet::Whole(line) => FieldSet::Whole(list_part(line)),
                 ListSet::Missing(place) => FieldSet::Missing(3 + place),
