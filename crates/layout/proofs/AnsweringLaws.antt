@@ -5,7 +5,7 @@
 --     read-examined    the same of any style that there is
 --     style-refused, table-refused, fault-refused     the tests before the walk
 -- Assumes nothing.
-use mathlib.Core.Path.{_≡_, refl, sym, ap, ap₂, subst, fun-ext, _∙_}
+use mathlib.Core.Path.{_≡_, refl, sym, ap, ap₂, subst, _∙_}
 use mathlib.Core.Bool.{Bool, true, false, not, _&&_, and-true, and-false}
 use mathlib.Core.List.{List}
 use mathlib.Core.Option.{Option, none, some}
@@ -14,13 +14,12 @@ use native.Mathlib.Omega.{arith}
 use lib.ListN.{length}
 use Rattle.font.specs.Table.{goodTable}
 use Rattle.font.specs.Font.{Font, fontOf}
-use Rattle.font.specs.Answers.{HoldsParameters}
 use Rattle.formula.specs.Tree.{Items}
 use Rattle.formula.specs.Reading.{Read, good, fault, readFormula}
 use Rattle.formula.specs.Places.{Readable, treeOf}
 use Rattle.rules.specs.declared.Style.{Style}
 use Rattle.rules.specs.Styles.{styleOf}
-use Rattle.rules.specs.Values.{parametersIn, sizeAs}
+use Rattle.rules.specs.Values.{sizeAs}
 use Rattle.nodes.specs.Bounds.{nodesFit}
 use Rattle.nodes.specs.Hull.{hull, hullAs, hullFits}
 use Rattle.nodes.specs.HullLaws.{fits-hull}
@@ -81,14 +80,9 @@ module _ (F : Font) (s : Style) (l : Items) (bytes : ℕ) (c : lines.Line) (w : 
 
 -- ---- what the walk asks of a formula that reads
 
-pub given-list : (table formula : List ℕ) (p : List (List ℕ)) → Reads table formula → HoldsParameters p table → ListGiven table p formula
-unfolding parametersIn
-given-list table formula p h holds =
-    record {
-      ready = record { good = h .table-good; parameters-are = fun-ext (λ size. fun-ext (λ number. holds .held size number)) };
-      readable = h .readable;
-      short = omega (arith, h .short);
-    }
+pub given-list : (table formula : List ℕ) → Reads table formula → ListGiven table formula
+given-list table formula h =
+    record { good = h .table-good; readable = h .readable; short = omega (arith, h .short) }
 
 -- ---- a formula that reads
 
