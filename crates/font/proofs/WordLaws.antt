@@ -1,5 +1,5 @@
 -- Words and records in a list of bytes, for the loops that read them.
---     word-at           a word by its four bytes; past the end of the list a byte counts as 0
+--     word-at, word-fits    a word is the sum of its four bytes, which fits: what `word` needs
 --     part-of, rest-of    what `&t[a..a + k]` and `&t[a..]` hold
 --     words-turn        the words of the rest: a turn of `are_small`
 --     pieces-turn       the records of the rest: a turn of the loops over records
@@ -13,24 +13,33 @@ use mathlib.Core.List.{List, [], _∷_, map}
 use Prim.Native.Nat.{ℕ, zero, suc, _+_, _-_, _*_, _<_, _≤_}
 use native.Mathlib.Nat.{add-zero, add-comm, mul-zero, mul-suc}
 use native.Mathlib.Omega.{arith}
+use mir.Syntax.{w8}
+use mir.Val.{Fits}
 use lib.ListN.{length, getD, take, drop, length-drop, length-map, List·getD-eq-default}
 use lib.Seq.{take-all, drop-drop, getD-take, getD-drop}
-use Rattle.scaled.specs.Words.{littleEndian}
+use Rattle.scaled.specs.Words.{littleEndian, wordRange}
 use Rattle.font.specs.Table.{wordBytes, markBytes, parameterBytes, parameterCount, sizeCount, pieces, words, parameterRecords, parameterWords}
 use Rattle.font.specs.Font.{fontOf}
 
 -- ---- a word
 
-word-front : (s : List ℕ) → littleEndian wordBytes s ≡ getD s 0 0 + 256 * (getD s 1 0 + 256 * (getD s 2 0 + 256 * getD s 3 0))
+-- four bytes from a place on, added up as `word` does
+abbrev pub sumAt : List ℕ → ℕ → ℕ
+sumAt s at = getD s at 0 + getD s (at + 1) 0 * 256 + getD s (at + 2) 0 * 65_536 + getD s (at + 3) 0 * 16_777_216
+
+word-front : (s : List ℕ) → littleEndian wordBytes s ≡ sumAt s 0
 unfolding littleEndian
 word-front [] = refl
-word-front (a ∷ []) = refl
-word-front (a ∷ b ∷ []) = refl
-word-front (a ∷ b ∷ c ∷ []) = refl
+word-front (a ∷ []) = omega arith
+word-front (a ∷ b ∷ []) = omega arith
+word-front (a ∷ b ∷ c ∷ []) = omega arith
 word-front (a ∷ b ∷ c ∷ d ∷ s) = omega arith
 
-pub word-at : (s : List ℕ) (at : ℕ) → littleEndian wordBytes (drop at s) ≡ getD s at 0 + 256 * (getD s (at + 1) 0 + 256 * (getD s (at + 2) 0 + 256 * getD s (at + 3) 0))
+pub word-at : (s : List ℕ) (at : ℕ) → littleEndian wordBytes (drop at s) ≡ sumAt s at
 word-at s at = word-front (drop at s) ∙ simp (getD-drop, add-zero)
+
+pub word-fits : (s : List ℕ) (at : ℕ) → ((i : ℕ) → Fits w8 (getD s i 0)) → sumAt s at < wordRange
+word-fits s at byte = omega (arith, byte at, byte (at + 1), byte (at + 2), byte (at + 3))
 
 -- the front of a list has the words that end in it
 word-take : (k b : ℕ) (u : List ℕ) → b + wordBytes ≤ k → littleEndian wordBytes (drop b (take k u)) ≡ littleEndian wordBytes (drop b u)

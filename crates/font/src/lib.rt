@@ -7,7 +7,7 @@ mod words;
 ghost use mathlib.Core.Path.{_≡_};
 ghost use Prim.Native.Nat.{ℕ, _<_, _≤_};
 ghost use lib.ListN.{length, getD};
-ghost use Rattle.font.specs.Table.{sizeCount, characterBytes, goodTable};
+ghost use Rattle.font.specs.Table.{sizeCount, headerBytes, characterBytes, goodTable};
 ghost use Rattle.font.specs.Font.{fontOf, isOf, metricsOf, successorOf};
 ghost use Rattle.font.specs.Answers.{foundAs, metricsAs, successorAs, HoldsRow, HoldsParameters};
 
@@ -52,8 +52,9 @@ pub fn is_good(table: &[u8]) -> bool
     records::are_characters(&table[format::HEADER_BYTES..], n)
 }
 
-// The parameters of the three sizes; a byte past the end of the table counts as 0.
+// The parameters of the three sizes.
 pub fn parameters(table: &[u8]) -> [[u32; 35]; 3]
+    requires { ⌜ headerBytes ≤ length (now table) ⌝ }
     ensures { λ answer. ⌜ HoldsParameters answer (now (table .entry)) ⌝ }
 {
     let text = row(table, 0);
@@ -64,7 +65,7 @@ pub fn parameters(table: &[u8]) -> [[u32; 35]; 3]
 
 // The parameters of one size.
 fn row(table: &[u8], size: usize) -> [u32; 35]
-    requires { ⌜ size < sizeCount ⌝ }
+    requires { ⌜ (headerBytes ≤ length (now table)) × (size < sizeCount) ⌝ }
     ensures { λ answer. ⌜ HoldsRow answer (now (table .entry)) size ⌝ }
 {
     let start = format::PARAMETER_BYTES * size + format::FIRST_PARAMETER;

@@ -1,24 +1,20 @@
 // Four-byte words, the least significant byte first.
 use crate::format;
 ghost use mathlib.Core.Path.{_≡_};
-ghost use Prim.Native.Nat.{_+_, _*_, _^_, _<_, _≤_};
-ghost use lib.ListN.{length, getD, drop};
+ghost use Prim.Native.Nat.{_+_, _*_, _≤_};
+ghost use lib.ListN.{length, drop};
 ghost use Rattle.scaled.specs.Words.{littleEndian};
 ghost use Rattle.font.specs.Table.{wordBytes, words, every, goodWord};
 
-// The byte at a place; past the end it counts as 0.
-fn byte(s: &[u8], at: usize) -> u32
-    ensures { λ answer. ⌜ (answer ≡ getD (now (s .entry)) at 0) × (answer < 256) ⌝ }
-{
-    if at < s.len() { s[at] as u32 } else { 0 }
-}
-
 // The word that starts at a place.
 pub fn word(s: &[u8], at: usize) -> u32
-    requires { ⌜ at + 3 < 2 ^ 64 ⌝ }
+    requires { ⌜ at + wordBytes ≤ length (now s) ⌝ }
     ensures { λ answer. ⌜ answer ≡ littleEndian wordBytes (drop at (now (s .entry))) ⌝ }
 {
-    byte(s, at) + 256 * (byte(s, at + 1) + 256 * (byte(s, at + 2) + 256 * byte(s, at + 3)))
+    (s[at] as u32)
+        + (s[at + 1] as u32) * 256
+        + (s[at + 2] as u32) * 65_536
+        + (s[at + 3] as u32) * 16_777_216
 }
 
 // Whether none of n words from a place on is too great.
