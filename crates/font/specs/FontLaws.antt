@@ -1,5 +1,6 @@
--- What a good table promises of its font, for those who know no byte of it: no number of the font is greater than
--- `greatestWord`, so sums of a few of them fit.
+-- What a good table promises, for those who know no byte of it: it has all the parameters, and no number of its font is
+-- greater than `greatestWord`, so sums of a few of them fit.
+--     good-header                      a good table is long enough for `parameters`
 --     small-parameter, small-symbol    of the font of a good table
 --     small-entry, small-found         of what `parameters` and `symbol` answer on a good table
 -- The idea: a rule that holds of every record holds of the one that is taken (`every-map`, `every-getD`, `lookup-every`).
@@ -8,15 +9,15 @@ use mathlib.Core.Path.{_≡_, refl, sym, subst, ap, _∙_}
 use mathlib.Core.Bool.{Bool, true, false, _&&_, _||_, and-eq-true-iff}
 use mathlib.Core.List.{List, [], _∷_, map}
 use mathlib.Core.Option.{Option, some}
-use Prim.Native.Nat.{ℕ, zero, suc, _≤_, _<_}
+use Prim.Native.Nat.{ℕ, zero, suc, _+_, _*_, _≤_, _<_}
 use native.Mathlib.Omega.{arith}
-use borrow.Author.Tests.{leb-true}
+use borrow.Author.Tests.{leb-true, eqb-true}
 use lib.Dec.{leb, eqb}
-use lib.ListN.{getD}
+use lib.ListN.{length, getD}
 use Rattle.font.specs.declared.Metrics as declared
 use Rattle.font.specs.declared.Found.{Found}
 use Rattle.font.specs.declared.Found.the-variants.{Symbol}
-use Rattle.font.specs.Table.{greatestWord, greatestSize, greatestFamily, sizeCount, parameterCount, sizeByte, familyByte, flagByte, successorByte, every, rising, marked, goodLength, goodWord, goodParameters, goodCharacter, goodTable, parameterRecords, parameterWords, characterRecords, metricWords}
+use Rattle.font.specs.Table.{headerBytes, characterBytes, characterCount, greatestWord, greatestSize, greatestFamily, sizeCount, parameterCount, sizeByte, familyByte, flagByte, successorByte, every, rising, marked, goodLength, goodWord, goodParameters, goodCharacter, goodTable, parameterRecords, parameterWords, characterRecords, metricWords}
 use Rattle.font.specs.Font.{Metrics, fontOf, lookup, isOf, metricsOf}
 use Rattle.font.specs.Answers.{foundAs, metricsAs, HoldsParameters}
 
@@ -84,29 +85,37 @@ small-metrics r h =
 
 -- ---- the font of a good table
 
--- the second and the third of four tests
-middle : (a b c d : Bool) → (a && b && c && d) ≡ true → (b ≡ true) × (c ≡ true)
-middle a b c d e =
+-- the first three of four tests
+tests : (a b c d : Bool) → (a && b && c && d) ≡ true → (a ≡ true) × (b ≡ true) × (c ≡ true)
+tests a b c d e =
     let three = and-eq-true-iff (a && b && c) d .0 e .0 in
     let two = and-eq-true-iff (a && b) c .0 three in
-    (and-eq-true-iff a b .0 (two .0) .1, two .1)
+    let one = and-eq-true-iff a b .0 (two .0) in
+    (one .0, one .1, two .1)
 
 module _ (t : List ℕ) (good : goodTable t ≡ true) where
-  records : (every goodParameters (parameterRecords t) ≡ true) × (every goodCharacter (characterRecords t) ≡ true)
+  rules : (goodLength t ≡ true) × (every goodParameters (parameterRecords t) ≡ true) × (every goodCharacter (characterRecords t) ≡ true)
   unfolding goodTable
-  records = middle (goodLength t) (every goodParameters (parameterRecords t)) (every goodCharacter (characterRecords t)) (rising (characterRecords t)) good
+  rules = tests (goodLength t) (every goodParameters (parameterRecords t)) (every goodCharacter (characterRecords t)) (rising (characterRecords t)) good
+
+  pub good-header : headerBytes ≤ length t
+  unfolding goodLength
+  good-header =
+      let whole = headerBytes + characterBytes * characterCount t in
+      let same = eqb-true (length t) whole (and-eq-true-iff (eqb (length t) whole) _ .0 (rules .0) .0) in
+      omega arith
 
   pub small-parameter : (size number : ℕ) → fontOf t .parameter size number ≤ greatestWord
   unfolding fontOf every
   small-parameter size number =
       let rows = map parameterWords (parameterRecords t) in
-      let all = every-map goodParameters (every goodWord) parameterWords parameter-words (parameterRecords t) (records .0) in
+      let all = every-map goodParameters (every goodWord) parameterWords parameter-words (parameterRecords t) (rules .1) in
       let row = every-getD (every goodWord) rows size [] refl all in
       leb-true _ _ (every-getD goodWord (getD rows size []) number 0 refl row)
 
   pub small-symbol : (size family code : ℕ) (m : Metrics) → fontOf t .symbol size family code ≡ some m → SmallMetrics m
   unfolding fontOf
-  small-symbol size family code m found = lookup-every SmallMetrics small-metrics size family code (characterRecords t) m (records .1) found
+  small-symbol size family code m found = lookup-every SmallMetrics small-metrics size family code (characterRecords t) m (rules .2) found
 
   -- what `parameters` answers
   pub small-entry : {p : List (List ℕ)} → HoldsParameters p t → (size number : ℕ) → getD (getD p size []) number 0 ≤ greatestWord
