@@ -15,6 +15,7 @@ use lib.Seq.{length-take-le}
 use borrow.Author.Needs.{needs}
 use borrow.Rule.Slice.PartMut.{putMid, same-len-mid}
 use Rattle.font.specs.Font.{fontOf}
+use Rattle.font.specs.FontLaws.{good-header}
 use Rattle.formula.specs.declared.Opening.the-variants.{NoItem, Fields, Kern}
 use Rattle.formula.specs.declared.FieldHead.the-variants.{Empty, Symbol, Sublist}
 use Rattle.formula.specs.Tree.{openingBytes}
@@ -786,7 +787,9 @@ turn-stop t c =
     (c .step2 .given .1) (z .ensures)
 
 set-list-parameters-requires : (t : ℕ) → set-list-lts.Need-parameters-requires (set-list-claims t) (set-list-at t) set-list.Post set-list-Inv-loop set-list-μ-loop
-set-list-parameters-requires t c κs = search needs
+set-list-parameters-requires t c κs =
+    let start = c .before .before .before in
+    good-header (start .args .table .now) (start .pre .1 .good)
 
 set-list-start-requires : (t : ℕ) → set-list-lts.Need-start-requires (set-list-claims t) (set-list-at t) set-list.Post set-list-Inv-loop set-list-μ-loop
 set-list-start-requires t c κs = search needs
