@@ -11,6 +11,7 @@ use crate::limits::has_limits;
 use crate::limits::limited;
 use crate::nucleus::Nucleus;
 use crate::nucleus::atom_nucleus;
+use crate::nucleus::box_nucleus;
 use crate::nucleus::overline;
 use crate::nucleus::underline;
 use crate::parameters::AXIS_HEIGHT;
@@ -25,16 +26,12 @@ use crate::styles::is_display;
 use crate::styles::numerator_style;
 use crate::styles::subscript_style;
 use crate::styles::superscript_style;
-use formula::Class;
 use formula::Kind;
-use formula::Limits;
 ghost use mathlib.Core.Path.{_≡_};
-ghost use Rattle.rules.specs.Boxes as boxes;
-ghost use Rattle.rules.specs.Scripts.{scripted as scriptedAs};
 ghost use Rattle.rules.specs.Arrange.{firstStyle, secondStyle, thirdStyle, isGiven};
 ghost use Rattle.rules.specs.Arrange as rule;
 ghost use Rattle.rules.specs.Values.{parametersIn, shapeAs, scriptAs, nucleusAs, arrangedAs};
-ghost use Rattle.rules.specs.Bounds.{ModerateShape, ModerateScript, ModerateNucleus, Bounded};
+ghost use Rattle.rules.specs.Bounds.{ModerateShape, ModerateNucleus, Bounded};
 
 // The style of the first field of an item in a style.
 pub fn first_style(kind: Kind, style: Style) -> Style
@@ -87,54 +84,53 @@ pub fn arrange(p: Parameters, style: Style, kind: Kind, x: Shape, y: Shape, z: S
     requires { ⌜ ModerateShape x × ModerateShape y × ModerateShape z ⌝ }
     ensures { λ r. ⌜ (arrangedAs r ≡ rule.arrange (parametersIn p) style kind (shapeAs x) (shapeAs y) (shapeAs z)) × Bounded r ⌝ }
 {
-    match kind {
-        Kind::Atom(class, limits) => atom(p, style, class, limits, x, given(y), given(z)),
-        Kind::Over => lined(
-            p,
-            style,
-            overline(rule_thickness(p, style), size_of(x)),
-            y,
-            z,
-        ),
-        Kind::Under => lined(
-            p,
-            style,
-            underline(rule_thickness(p, style), size_of(x)),
-            y,
-            z,
-        ),
-        Kind::Fraction(bar) => fraction(p, style, bar, size_of(x), size_of(y)),
+    if let Kind::Fraction(bar) = kind {
+        return fraction(p, style, bar, size_of(x), size_of(y));
+    }
+    let superscript = given(y);
+    let subscript = given(z);
+    let limits = sets_limits(style, kind);
+    let n = nucleus_of(p, style, kind, limits, is_given(subscript), x);
+    if limits {
+        limited(p, font_size(style), n, superscript, subscript)
+    } else {
+        scripted(p, style, n, superscript, subscript)
     }
 }
 
-// A nucleus with its line, and its scripts.
-fn lined(p: Parameters, style: Style, n: Nucleus, y: Shape, z: Shape) -> Arranged
-    requires { ⌜ ModerateNucleus n × ModerateShape y × ModerateShape z ⌝ }
-    ensures { λ r. ⌜ (arrangedAs r ≡ scriptedAs (parametersIn p) style (nucleusAs n) (boxes.given (shapeAs y)) (boxes.given (shapeAs z))) × Bounded r ⌝ }
+// Whether the scripts are set as limits.
+fn sets_limits(style: Style, kind: Kind) -> bool
+    ensures { λ r. ⌜ r ≡ rule.setsLimits style kind ⌝ }
 {
-    scripted(p, style, n, given(y), given(z))
+    match kind {
+        Kind::Atom(class, limits) => has_limits(style, class, limits),
+        Kind::Over => false,
+        Kind::Under => false,
+        Kind::Fraction(_) => false,
+    }
 }
 
-fn atom(
+// What the scripts are set to; the tests are whether it has limits set, and has a subscript. A fraction has no scripts:
+// its numerator stands in.
+fn nucleus_of(
     p: Parameters,
     style: Style,
-    class: Class,
-    limits: Limits,
+    kind: Kind,
+    limits: bool,
+    subscript: bool,
     x: Shape,
-    superscript: Script,
-    subscript: Script,
-) -> Arranged
-    requires { ⌜ ModerateShape x × ModerateScript superscript × ModerateScript subscript ⌝ }
-    ensures { λ r. ⌜ (arrangedAs r ≡ rule.atom (parametersIn p) style class limits (shapeAs x) (scriptAs superscript) (scriptAs subscript)) × Bounded r ⌝ }
+) -> Nucleus
+    requires { ⌜ ModerateShape x ⌝ }
+    ensures { λ r. ⌜ (nucleusAs r ≡ rule.nucleusOf (parametersIn p) style kind limits subscript (shapeAs x)) × ModerateNucleus r ⌝ }
 {
-    let size = font_size(style);
-    let axis = parameter(p, size, AXIS_HEIGHT);
-    let limits_set = has_limits(style, class, limits);
-    let n = atom_nucleus(axis, is_op(class), limits_set, is_given(subscript), x);
-    if limits_set {
-        limited(p, size, n, superscript, subscript)
-    } else {
-        scripted(p, style, n, superscript, subscript)
+    match kind {
+        Kind::Atom(class, _) => {
+            let axis = parameter(p, font_size(style), AXIS_HEIGHT);
+            atom_nucleus(axis, is_op(class), limits, subscript, x)
+        }
+        Kind::Over => overline(rule_thickness(p, style), size_of(x)),
+        Kind::Under => underline(rule_thickness(p, style), size_of(x)),
+        Kind::Fraction(_) => box_nucleus(size_of(x)),
     }
 }
 

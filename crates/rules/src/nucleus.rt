@@ -47,7 +47,7 @@ pub fn atom_nucleus(axis: Sp, operator: bool, limits: bool, subscript: bool, x: 
     }
 }
 
-fn box_nucleus(size: Size) -> Nucleus
+pub fn box_nucleus(size: Size) -> Nucleus
     requires { ⌜ Moderate size ⌝ }
     ensures { λ r. ⌜ (nucleusAs r ≡ boxNucleus (sizeAs size)) × ModerateNucleus r ⌝ }
 {
