@@ -1,3 +1,4 @@
 -- What the proofs of several functions use. Assumes nothing.
 mod Stores
 mod Moves
+mod HullCases

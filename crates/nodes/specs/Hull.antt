@@ -3,14 +3,13 @@
 -- Assumes nothing.
 use mathlib.Core.Bool.{Bool, true, _&&_}
 use mathlib.Core.List.{List, [], _∷_}
-use Prim.Native.Nat.{ℕ}
+use Prim.Native.Nat.{ℕ, zero, suc}
 use lib.IntN.{ℤ, _+ℤ_}
 use Rattle.scaled.specs.Length.{maxℤ, minℤ}
 use Rattle.scaled.specs.Signed.{Within}
 use Rattle.nodes.specs.Nodes.{Node, glyph, rule}
 use Rattle.nodes.specs.Bounds.{within}
 use Rattle.nodes.specs.declared.hull.Hull as code
-use Rattle.nodes.specs.declared.hull.Hull.the-variants.{Empty, Around}
 
 pub data Hull : Type 0 where
   none : Hull
@@ -39,8 +38,7 @@ hullFits (around a b c d) = within a && within b && within c && within d
 
 -- the hull that the code's value stands for
 abbrev pub hullAs : code.Hull → Hull
-hullAs Empty = none
-hullAs (Around e) = around (e .left .0) (e .right .0) (e .bottom .0) (e .top .0)
+hullAs h = elim (h .any) [ zero ↦ none | suc n ↦ around (h .left .0) (h .right .0) (h .bottom .0) (h .top .0) ]
 
 -- every end is within k
 abbrev pub HullWithin : ℕ → Hull → Type 0

@@ -1,19 +1,17 @@
-// How far nodes reach: the least and the greatest x and y of some nodes. What each function gives is defined in specs/Hull.antt.
+// The hulls of runs of nodes. What each function gives is defined in specs/Hull.antt.
 ghost use mathlib.Core.Path.{_≡_};
 ghost use Rattle.scaled.specs.Made.{reach};
 ghost use Rattle.scaled.specs.Signed.{Within};
 ghost use Rattle.nodes.specs.Bounds.{within};
-ghost use Rattle.nodes.specs.Hull.{around, joined, movedHull, hullFits, hullAs, HullWithin};
+ghost use Rattle.nodes.specs.Hull.{none, around, joined, movedHull, hullFits, hullAs, HullWithin};
 use scaled::Sp;
 
 const GREATEST_LENGTH: i64 = 1_073_741_823;
 
-pub enum Hull {
-    Empty,
-    Around(Extents),
-}
-
-pub struct Extents {
+// How far some nodes reach: the least and the greatest x and y. `any` is 1 where there is a node, and 0 where there is none and
+// the lengths mean nothing; it is a number and no bool so that the record has no gap that would be copied with it.
+pub struct Hull {
+    pub any: usize,
     pub left: Sp,
     pub right: Sp,
     pub bottom: Sp,
@@ -21,33 +19,48 @@ pub struct Extents {
 }
 
 impl Hull {
+    // The hull of no node.
+    pub fn empty() -> Hull
+        ensures { λ r. ⌜ hullAs r ≡ none ⌝ }
+    {
+        Hull {
+            any: 0,
+            left: Sp(0),
+            right: Sp(0),
+            bottom: Sp(0),
+            top: Sp(0),
+        }
+    }
+
     // The hull of a node at (x, y).
     pub fn point(x: Sp, y: Sp) -> Hull
         ensures { λ r. ⌜ hullAs r ≡ around (x .0) (x .0) (y .0) (y .0) ⌝ }
     {
-        Hull::Around(Extents {
+        Hull {
+            any: 1,
             left: x,
             right: x,
             bottom: y,
             top: y,
-        })
+        }
     }
 
     // The hull of two runs of nodes.
     pub fn joined(self, o: Hull) -> Hull
         ensures { λ r. ⌜ hullAs r ≡ joined (hullAs self) (hullAs o) ⌝ }
     {
-        match self {
-            Hull::Empty => o,
-            Hull::Around(a) => match o {
-                Hull::Empty => self,
-                Hull::Around(b) => Hull::Around(Extents {
-                    left: a.left.min(b.left),
-                    right: a.right.max(b.right),
-                    bottom: a.bottom.min(b.bottom),
-                    top: a.top.max(b.top),
-                }),
-            },
+        if self.any == 0 {
+            return o;
+        }
+        if o.any == 0 {
+            return self;
+        }
+        Hull {
+            any: 1,
+            left: self.left.min(o.left),
+            right: self.right.max(o.right),
+            bottom: self.bottom.min(o.bottom),
+            top: self.top.max(o.top),
         }
     }
 
@@ -56,14 +69,15 @@ impl Hull {
         requires { ⌜ HullWithin reach (hullAs self) × Within reach (dx .0) × Within reach (dy .0) ⌝ }
         ensures { λ r. ⌜ hullAs r ≡ movedHull (dx .0) (dy .0) (hullAs self) ⌝ }
     {
-        match self {
-            Hull::Empty => Hull::Empty,
-            Hull::Around(e) => Hull::Around(Extents {
-                left: e.left.plus(dx),
-                right: e.right.plus(dx),
-                bottom: e.bottom.plus(dy),
-                top: e.top.plus(dy),
-            }),
+        if self.any == 0 {
+            return self;
+        }
+        Hull {
+            any: 1,
+            left: self.left.plus(dx),
+            right: self.right.plus(dx),
+            bottom: self.bottom.plus(dy),
+            top: self.top.plus(dy),
         }
     }
 
@@ -71,10 +85,10 @@ impl Hull {
     pub fn fits(self) -> bool
         ensures { λ r. ⌜ r ≡ hullFits (hullAs self) ⌝ }
     {
-        match self {
-            Hull::Empty => true,
-            Hull::Around(e) => within(e.left) & within(e.right) & within(e.bottom) & within(e.top),
+        if self.any == 0 {
+            return true;
         }
+        within(self.left) & within(self.right) & within(self.bottom) & within(self.top)
     }
 }
 

@@ -1,21 +1,21 @@
--- `Hull::joined` meets its contract: it takes the cases of `joined`.
+-- `Hull::joined` meets its contract: it takes the cases of `joined`, each told by `any` (`HullCases`).
 -- Assumes nothing.
 use borrow.Author.Needs.{needs}
 use Rattle.nodes.specs.Hull.{joined}
+use Rattle.nodes.proofs.HullCases.{as-none, as-around}
 use Rattle.nodes.proofs.hull.Hull.joined.Statement.{statement}
 use Rattle.nodes.proofs.hull.Hull.joined.Tie as tie
 
-enum-told : tie.Need-enum-told
-enum-told c = search needs
+returns : tie.Need-returns
+unfolding joined
+returns c = rw (as-none (c .before .before .args .self) (c .if1 .taken))
 
-enum-known-self : tie.Need-enum-known-self
-enum-known-self c = search needs
-
-enum-told-2 : tie.Need-enum-told-2
-enum-told-2 c = search needs
-
-enum-known-o : tie.Need-enum-known-o
-enum-known-o c = search needs
+returns-2 : tie.Need-returns-2
+unfolding joined
+returns-2 c =
+    let past-self = c .before .before in
+    let a = past-self .before .before .args in
+    rw (as-around (a .self) (past-self .if1 .left), as-none (a .o) (c .if2 .taken))
 
 min-requires : tie.Need-min-requires
 min-requires c κs = search needs
@@ -29,35 +29,19 @@ min-requires-2 c κs = search needs
 max-requires-2 : tie.Need-max-requires-2
 max-requires-2 c κs = search needs
 
-returns : tie.Need-returns
-unfolding joined
-returns c = rw (c .enum-told .given .1)
-
-returns-2 : tie.Need-returns-2
-unfolding joined
-returns-2 c = rw (c .before .before .before .self .given .1, c .enum-told2 .given .1)
-
 returns-3 : tie.Need-returns-3
 unfolding joined
 returns-3 c =
-    let o = c .before .before .before .before .before in
-    let self = o .before .before .before in
+    let past-o = c .before .before .before .before in
+    let past-self = past-o .before .before in
+    let a = past-self .before .before .args in
+    let self = as-around (a .self) (past-self .if1 .left) in
+    let o = as-around (a .o) (past-o .if2 .left) in
     let left = c .before .before .before .min .ensures .is in
     let right = c .before .before .max .ensures .is in
-    rw (self .self .given .1, o .o .given .1, left, right, c .before .min2 .ensures .is, c .max2 .ensures .is)
+    rw (self, o, left, right, c .before .min2 .ensures .is, c .max2 .ensures .is)
 
 pub joined-spec : {M : Type 1} → statement M
 joined-spec =
     tie.close
-    (tie.spec
-    enum-told
-    enum-known-self
-    enum-told-2
-    enum-known-o
-    min-requires
-    max-requires
-    min-requires-2
-    max-requires-2
-    returns
-    returns-2
-    returns-3)
+    (tie.spec returns returns-2 min-requires max-requires min-requires-2 max-requires-2 returns-3)
