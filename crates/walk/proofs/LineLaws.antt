@@ -24,11 +24,11 @@ use Rattle.rules.specs.Boxes.{Size, box, zeroSize}
 use Rattle.rules.specs.Values.{sizeAs}
 use Rattle.rules.specs.Bounds.{words, itemWords}
 use Rattle.nodes.specs.declared.hull.Hull.{Hull}
-use Rattle.nodes.specs.declared.hull.Hull.the-variants.{Empty}
+use Rattle.nodes.specs.declared.hull.Hull.{Hull}
 use Rattle.nodes.specs.Nodes.{moved}
 use Rattle.nodes.specs.NodeLaws.{length-moved}
 use Rattle.nodes.specs.Bounds.{within}
-use Rattle.nodes.specs.Hull.{joined, hull, hullAs, hullFits}
+use Rattle.nodes.specs.Hull.{none, joined, hull, hullAs, hullFits}
 use Rattle.nodes.specs.HullLaws.{hull-append, within-true, fits-within, join-within, within-more}
 use Rattle.walk.specs.declared.lines.Line as lines
 use Rattle.walk.specs.declared.lines.Item as item
@@ -40,10 +40,10 @@ use Rattle.walk.specs.Walked.{longest, stride, nodeReach, LineWithin, St
 zero-within : (k : ℕ) (z : ℤ) → z ≡ pos 0 → Within k z
 zero-within k z e = rw e (omega arith)
 
-pub start-line : (z : CodeSize) → sizeAs z ≡ zeroSize →
-    StartLine (record { bytes = 0; left = End; size = z; count = 0; hull = Empty; large = false })
+pub start-line : (z : CodeSize) (h : Hull) → sizeAs z ≡ zeroSize → hullAs h ≡ none →
+    StartLine (record { bytes = 0; left = End; size = z; count = 0; hull = h; large = false })
 unfolding hull
-start-line z e =
+start-line z h e none-is =
     record {
       bytes-is = refl;
       not-large = refl;
@@ -54,9 +54,9 @@ start-line z e =
             height = zero-within _ _ (ap (λ (s : Size). s .height) e);
             depth = zero-within _ _ (ap (λ (s : Size). s .depth) e);
             count = omega arith;
-            hull = tt;
+            hull = rw none-is tt;
           };
-      is = record { left-is = refl; size-is = e; count-is = refl; hull-is = refl };
+      is = record { left-is = refl; size-is = e; count-is = refl; hull-is = none-is };
     }
 
 -- ---- a kern
@@ -196,10 +196,10 @@ module _ (l : lines.Line) where
         is = λ q L i. record { shape-is = ap box (i .size-is); count-is = i .count-is; hull-is = i .hull-is };
       }
 
-  pub list-large : fits ≡ false → ListPart l (record { shape = Nothing; count = 0; hull = Empty; large = true })
-  list-large e =
+  pub list-large : (h : Hull) → fits ≡ false → hullAs h ≡ none → ListPart l (record { shape = Nothing; count = 0; hull = h; large = true })
+  list-large h e none-is =
       record {
         large-is = ap not (sym e);
-        small = record { shape = tt; count = omega arith; hull = tt };
+        small = record { shape = tt; count = omega arith; hull = rw none-is tt };
         is = λ q L i. let never : _≡_ {A = ℕ} 0 1 = cc in absurd (omega arith);
       }

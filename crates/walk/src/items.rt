@@ -147,7 +147,7 @@ fn ruled(rule: Ruling, x: Sp, buf: &mut [u8]) -> Run
     match rule {
         Ruling::Unruled => Run {
             count: 0,
-            hull: Hull::Empty,
+            hull: Hull::empty(),
             large: false,
         },
         Ruling::Ruled(r) => {

@@ -39,7 +39,7 @@ pub fn start() -> Line
         left: Neighbour::End,
         size: zero_size(),
         count: 0,
-        hull: Hull::Empty,
+        hull: Hull::empty(),
         large: false,
     }
 }
@@ -150,7 +150,7 @@ pub fn list_part(line: Line) -> Part
         Part {
             shape: Shape::Nothing,
             count: 0,
-            hull: Hull::Empty,
+            hull: Hull::empty(),
             large: true,
         }
     }

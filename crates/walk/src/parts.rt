@@ -32,7 +32,7 @@ pub fn empty_part() -> Part
     Part {
         shape: Shape::Nothing,
         count: 0,
-        hull: Hull::Empty,
+        hull: Hull::empty(),
         large: false,
     }
 }

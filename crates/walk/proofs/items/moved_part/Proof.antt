@@ -17,7 +17,7 @@ move-nodes-requires c κs = search needs
 
 moved-requires : tie.Need-moved-requires
 moved-requires c κs =
-    let start = c .before .before .before .before .before .before .before .before in
+    let start = c .before .before .before .before .before .before .before .before .before in
     (within-more greatestLength reach (hullAs (start .args .part .hull)) (omega arith) (start .pre .hull), omega arith, omega arith)
 
 same-length : tie.Need-same-length

@@ -26,6 +26,9 @@ rule-at x r dx e = rw (zero-place (r .place .up .0), other-way (r .place .across
 enum-told : tie.Need-enum-told
 enum-told c = search needs
 
+empty-requires : tie.Need-empty-requires
+empty-requires c κs = search needs
+
 enum-known-rule : tie.Need-enum-known-rule
 enum-known-rule c = search needs
 
@@ -44,8 +47,8 @@ point-requires c κs = search needs
 returns : tie.Need-returns
 unfolding moved ruleNodes hull
 returns c =
-    rw (c .enum-told .given .1)
-    (record { not-large = refl; is = record { count-is = refl; hull-is = refl }; drawn = drawn-none _ })
+    rw (c .before .enum-told .given .1)
+    (record { not-large = refl; is = record { count-is = refl; hull-is = c .empty .ensures }; drawn = drawn-none _ })
 
 same-length : tie.Need-same-length
 same-length c = search needs
@@ -71,6 +74,7 @@ ruled-spec =
     tie.close
     (tie.spec
     enum-told
+    empty-requires
     enum-known-rule
     plus-requires
     put-rule-requires

@@ -21,17 +21,19 @@ joined-requires c κs = search needs
 
 returns : tie.Need-returns
 returns c =
-    let start = c .before .before .before .before .before in
+    let sized = c .before .before .before .before in
+    let start = sized .before .before .before in
     let a = start .args in
     let large : a .line .large ≡ (a .line .large || a .item .large) = rw (c .if1 .taken) in
-    extended-line (a .line) (a .x .0) (a .item) (start .pre) (a .class) _ _ _ (c .before .before .beside .ensures) (c .before .joined .ensures) large
+    extended-line (a .line) (a .x .0) (a .item) (start .pre) (a .class) _ _ _ (sized .beside .ensures) (c .before .joined .ensures) large
 
 returns-2 : tie.Need-returns-2
 returns-2 c =
-    let start = c .before .before .before .before .before in
+    let sized = c .before .before .before .before in
+    let start = sized .before .before .before in
     let a = start .args in
     let large : a .item .large ≡ (a .line .large || a .item .large) = rw (c .if1 .left) in
-    extended-line (a .line) (a .x .0) (a .item) (start .pre) (a .class) _ _ _ (c .before .before .beside .ensures) (c .before .joined .ensures) large
+    extended-line (a .line) (a .x .0) (a .item) (start .pre) (a .class) _ _ _ (sized .beside .ensures) (c .before .joined .ensures) large
 
 pub extended-spec : {M : Type 1} → statement M
 extended-spec =

@@ -13,7 +13,7 @@ add-t7 c = search needs
 
 returns : tie.Need-returns
 returns c =
-    let start = c .before .before .before .before in
+    let start = c .before .before .before .before .before in
     kerned-line (start .args .line) (start .args .n .0) _ (start .pre) (rw (c .before .plus .ensures .is))
 
 pub kerned-spec : {M : Type 1} → statement M

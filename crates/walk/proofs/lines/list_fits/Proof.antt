@@ -13,7 +13,7 @@ fits-requires : tie.Need-fits-requires
 fits-requires c κs = search needs
 
 returns-2 : tie.Need-returns-2
-returns-2 c = rw (c .before .before .if1 .left, sym (c .before .fits2 .ensures) ∙ not-true _ (c .if2 .taken))
+returns-2 c = rw (c .before .before .before .if1 .left, sym (c .before .fits2 .ensures) ∙ not-true _ (c .if2 .taken))
 
 size-fits-requires : tie.Need-size-fits-requires
 size-fits-requires c κs = search needs
@@ -21,7 +21,7 @@ size-fits-requires c κs = search needs
 returns-3 : tie.Need-returns-3
 returns-3 c =
     let reaches = sym (c .before .before .fits2 .ensures) ∙ not-false _ (c .before .if2 .left) in
-    rw (c .before .before .before .if1 .left, reaches) (c .size-fits .ensures)
+    rw (c .before .before .before .before .if1 .left, reaches) (c .size-fits .ensures)
 
 pub list-fits-spec : {M : Type 1} → statement M
 list-fits-spec = tie.close (tie.spec returns fits-requires returns-2 size-fits-requires returns-3)

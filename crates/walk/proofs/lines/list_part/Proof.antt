@@ -11,11 +11,18 @@ list-fits-requires c κs = search needs
 
 returns : tie.Need-returns
 returns c =
-    let start = c .before .before .before in
-    list-whole (start .args .line) (start .pre) (sym (c .before .before .list-fits .ensures) ∙ c .before .if1 .taken)
+    let branch = c .before .before in
+    let start = branch .before .before in
+    list-whole (start .args .line) (start .pre) (sym (branch .before .list-fits .ensures) ∙ branch .if1 .taken)
+
+empty-requires : tie.Need-empty-requires
+empty-requires c κs = search needs
 
 returns-2 : tie.Need-returns-2
-returns-2 c = list-large (c .before .before .args .line) (sym (c .before .list-fits .ensures) ∙ c .if1 .left)
+returns-2 c =
+    let branch = c .before in
+    let start = branch .before .before in
+    list-large (start .args .line) _ (sym (branch .before .list-fits .ensures) ∙ branch .if1 .left) (c .empty .ensures)
 
 pub list-part-spec : {M : Type 1} → statement M
-list-part-spec = tie.close (tie.spec list-fits-requires returns returns-2)
+list-part-spec = tie.close (tie.spec list-fits-requires empty-requires returns returns-2)
