@@ -2,7 +2,6 @@
 // The nodes of an item stand in the order first field, rule, second field, third field. Each field is set into the front of
 // the rest of the buffer, and once all three are there their nodes are moved, from the last to the first.
 
-ghost use mathlib.Core.Path.{_≡_};
 ghost use Prim.Native.Nat.{_<_};
 ghost use lib.ListN.{length};
 ghost use Rattle.font.specs.Font.{fontOf};
