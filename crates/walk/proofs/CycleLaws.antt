@@ -63,7 +63,7 @@ use Rattle.walk.specs.declared.lists.LastSet.the-variants as last
 use Rattle.walk.specs.Setting.{nextClass, ruleNodes}
 use Rattle.walk.specs.Missing.{missingItems}
 use Rattle.walk.specs.Fitting.{fieldFits, itemFits}
-use Rattle.walk.specs.Walked.{longest, ListGiven, ItemsGiven, LineGiven, FieldGiven, ItemGiven, LineWithin, PartWithin, EmptyPart, ListDone, FieldWhole, FieldDone, HeadDone, ArrangedLast, SettingWithin, MoveGiven, FrontGiven, ItemGoes, itemFrom, MovedPart, BothRuns, FrontRun, FinishedLine, LastWhole, secondLast, ThirdDone, SecondDone, BehindDone, StepDone, ItemDone, rightOf, ruleCount}
+use Rattle.walk.specs.Walked.{longest, ListGiven, ItemsGiven, LineGiven, FieldGiven, ItemGiven, LineWithin, PartWithin, EmptyPart, ListDone, FieldWhole, FieldDone, HeadDone, ArrangedLast, ChangesAlike, SettingWithin, MoveGiven, FrontGiven, ItemGoes, itemFrom, MovedPart, BothRuns, FrontRun, FinishedLine, LastWhole, secondLast, ThirdDone, SecondDone, BehindDone, StepDone, ItemDone, rightOf, ruleCount}
 use Rattle.walk.proofs.ItemLaws.{front-reach, both-within}
 use Rattle.walk.proofs.MissingIn.{missing-in}
 use Rattle.walk.proofs.WalkLaws.{field-empty, third-whole, second-whole, behind-whole}
@@ -263,9 +263,14 @@ x-within : (l : lines.Line) (g : items.Setting) → LineWithin l → SettingWith
 x-within l g line small = let b = line .bytes in let w = small .x in omega arith
 
 pub move-given : (l : lines.Line) (g : items.Setting) (F : Font) (st : Style) (f : Field) (n : ℕ) (c : parts.Part) → LineWithin l →
-    SettingWithin (l .bytes) g → FieldWhole F st false f n c → MoveGiven c (g .x .0) (g .arranged .second)
-move-given l g F st f n c line small w =
-    record { hull = w .small .hull; x-small = x-within l g line small; place = small .arranged .second }
+    SettingWithin (l .bytes) g → FieldWhole F st false f n c → n ≤ longest → MoveGiven c (g .x .0) (g .arranged .second)
+move-given l g F st f n c line small w few =
+    record {
+      hull = w .small .hull;
+      count = omega (arith, w .small .count);
+      x-small = x-within l g line small;
+      place = small .arranged .second;
+    }
 
 pub front-given : (l : lines.Line) (g : items.Setting) (F : Font) (st : Style) (e : Bool) (f : Field) (n : ℕ) (c : parts.Part) → LineWithin l →
     SettingWithin (l .bytes) g → FieldWhole F st e f n c → n ≤ longest → FrontGiven c g
@@ -350,21 +355,29 @@ list-at F st s n b z z′ b′ e is d =
     (subst (λ (z : ListSet). ListDone F st (treeOf (take (3 + n - 3) (drop 3 s))) (length (take (3 + n - 3) (drop 3 s))) b z b′) is d))
 
 -- the class of the atom that follows an item
-pub right-is : (s : List ℕ) (k k′ : ℕ) (right : Neighbour) → right ≡ nextClass none (treeOf (take (length s - k) (drop k s))) → k ≡ k′ →
-    right ≡ rightOf s k′
-right-is s k k′ right e f = e ∙ ap (λ (r : List ℕ). nextClass none (treeOf r)) (tail-part s k ∙ ap (λ (n : ℕ). drop n s) f)
+pub right-is : (s : List ℕ) (k k′ : ℕ) (kind : Kind) (right : Neighbour) →
+    ChangesAlike kind right (nextClass none (treeOf (take (length s - k) (drop k s)))) → k ≡ k′ → ChangesAlike kind right (rightOf s k′)
+right-is s k k′ kind right e f =
+    subst (λ (r : List ℕ). ChangesAlike kind right (nextClass none (treeOf r))) (tail-part s k ∙ ap (λ (n : ℕ). drop n s) f) e
 
 -- ---- the last fields
 
 module _ (F : Font) (st : Style) (s : List ℕ) (kind : Kind) (l : lines.Line) (x : Shape) where
+  -- the right neighbour is seen by the change of the class alone
+  changed-alike : (P : Parameters) (right right′ : Neighbour) (y : Shape) (c : parts.Part) (set : LastSet) (b b′ : List ℕ) →
+      ChangesAlike kind right right′ → ArrangedLast P st kind right l x y c set b b′ → ArrangedLast P st kind right′ l x y c set b b′
+  changed-alike P right right′ y c (last.Whole g r) b b′ e (is, small, m) =
+      (record { class-is = is .class-is ∙ e _; x-is = is .x-is; arranged-is = is .arranged-is }, small, m)
+  changed-alike P right right′ y c (last.Missing place) b b′ e a = a
+
   pub third-set : (P : Parameters) (right : Neighbour) (y : Shape) (c : parts.Part) (set : LastSet) (b b₁ b′ : List ℕ) →
       FieldDone F (thirdStyle st) false (thirdIn s (hasThird kind) (third s kind)) (end s kind - third s kind) b (field.Whole c) b₁ →
-      P ≡ F .parameter → right ≡ rightOf s (end s kind) → ArrangedLast P st kind right l x y c set b₁ b′ →
+      P ≡ F .parameter → ChangesAlike kind right (rightOf s (end s kind)) → ArrangedLast P st kind right l x y c set b₁ b′ →
       ThirdDone F st s kind l x y b set b′
   third-set P right y c set b b₁ b′ d e f a =
       third-whole F st kind (rightOf s (end s kind)) l s x y (end s kind - third s kind) c set b b₁ b′ d
       (subst (λ (P : Parameters). ArrangedLast P st kind (rightOf s (end s kind)) l x y c set b₁ b′) e
-      (subst (λ (n : Neighbour). ArrangedLast P st kind n l x y c set b₁ b′) f a))
+      (changed-alike P right (rightOf s (end s kind)) y c set b₁ b′ f a))
 
   -- what the third field's setter says where it is matched
   pub third-at : (y : Shape) (j : ℕ) (z z′ : LastSet) (b₁ e : List ℕ) → z ≡ z′ →

@@ -230,6 +230,10 @@ pub record SettingWithin (bytes : ℕ) (c : items.Setting) : Type 0 where
   pub x : Within (stride bytes + words 1) (c .x .0)
   pub arranged : Bounded (c .arranged)
 
+-- two neighbours to the right that change an item's class alike, whatever stands to the left
+abbrev pub ChangesAlike : Kind → Neighbour → Neighbour → Type 0
+ChangesAlike kind right right′ = (left : Neighbour) → changedClass left (classOf kind) right ≡ changedClass left (classOf kind) right′
+
 -- how many rules an item draws: a line always, a bar where it has a thickness
 abbrev pub barCount : Bool → ℕ
 barCount true = 1
@@ -252,6 +256,7 @@ frontNodes x A ns = placedNodes x (A .first) ns ++ moved x (pos 0) (ruleNodes (A
 -- what may be moved to a place: a part within the greatest length, an x and a place within bounds
 pub record MoveGiven (c : parts.Part) (x : ℤ) (p : CodePlace) : Type 0 where
   pub hull : HullWithin greatestLength (hullAs (c .hull))
+  pub count : c .count ≤ longest
   pub x-small : Within (2 ^ 54) x
   pub place : PlaceWithin itemWords p
 

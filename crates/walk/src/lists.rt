@@ -26,8 +26,8 @@ use crate::parts::Part;
 use crate::parts::empty_part;
 use crate::parts::symbol_part;
 use crate::places::Places;
-use crate::places::next_class;
 use crate::places::places_of;
+use crate::places::right_of;
 use formula::FieldHead;
 use formula::Kind;
 use formula::Opening;
@@ -206,7 +206,7 @@ fn set_third(
 {
     let third = at.third;
     let end = at.end;
-    let right = next_class(&s[end..]);
+    let right = right_of(kind, &s[end..]);
     let z = third_field(table, style, kind, s, third, buf);
     match z {
         FieldSet::Whole(c) => arranged_last(p, style, kind, right, line, x, y, c, buf),

@@ -7,7 +7,8 @@ ghost use lib.ListN.{length};
 ghost use Rattle.formula.specs.Places as tree;
 ghost use Rattle.rules.specs.Values.{neighbourAs};
 ghost use Rattle.walk.specs.Setting.{nextClass};
-ghost use Rattle.walk.specs.Walked.{longest, NoadAt, PlacesAre};
+ghost use Rattle.walk.specs.Walked.{longest, NoadAt, PlacesAre, ChangesAlike};
+use formula::Class;
 use formula::Kind;
 use formula::Opening;
 use formula::heads::behind;
@@ -45,8 +46,20 @@ pub fn places_of(s: &[u8], kind: Kind) -> Places
     }
 }
 
+// The class of the next atom, where it matters: what follows an item changes a Bin alone (rule 6).
+pub fn right_of(kind: Kind, s: &[u8]) -> Neighbour
+    requires { ⌜ tree.Readable (now s) × (length (now s) ≤ longest) ⌝ }
+    ensures { λ r. ⌜ ChangesAlike kind (neighbourAs r) (nextClass none (tree.treeOf (now (s .entry)))) ⌝ }
+{
+    let class = class_of(kind);
+    if let Class::Bin = class {
+        return next_class(s);
+    }
+    Neighbour::End
+}
+
 // The class of the next atom; kerns are passed over.
-pub fn next_class(s: &[u8]) -> Neighbour
+fn next_class(s: &[u8]) -> Neighbour
     requires { ⌜ tree.Readable (now s) × (length (now s) ≤ longest) ⌝ }
     ensures { λ r. ⌜ neighbourAs r ≡ nextClass none (tree.treeOf (now (s .entry))) ⌝ }
 {

@@ -81,8 +81,8 @@ use Rattle.walk.proofs.lines.start.Reads as start-reads
 use Rattle.walk.proofs.lists.arranged_last.Reads as arranged-last-reads
 use Rattle.walk.proofs.parts.empty_part.Reads as empty-part-reads
 use Rattle.walk.proofs.parts.symbol_part.Reads as symbol-part-reads
-use Rattle.walk.proofs.places.next_class.Reads as next-class-reads
 use Rattle.walk.proofs.places.places_of.Reads as places-of-reads
+use Rattle.walk.proofs.places.right_of.Reads as right-of-reads
 use Rattle.walk.proofs.lists.+set_behind+set_field+set_first+set_item+set_list+set_second+set_third+third_field.{
   statement,
 }
@@ -192,7 +192,7 @@ abbrev set-second-claims : ℕ → set-second-lts.Claims
 set-second-claims t = (second-style-reads.Asked, second-style-reads.Learnt, set-field-below t, set-field.Post, room-reads.Asked, room-reads.Learnt, set-third-below t, set-third.Post, moved-part-reads.Asked, moved-part-reads.Learnt, behind-reads.Asked, behind-reads.Learnt)
 
 abbrev set-third-claims : ℕ → set-third-lts.Claims
-set-third-claims t = (next-class-reads.Asked, next-class-reads.Learnt, third-field-below t, third-field.Post, arranged-last-reads.Asked, arranged-last-reads.Learnt)
+set-third-claims t = (right-of-reads.Asked, right-of-reads.Learnt, third-field-below t, third-field.Post, arranged-last-reads.Asked, arranged-last-reads.Learnt)
 
 abbrev third-field-claims : ℕ → third-field-lts.Claims
 third-field-claims t = (has-third-reads.Asked, has-third-reads.Learnt, third-style-reads.Asked, third-style-reads.Learnt, set-field-below t, set-field.Post, empty-part-reads.Asked, empty-part-reads.Learnt)
@@ -238,7 +238,11 @@ set-behind-add-room t c =
     omega (arith, start .pre .1 .3 .small .count, c .before .rule-count .ensures .1)
 
 set-behind-room-requires : (t : ℕ) → set-behind-lts.Need-room-requires (set-behind-claims t) (set-behind-at t) set-behind.Post
-set-behind-room-requires t c κs = search needs
+set-behind-room-requires t c κs =
+    let start = c .before .before .before .before .before in
+    let n = noad-of (start .pre .1 .0) in
+    let short = start .pre .1 .0 .items .list .short in
+    omega (arith, start .pre .1 .3 .small .count, c .before .rule-count .ensures .1)
 
 set-behind-sub-set-second : (t : ℕ) → set-behind-lts.Need-sub-set-second (set-behind-claims t) (set-behind-at t) set-behind.Post
 set-behind-sub-set-second t c = c .room .ensures .0
@@ -800,7 +804,9 @@ set-list-loop-holds t c =
     along-start _ _ _ _ _ (start .pre .1 .readable) (c .start .ensures)
 
 set-list-room-requires : (t : ℕ) → set-list-lts.Need-room-requires (set-list-claims t) (set-list-at t) set-list.Post set-list-Inv-loop set-list-μ-loop
-set-list-room-requires t c κs = search needs
+set-list-room-requires t c κs =
+    let small = c .before .before .loop .inv .small in
+    omega (arith, small .count, small .bytes)
 
 set-list-sub-set-item : (t : ℕ) → set-list-lts.Need-sub-set-item (set-list-claims t) (set-list-at t) set-list.Post set-list-Inv-loop set-list-μ-loop
 set-list-sub-set-item t c =
@@ -976,7 +982,12 @@ set-second-enum-known-y : (t : ℕ) → set-second-lts.Need-enum-known-y (set-se
 set-second-enum-known-y t c = search needs
 
 set-second-room-requires : (t : ℕ) → set-second-lts.Need-room-requires (set-second-claims t) (set-second-at t) set-second.Post
-set-second-room-requires t c κs = search needs
+set-second-room-requires t c κs =
+    let at-y = c .before in
+    let start = at-y .before .before .before .before .before .before .before .before .before .before .before in
+    let n = noad-of (start .pre .1 .0) in
+    let short = start .pre .1 .0 .items .list .short in
+    omega (arith, second-field t at-y .0 .small .count)
 
 set-second-sub-set-third : (t : ℕ) → set-second-lts.Need-sub-set-third (set-second-claims t) (set-second-at t) set-second.Post
 set-second-sub-set-third t c = c .room .ensures .0
@@ -1016,9 +1027,12 @@ set-second-moved-part-requires t c κs =
     let at-y = at-last .before .before .before .before .before .before .before .before in
     let start = at-y .before .before .before .before .before .before .before .before .before .before .before in
     let a = start .args in
-    move-given (a .line) (at-last .last .given .0 .0) (fontOf (a .table .now)) _ _ _ (at-y .y .given .0 .0)
-    (start .pre .1 .2 .small) (second-last t at-last .0 .setting-small)
-    (second-field t at-y .0)
+    let p = start .pre .1 in
+    let n = noad-of (p .0) in
+    let short = p .0 .items .list .short in
+    move-given (a .line) (at-last .last .given .0 .0) (fontOf (a .table .now)) _ _
+    (headBytes (headAt (a .s .now) (second (a .s .now) (a .kind)))) (at-y .y .given .0 .0) (p .2 .small)
+    (second-last t at-last .0 .setting-small) (second-field t at-y .0) (omega arith)
 
 set-second-behind-requires : (t : ℕ) → set-second-lts.Need-behind-requires (set-second-claims t) (set-second-at t) set-second.Post
 set-second-behind-requires t c κs =
@@ -1134,29 +1148,29 @@ third-lacks : (t : ℕ) (c : set-third-lts.After-z2 (set-third-claims t) (set-th
     (c .before .before .before .before .third-field .last .1 .1 .1 .1 .1 .0)
 third-lacks t c = rw (c .z2 .given .1) at (c .before .before .before .before .third-field .ensures)
 
-set-third-sub-next-class : (t : ℕ) → set-third-lts.Need-sub-next-class (set-third-claims t) (set-third-at t) set-third.Post
-set-third-sub-next-class t c =
+set-third-sub-right-of : (t : ℕ) → set-third-lts.Need-sub-right-of (set-third-claims t) (set-third-at t) set-third.Post
+set-third-sub-right-of t c =
     let start = c .before .before .before in
     let n = noad-of (start .pre .1 .0) in
     let is = start .pre .1 .1 .end-is in
     omega arith
 
-set-third-part-next-class-start : (t : ℕ) → set-third-lts.Need-part-next-class-start (set-third-claims t) (set-third-at t) set-third.Post
-set-third-part-next-class-start t c =
+set-third-part-right-of-start : (t : ℕ) → set-third-lts.Need-part-right-of-start (set-third-claims t) (set-third-at t) set-third.Post
+set-third-part-right-of-start t c =
     let start = c .before .before .before in
     let n = noad-of (start .pre .1 .0) in
     let is = start .pre .1 .1 .end-is in
     omega arith
 
-set-third-part-next-class-end : (t : ℕ) → set-third-lts.Need-part-next-class-end (set-third-claims t) (set-third-at t) set-third.Post
-set-third-part-next-class-end t c =
+set-third-part-right-of-end : (t : ℕ) → set-third-lts.Need-part-right-of-end (set-third-claims t) (set-third-at t) set-third.Post
+set-third-part-right-of-end t c =
     let start = c .before .before .before in
     let n = noad-of (start .pre .1 .0) in
     let is = start .pre .1 .1 .end-is in
     omega arith
 
-set-third-next-class-requires : (t : ℕ) → set-third-lts.Need-next-class-requires (set-third-claims t) (set-third-at t) set-third.Post
-set-third-next-class-requires t c κs =
+set-third-right-of-requires : (t : ℕ) → set-third-lts.Need-right-of-requires (set-third-claims t) (set-third-at t) set-third.Post
+set-third-right-of-requires t c κs =
     let start = c .before .before .before .before in
     let p = start .pre .1 in
     tail-given _ _ _ (p .1 .end-is) (noad-of (p .0) .rest) (p .0 .items .list .short)
@@ -1204,16 +1218,16 @@ set-third-returns : (t : ℕ) → set-third-lts.Need-returns (set-third-claims t
 set-third-returns t c =
     let at-z = c .before .before .before .before .before in
     let at-third-field = at-z .before .before .before .before in
-    let at-next-class = at-third-field .before .before in
-    let start = at-next-class .before .before .before .before .before in
+    let at-right-of = at-third-field .before .before in
+    let start = at-right-of .before .before .before .before .before in
     let a = start .args in
     let p = start .pre .1 in
     let s = a .s .now in
     third-set (fontOf (a .table .now)) (a .style) s (a .kind) (a .line) (a .x) (parametersIn (a .p))
-    (neighbourAs (at-next-class .next-class .result)) (a .y) (at-z .z .given .0 .0) (c .before .before .arranged-last .result)
+    (neighbourAs (at-right-of .right-of .result)) (a .y) (at-z .z .given .0 .0) (c .before .before .arranged-last .result)
     (a .buf .now) (at-third-field .third-field .last .1 .1 .1 .1 .1 .0)
     (c .before .before .arranged-last .last .1 .1 .1 .1 .1 .1 .1 .1 .0) (third-done t at-z) (p .0 .items .parameters-are)
-    (right-is s (a .at .end) (end s (a .kind)) _ (at-next-class .next-class .ensures) (p .1 .end-is))
+    (right-is s (a .at .end) (end s (a .kind)) (a .kind) _ (at-right-of .right-of .ensures) (p .1 .end-is))
     (c .before .before .arranged-last .ensures)
 
 set-third-same-length-2 : (t : ℕ) → set-third-lts.Need-same-length-2 (set-third-claims t) (set-third-at t) set-third.Post
@@ -1441,10 +1455,10 @@ pub +set-behind+set-field+set-first+set-item+set-list+set-second+set-third+third
     (set-second-same-length-3 t)
     (set-second-returns-3 t))
     (λ t. set-third-lts.spec (set-third-claims t) (set-third-at t) set-third.Post
-    (set-third-sub-next-class t)
-    (set-third-part-next-class-start t)
-    (set-third-part-next-class-end t)
-    (set-third-next-class-requires t)
+    (set-third-sub-right-of t)
+    (set-third-part-right-of-start t)
+    (set-third-part-right-of-end t)
+    (set-third-right-of-requires t)
     (set-third-third-field-requires t)
     (set-third-enum-known-z t)
     (set-third-arranged-last-requires t)
