@@ -8,17 +8,13 @@
 -- `BufferLaws`. Assumes nothing.
 use mathlib.Core.Bool.{cond}
 use mathlib.Core.List.{List, _∷_, _++_}
-use Prim.Native.Nat.{ℕ, zero, suc, _+_, _*_, _^_}
+use Prim.Native.Nat.{ℕ, zero, suc, _+_, _*_}
 use lib.Dec.{leb}
 use lib.IntN.{ℤ}
 use lib.ListN.{length, take, drop, getD}
 use lib.Seq.{sets}
 use Rattle.scaled.specs.Words.{littleEndian, wordOf, fourBytes}
 use Rattle.nodes.specs.Nodes.{Node, bytesInNode, signedBytes, nodeBytes}
-
--- no more nodes are counted, so that the number of their bytes is one that the code has
-abbrev pub mostNodes : ℕ
-mostNodes = 2 ^ 32
 
 -- bytes of a node over the first bytes, if there are as many
 unfoldable pub written : List ℕ → List ℕ → List ℕ

@@ -7,7 +7,7 @@ ghost use mathlib.Core.List.{_++_};
 ghost use Prim.Native.Nat.{_+_, _*_, _≤_};
 ghost use lib.ListN.{length, take, drop};
 ghost use Rattle.nodes.specs.Nodes.{glyph, rule, bytesInNode};
-ghost use Rattle.nodes.specs.Buffer.{mostNodes, written, put, nodeOf, movedHead, movedFront};
+ghost use Rattle.nodes.specs.Buffer.{written, put, nodeOf, movedHead, movedFront};
 use scaled::Sp;
 
 pub const BYTES_IN_NODE: usize = 18;
@@ -51,19 +51,20 @@ fn put_node(buf: &mut [u8], m: u8, n: u8, x: Sp, y: Sp, p: u32, q: u32)
 
 // Where the node number `count` starts in a buffer of len bytes: len if it has no room up to there.
 pub fn room(count: usize, len: usize) -> usize
-    requires { ⌜ count ≤ mostNodes ⌝ }
     ensures { λ r. ⌜ (r ≤ len) × ((bytesInNode * count ≤ len → r ≡ bytesInNode * count)) ⌝ }
 {
-    let end = BYTES_IN_NODE * count;
-    if end <= len { end } else { len }
+    if count <= len / BYTES_IN_NODE {
+        BYTES_IN_NODE * count
+    } else {
+        len
+    }
 }
 
 // Moves the first `count` nodes right by dx and up by dy, if they are all there.
 pub fn move_nodes(buf: &mut [u8], count: usize, dx: Sp, dy: Sp)
-    requires { ⌜ count ≤ mostNodes ⌝ }
     ensures { λ _. ⌜ now (buf .exit) ≡ movedFront (dx .0) (dy .0) count (now (buf .entry)) ⌝ }
 {
-    if buf.len() < BYTES_IN_NODE * count {
+    if buf.len() / BYTES_IN_NODE < count {
         return;
     }
     let right = words::word_of(dx);

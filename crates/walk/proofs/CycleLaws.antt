@@ -263,14 +263,9 @@ x-within : (l : lines.Line) (g : items.Setting) → LineWithin l → SettingWith
 x-within l g line small = let b = line .bytes in let w = small .x in omega arith
 
 pub move-given : (l : lines.Line) (g : items.Setting) (F : Font) (st : Style) (f : Field) (n : ℕ) (c : parts.Part) → LineWithin l →
-    SettingWithin (l .bytes) g → FieldWhole F st false f n c → n ≤ longest → MoveGiven c (g .x .0) (g .arranged .second)
-move-given l g F st f n c line small w few =
-    record {
-      hull = w .small .hull;
-      count = omega (arith, w .small .count);
-      x-small = x-within l g line small;
-      place = small .arranged .second;
-    }
+    SettingWithin (l .bytes) g → FieldWhole F st false f n c → MoveGiven c (g .x .0) (g .arranged .second)
+move-given l g F st f n c line small w =
+    record { hull = w .small .hull; x-small = x-within l g line small; place = small .arranged .second }
 
 pub front-given : (l : lines.Line) (g : items.Setting) (F : Font) (st : Style) (e : Bool) (f : Field) (n : ℕ) (c : parts.Part) → LineWithin l →
     SettingWithin (l .bytes) g → FieldWhole F st e f n c → n ≤ longest → FrontGiven c g

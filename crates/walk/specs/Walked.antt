@@ -256,7 +256,6 @@ frontNodes x A ns = placedNodes x (A .first) ns ++ moved x (pos 0) (ruleNodes (A
 -- what may be moved to a place: a part within the greatest length, an x and a place within bounds
 pub record MoveGiven (c : parts.Part) (x : ℤ) (p : CodePlace) : Type 0 where
   pub hull : HullWithin greatestLength (hullAs (c .hull))
-  pub count : c .count ≤ longest
   pub x-small : Within (2 ^ 54) x
   pub place : PlaceWithin itemWords p
 

@@ -15,9 +15,6 @@ Inv-loop buf₀ count right up i₀ buf i = Moving right up count buf₀ buf i
 abbrev μ-loop : tie.MeasureT-loop
 μ-loop buf₀ count right up i₀ buf i = count - i
 
-mul-if1 : tie.Need-mul-if1 Inv-loop μ-loop
-mul-if1 c = omega arith
-
 returns : tie.Need-returns Inv-loop μ-loop
 returns c = sym (moved-full _ _ _ (c .before .before .args .buf .now) (omega arith))
 
@@ -68,7 +65,6 @@ move-nodes-spec =
     (tie.spec
     Inv-loop
     μ-loop
-    mul-if1
     returns
     word-of-requires
     word-of-requires-2

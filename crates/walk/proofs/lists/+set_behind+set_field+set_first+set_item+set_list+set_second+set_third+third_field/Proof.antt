@@ -238,11 +238,7 @@ set-behind-add-room t c =
     omega (arith, start .pre .1 .3 .small .count, c .before .rule-count .ensures .1)
 
 set-behind-room-requires : (t : ℕ) → set-behind-lts.Need-room-requires (set-behind-claims t) (set-behind-at t) set-behind.Post
-set-behind-room-requires t c κs =
-    let start = c .before .before .before .before .before in
-    let n = noad-of (start .pre .1 .0) in
-    let short = start .pre .1 .0 .items .list .short in
-    omega (arith, start .pre .1 .3 .small .count, c .before .rule-count .ensures .1)
+set-behind-room-requires t c κs = search needs
 
 set-behind-sub-set-second : (t : ℕ) → set-behind-lts.Need-sub-set-second (set-behind-claims t) (set-behind-at t) set-behind.Post
 set-behind-sub-set-second t c = c .room .ensures .0
@@ -804,9 +800,7 @@ set-list-loop-holds t c =
     along-start _ _ _ _ _ (start .pre .1 .readable) (c .start .ensures)
 
 set-list-room-requires : (t : ℕ) → set-list-lts.Need-room-requires (set-list-claims t) (set-list-at t) set-list.Post set-list-Inv-loop set-list-μ-loop
-set-list-room-requires t c κs =
-    let small = c .before .before .loop .inv .small in
-    omega (arith, small .count, small .bytes)
+set-list-room-requires t c κs = search needs
 
 set-list-sub-set-item : (t : ℕ) → set-list-lts.Need-sub-set-item (set-list-claims t) (set-list-at t) set-list.Post set-list-Inv-loop set-list-μ-loop
 set-list-sub-set-item t c =
@@ -982,12 +976,7 @@ set-second-enum-known-y : (t : ℕ) → set-second-lts.Need-enum-known-y (set-se
 set-second-enum-known-y t c = search needs
 
 set-second-room-requires : (t : ℕ) → set-second-lts.Need-room-requires (set-second-claims t) (set-second-at t) set-second.Post
-set-second-room-requires t c κs =
-    let at-y = c .before in
-    let start = at-y .before .before .before .before .before .before .before .before .before .before .before in
-    let n = noad-of (start .pre .1 .0) in
-    let short = start .pre .1 .0 .items .list .short in
-    omega (arith, second-field t at-y .0 .small .count)
+set-second-room-requires t c κs = search needs
 
 set-second-sub-set-third : (t : ℕ) → set-second-lts.Need-sub-set-third (set-second-claims t) (set-second-at t) set-second.Post
 set-second-sub-set-third t c = c .room .ensures .0
@@ -1027,12 +1016,9 @@ set-second-moved-part-requires t c κs =
     let at-y = at-last .before .before .before .before .before .before .before .before in
     let start = at-y .before .before .before .before .before .before .before .before .before .before .before in
     let a = start .args in
-    let p = start .pre .1 in
-    let n = noad-of (p .0) in
-    let short = p .0 .items .list .short in
-    move-given (a .line) (at-last .last .given .0 .0) (fontOf (a .table .now)) _ _
-    (headBytes (headAt (a .s .now) (second (a .s .now) (a .kind)))) (at-y .y .given .0 .0) (p .2 .small)
-    (second-last t at-last .0 .setting-small) (second-field t at-y .0) (omega arith)
+    move-given (a .line) (at-last .last .given .0 .0) (fontOf (a .table .now)) _ _ _ (at-y .y .given .0 .0)
+    (start .pre .1 .2 .small) (second-last t at-last .0 .setting-small)
+    (second-field t at-y .0)
 
 set-second-behind-requires : (t : ℕ) → set-second-lts.Need-behind-requires (set-second-claims t) (set-second-at t) set-second.Post
 set-second-behind-requires t c κs =
