@@ -7,6 +7,7 @@ mod guarded;
 mod input;
 mod report;
 mod shrink;
+mod watch;
 
 use calls::disagreement;
 use input::Input;
@@ -29,6 +30,12 @@ fn main() -> ExitCode {
         eprintln!("usage: differential [INPUTS [SEED]]");
         return ExitCode::FAILURE;
     };
+    if !watch::is_watched() {
+        return watch::run(seed).unwrap_or_else(|error| {
+            eprintln!("cannot start the comparison: {error}");
+            ExitCode::FAILURE
+        });
+    }
     println!("{inputs} inputs from seed {seed}");
     let tally = Tally::of(inputs, seed);
     tally.print();
@@ -48,6 +55,7 @@ impl Tally {
         let mut tally = Tally::default();
         let mut random = Random::new(seed);
         for done in 1..=inputs {
+            watch::announce(done);
             tally.compare(Input::drawn(&mut random));
             if done * 10 / inputs > (done - 1) * 10 / inputs {
                 println!("{:3}%  {done} inputs", done * 10 / inputs * 10);

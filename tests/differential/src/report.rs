@@ -1,4 +1,5 @@
-//! Prints a disagreement, so that it can be run again from what is printed.
+//! Prints an input, and a disagreement on it, so that it can be run again from
+//! what is printed.
 
 use crate::calls::{disagreement, Outcome};
 use crate::input::Input;
@@ -8,12 +9,16 @@ pub fn print(input: &Input) {
         return;
     };
     println!("disagreement in {:?}: {}", found.call, found.fault);
+    print_input(input);
+    print_outcome("library", &found.library);
+    print_outcome("reference", &found.reference);
+}
+
+pub fn print_input(input: &Input) {
     println!("  style     {}", input.style);
     println!("  table     {}", hex(&input.table));
     println!("  formula   {}", hex(&input.formula));
     println!("  room      {}", input.room);
-    print_outcome("library", &found.library);
-    print_outcome("reference", &found.reference);
 }
 
 fn print_outcome(name: &str, outcome: &Outcome) {
