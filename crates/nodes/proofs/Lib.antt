@@ -2,3 +2,4 @@
 mod Stores
 mod Moves
 mod HullCases
+mod Unmoved

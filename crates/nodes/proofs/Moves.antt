@@ -1,5 +1,5 @@
 -- Moving nodes in a buffer.
---     head-behind        a node that is moved behind a prefix leaves the prefix alone
+--     added-behind, head-behind     a word that is added to, or a node that is moved, behind a prefix leaves the prefix alone
 --     Moving             the invariant of the loop over nodes, with its start, its turn and its end
 -- Assumes nothing.
 use mathlib.Core.Path.{_≡_, refl, sym, _∙_}
@@ -21,7 +21,7 @@ sets-behind (x ∷ vs) a k b =
     rw (← add-suc a k)
     (sets-behind vs a (suc k) (set b (a + k) x) ∙ rw (take-set-le a b (a + k) x (le-add-right a k), drop-set-add a b k x))
 
-added-behind : (a k w : ℕ) (b : List ℕ) → addedAt (a + k) w b ≡ take a b ++ addedAt k w (drop a b)
+pub added-behind : (a k w : ℕ) (b : List ℕ) → addedAt (a + k) w b ≡ take a b ++ addedAt k w (drop a b)
 unfolding addedAt
 added-behind a k w b =
     let vs = fourBytes (littleEndian 4 (drop k (drop a b)) + w) in

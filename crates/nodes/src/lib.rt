@@ -69,6 +69,9 @@ pub fn move_nodes(buf: &mut [u8], count: usize, dx: Sp, dy: Sp)
     }
     let right = words::word_of(dx);
     let up = words::word_of(dy);
+    if (right == 0) & (up == 0) {
+        return;
+    }
     for i in 0..count {
         move_node(buf, BYTES_IN_NODE * i, right, up);
     }

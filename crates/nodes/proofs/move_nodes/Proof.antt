@@ -1,11 +1,16 @@
--- `move_nodes` meets its contract: the loop's invariant is `Moving`, and a turn moves the next node.
+-- `move_nodes` meets its contract: the loop's invariant is `Moving`, and a turn moves the next node. A move by nothing leaves the
+-- bytes as they are (`unmoved-bytes`).
 -- Assumes nothing.
 use mathlib.Core.Path.{sym, _∙_}
+use mathlib.Core.Bool.{and-eq-true-iff}
 use Prim.Native.Nat.{_-_}
 use native.Mathlib.Omega.{arith}
+use lib.Dec.{eqb}
 use borrow.Author.Needs.{needs}
+use borrow.Author.Tests.{eqb-true}
 use Rattle.nodes.specs.BufferLaws.{moved-room, moved-full}
 use Rattle.nodes.proofs.Moves.{Moving, started, turn, finished}
+use Rattle.nodes.proofs.Unmoved.{unmoved-bytes}
 use Rattle.nodes.proofs.move_nodes.Statement.{statement}
 use Rattle.nodes.proofs.move_nodes.Tie as tie
 
@@ -23,6 +28,19 @@ word-of-requires c κs = search needs
 
 word-of-requires-2 : tie.Need-word-of-requires-2 Inv-loop μ-loop
 word-of-requires-2 c κs = search needs
+
+returns-2 : tie.Need-returns-2 Inv-loop μ-loop
+returns-2 c =
+    let up = c .before in
+    let right = up .before in
+    let known = right .before .before in
+    let args = known .before .args in
+    let both = and-eq-true-iff (eqb (right .word-of .result) 0) (eqb (up .word-of2 .result) 0) .0 (c .if2 .taken) in
+    let no-right = sym (right .word-of .ensures) ∙ eqb-true _ _ (both .0) in
+    let no-up = sym (up .word-of2 .ensures) ∙ eqb-true _ _ (both .1) in
+    sym
+    (moved-room (args .dx .0) (args .dy .0) (args .count) (args .buf .now) (omega arith)
+    ∙ rw (no-right, no-up) (unmoved-bytes (args .count) (args .buf .now) (omega arith) (known .slice-known .given)))
 
 loop-holds : tie.Need-loop-holds Inv-loop μ-loop
 loop-holds c = started _ _ _ _
@@ -49,10 +67,10 @@ loop-again c =
 same-length : tie.Need-same-length Inv-loop μ-loop
 same-length c = c .before .loop .inv .same
 
-returns-2 : tie.Need-returns-2 Inv-loop μ-loop
-returns-2 c =
+returns-3 : tie.Need-returns-3 Inv-loop μ-loop
+returns-3 c =
     let loop = c .before in
-    let up = loop .before in
+    let up = loop .before .before in
     let right = up .before in
     let args = right .before .before .before .args in
     sym (finished (loop .loop .inv) (c .loop-test .left))
@@ -68,6 +86,7 @@ move-nodes-spec =
     returns
     word-of-requires
     word-of-requires-2
+    returns-2
     loop-holds
     mul-move-node
     move-node-requires
@@ -75,4 +94,4 @@ move-nodes-spec =
     loop-less
     loop-again
     same-length
-    returns-2)
+    returns-3)
