@@ -9,7 +9,7 @@ use mathlib.Core.Path.{_≡_, refl, sym, subst, ap, _∙_}
 use mathlib.Core.Bool.{Bool, true, false, _&&_, _||_, and-eq-true-iff}
 use mathlib.Core.List.{List, [], _∷_, map}
 use mathlib.Core.Option.{Option, some}
-use Prim.Native.Nat.{ℕ, zero, suc, _+_, _*_, _≤_, _<_}
+use Prim.Native.Nat.{ℕ, zero, suc, _+_, _*_, _≤_}
 use native.Mathlib.Omega.{arith}
 use borrow.Author.Tests.{leb-true, eqb-true}
 use lib.Dec.{leb, eqb}
@@ -17,7 +17,7 @@ use lib.ListN.{length, getD}
 use Rattle.font.specs.declared.Metrics as declared
 use Rattle.font.specs.declared.Found.{Found}
 use Rattle.font.specs.declared.Found.the-variants.{Symbol}
-use Rattle.font.specs.Table.{headerBytes, characterBytes, characterCount, greatestWord, greatestSize, greatestFamily, sizeCount, parameterCount, sizeByte, familyByte, flagByte, successorByte, every, rising, marked, goodLength, goodWord, goodParameters, goodCharacter, goodTable, parameterRecords, parameterWords, characterRecords, metricWords}
+use Rattle.font.specs.Table.{headerBytes, characterBytes, characterCount, greatestWord, greatestSize, greatestFamily, sizeByte, familyByte, flagByte, successorByte, every, rising, marked, goodLength, goodWord, goodParameters, goodCharacter, goodTable, parameterRecords, parameterWords, characterRecords, metricWords}
 use Rattle.font.specs.Font.{Metrics, fontOf, lookup, isOf, metricsOf}
 use Rattle.font.specs.Answers.{foundAs, metricsAs, HoldsParameters}
 

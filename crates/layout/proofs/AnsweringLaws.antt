@@ -8,15 +8,14 @@
 use mathlib.Core.Path.{_≡_, refl, sym, ap, ap₂, subst, _∙_}
 use mathlib.Core.Bool.{Bool, true, false, not, _&&_, and-true, and-false}
 use mathlib.Core.List.{List}
-use mathlib.Core.Option.{Option, none, some}
-use Prim.Native.Nat.{ℕ, _≤_}
+use mathlib.Core.Option.{none, some}
+use Prim.Native.Nat.{ℕ}
 use native.Mathlib.Omega.{arith}
-use lib.ListN.{length}
 use Rattle.font.specs.Table.{goodTable}
 use Rattle.font.specs.Font.{Font, fontOf}
 use Rattle.formula.specs.Tree.{Items}
 use Rattle.formula.specs.Reading.{Read, good, fault, readFormula}
-use Rattle.formula.specs.Places.{Readable, treeOf}
+use Rattle.formula.specs.Places.{treeOf}
 use Rattle.rules.specs.declared.Style.{Style}
 use Rattle.rules.specs.Styles.{styleOf}
 use Rattle.rules.specs.Values.{sizeAs}
@@ -24,16 +23,16 @@ use Rattle.nodes.specs.Bounds.{nodesFit}
 use Rattle.nodes.specs.Hull.{hull, hullAs, hullFits}
 use Rattle.nodes.specs.HullLaws.{fits-hull}
 use Rattle.walk.specs.declared.lines.Line as lines
-use Rattle.walk.specs.Setting.{Box, setItems, setList, start}
+use Rattle.walk.specs.Setting.{setItems, setList, start}
 use Rattle.walk.specs.Missing.{missingItems}
 use Rattle.walk.specs.Fitting.{sizeFits, boxFits, itemsFit, listFits}
-use Rattle.walk.specs.Walked.{LineIs, ListWhole, ListGiven}
+use Rattle.walk.specs.Walked.{ListWhole, ListGiven}
 use Rattle.layout.specs.declared.Answer.{Answer}
-use Rattle.layout.specs.declared.Answer.the-variants.{NoStyle, BadTable, Missing, TooLarge}
+use Rattle.layout.specs.declared.Answer.the-variants.{NoStyle, BadTable, Missing}
 use Rattle.layout.specs.declared.Finding.{Finding}
 use Rattle.layout.specs.declared.Finding.the-variants.{Boxed, Refused}
-use Rattle.layout.specs.Answers.{Result, boxed, refused, ifFits, ifPresent, ifRead, ifGood, ifStyle, resultOf}
-use Rattle.layout.specs.Answering.{answeredAs, FaultIs, Reads, Boxes, Refuses, Examined, ReadDone, readResult, lineFits, Weighed}
+use Rattle.layout.specs.Answers.{ifFits, ifPresent, ifRead, ifGood, ifStyle, resultOf}
+use Rattle.layout.specs.Answering.{answeredAs, FaultIs, Reads, Boxes, Examined, ReadDone, lineFits, Weighed}
 use Rattle.layout.proofs.FaultNumbers.{Faulted, readFormula-faults}
 
 -- ---- tests

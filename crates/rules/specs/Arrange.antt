@@ -13,7 +13,7 @@ use Rattle.rules.specs.declared.Style.{Style}
 use Rattle.rules.specs.Styles.{fontSize, isDisplay, superscriptStyle, subscriptStyle, numeratorStyle, denominatorStyle, crampedStyle}
 use Rattle.rules.specs.Parameters.{Parameters, axisHeight, ruleThickness}
 use Rattle.rules.specs.Boxes.{Size, Shape, Arranged, sizeOf, given}
-use Rattle.rules.specs.Nucleus.{Nucleus, boxNucleus, atomNucleus, overline, underline}
+use Rattle.rules.specs.Nucleus.{Nucleus, atomNucleus, overline, underline}
 use Rattle.rules.specs.Limits.{hasLimits, limited}
 use Rattle.rules.specs.Scripts.{scripted}
 use Rattle.rules.specs.Fractions.{fraction}
@@ -60,19 +60,3 @@ arrange p s (Atom class limits) x y z = atom p s class limits x (given y) (given
 arrange p s Over x y z = scripted p s (overline (ruleThickness p (fontSize s)) (sizeOf x)) (given y) (given z)
 arrange p s Under x y z = scripted p s (underline (ruleThickness p (fontSize s)) (sizeOf x)) (given y) (given z)
 arrange p s (Fraction bar) x y z = fraction p s bar (sizeOf x) (sizeOf y)
-
--- ---- the same in another order: for all kinds but fractions, first the nucleus, and then its scripts
-
--- whether the scripts are set as limits
-abbrev pub setsLimits : Style → Kind → Bool
-setsLimits s (Atom class limits) = hasLimits (s .level) class limits
-setsLimits s Over = false
-setsLimits s Under = false
-setsLimits s (Fraction bar) = false
-
--- the tests are whether it has limits set, and has a subscript; a fraction has no scripts, and its numerator stands in
-unfoldable pub nucleusOf : Parameters → Style → Kind → Bool → Bool → Shape → Nucleus
-nucleusOf p s (Atom class limits) limitsSet subscript x = atomNucleus (axisHeight p (fontSize s)) (isOp class) limitsSet subscript x
-nucleusOf p s Over limitsSet subscript x = overline (ruleThickness p (fontSize s)) (sizeOf x)
-nucleusOf p s Under limitsSet subscript x = underline (ruleThickness p (fontSize s)) (sizeOf x)
-nucleusOf p s (Fraction bar) limitsSet subscript x = boxNucleus (sizeOf x)

@@ -9,5 +9,6 @@ pub mod Limits
 pub mod Scripts
 pub mod Fractions
 pub mod Arrange
+pub mod NucleusFirst
 pub mod Values
 pub mod Bounds

@@ -30,6 +30,7 @@ use formula::Kind;
 ghost use mathlib.Core.Path.{_≡_};
 ghost use Rattle.rules.specs.Arrange.{firstStyle, secondStyle, thirdStyle, isGiven};
 ghost use Rattle.rules.specs.Arrange as rule;
+ghost use Rattle.rules.specs.NucleusFirst.{setsLimits, nucleusOf};
 ghost use Rattle.rules.specs.Values.{parametersIn, shapeAs, scriptAs, nucleusAs, arrangedAs};
 ghost use Rattle.rules.specs.Bounds.{ModerateShape, ModerateNucleus, Bounded};
 
@@ -100,7 +101,7 @@ pub fn arrange(p: Parameters, style: Style, kind: Kind, x: Shape, y: Shape, z: S
 
 // Whether the scripts are set as limits.
 fn sets_limits(style: Style, kind: Kind) -> bool
-    ensures { λ r. ⌜ r ≡ rule.setsLimits style kind ⌝ }
+    ensures { λ r. ⌜ r ≡ setsLimits style kind ⌝ }
 {
     match kind {
         Kind::Atom(class, limits) => has_limits(style, class, limits),
@@ -121,7 +122,7 @@ fn nucleus_of(
     x: Shape,
 ) -> Nucleus
     requires { ⌜ ModerateShape x ⌝ }
-    ensures { λ r. ⌜ (nucleusAs r ≡ rule.nucleusOf (parametersIn p) style kind limits subscript (shapeAs x)) × ModerateNucleus r ⌝ }
+    ensures { λ r. ⌜ (nucleusAs r ≡ nucleusOf (parametersIn p) style kind limits subscript (shapeAs x)) × ModerateNucleus r ⌝ }
 {
     match kind {
         Kind::Atom(class, _) => {

@@ -13,7 +13,6 @@ use Prim.Native.Nat.{ℕ, _+_, _*_, _≤_}
 use native.Mathlib.Omega.{arith}
 use lib.IntN.{ℤ, pos, _+ℤ_}
 use lib.ListN.{length, take, drop, length-append, length-take}
-use Rattle.scaled.specs.Linear.{#, _⊕_, eq-by}
 use Rattle.font.specs.Font.{Font}
 use Rattle.formula.specs.declared.Kind.{Kind}
 use Rattle.formula.specs.Tree.{Items, Field, kern, empty, list, openingBytes, kernBytes, fieldBytes}
@@ -48,7 +47,7 @@ use Rattle.walk.specs.Setting.{start, setItems, setItem, setField, setLi
 use Rattle.walk.specs.Missing.{_orElse_, missingField, missingItem}
 use Rattle.walk.specs.MissingLaws.{later, missing-items-at, missing-field-at}
 use Rattle.walk.specs.Fitting.{sizeFits, boxFits, fieldFits, itemFits, itemsFit}
-use Rattle.walk.specs.Walked.{FieldWhole, FieldDone, EmptyPart, ListPart, ListWhole, ListDone, LineIs, LineWithin, RunIs, MovedPart, BothRuns, SettingIs, LastDone, ArrangedLast, thirdLast, secondLast, partX, partY, partZ, fieldY, fieldZ, placedNodes, frontNodes, FrontRun, FinishedLine, itemFrom, ItemIsBox, KernedLine, StepDone, BehindDone, rightOf, ruleCount}
+use Rattle.walk.specs.Walked.{FieldWhole, FieldDone, EmptyPart, ListPart, ListWhole, ListDone, LineIs, RunIs, MovedPart, BothRuns, SettingIs, LastDone, ArrangedLast, thirdLast, secondLast, partX, partY, partZ, fieldY, fieldZ, placedNodes, frontNodes, FrontRun, FinishedLine, itemFrom, ItemIsBox, KernedLine, StepDone, BehindDone, rightOf, ruleCount}
 use Rattle.walk.proofs.ItemLaws.{rule-nodes, placed-is, moved-run, moved-drawn, both-is, both-within, run-reach, item-nodes-at, drawn-around, drawn-take, drawn-kept}
 
 -- ---- tests

@@ -7,11 +7,11 @@
 -- Assumes nothing.
 use mathlib.Core.Path.{_≡_}
 use mathlib.Core.Bool.{Bool, true, false, not, _&&_, _||_}
-use mathlib.Core.List.{List, [], _∷_, _++_}
+use mathlib.Core.List.{List, [], _++_}
 use mathlib.Core.Option.{Option, none, some}
 use Prim.Native.Nat.{ℕ, _+_, _-_, _*_, _^_, _≤_}
 use lib.IntN.{ℤ, pos, _+ℤ_}
-use lib.ListN.{length, take, drop}
+use lib.ListN.{length, drop}
 use Rattle.scaled.specs.Length.{maxℤ}
 use Rattle.scaled.specs.Signed.{Within}
 use Rattle.font.specs.Font.{Font, fontOf}
@@ -20,19 +20,17 @@ use Rattle.font.specs.Table.{goodTable}
 use Rattle.formula.specs.declared.Class.{Class}
 use Rattle.formula.specs.declared.Kind.{Kind}
 use Rattle.formula.specs.declared.Kind.the-variants.{Atom, Over, Under, Fraction}
-use Rattle.formula.specs.declared.Bar.the-variants.{Default, Without}
-use Rattle.formula.specs.declared.Opening.{Opening}
 use Rattle.formula.specs.declared.Opening.the-variants.{Fields}
-use Rattle.formula.specs.Tree.{Items, Item, Field, nil, noad, kern, openingBytes, kernBytes}
+use Rattle.formula.specs.Tree.{Items, Item, Field, noad, kern, openingBytes, kernBytes}
 use Rattle.formula.specs.Heads.{openingOf, fieldHead}
-use Rattle.formula.specs.Places.{Readable, treeOf, headBytes, headAt, fieldOf, fieldIn, thirdIn, hasThird, second, third, end, itemSize, itemOf, GoodField, GoodItem}
+use Rattle.formula.specs.Places.{Readable, treeOf, headBytes, headAt, fieldOf, fieldIn, thirdIn, hasThird, second, third, end, itemSize, itemOf, GoodField}
 use Rattle.rules.specs.declared.Style.{Style}
 use Rattle.rules.specs.declared.boxes.Shape.{Shape}
 use Rattle.rules.specs.declared.boxes.Place.{Place as CodePlace}
 use Rattle.rules.specs.declared.boxes.Size.{Size as CodeSize}
 use Rattle.rules.specs.declared.boxes.Line.{Line as Ruling}
 use Rattle.rules.specs.Styles.{fontSize}
-use Rattle.rules.specs.Parameters.{Parameters, ruleThickness}
+use Rattle.rules.specs.Parameters.{Parameters}
 use Rattle.rules.specs.Classes.{Neighbour, classOf, changedClass}
 use Rattle.rules.specs.Spacing.{spaceBefore}
 use Rattle.rules.specs.Boxes.{box, Place, Rule, Arranged}
@@ -40,7 +38,7 @@ use Rattle.rules.specs.Fractions.{hasBar, barThickness}
 use Rattle.rules.specs.Arrange.{arrange, firstStyle, secondStyle, thirdStyle, enlarges}
 use Rattle.rules.specs.Values.{parametersIn, neighbourAs, sizeAs, shapeAs, placeAs, lineAs, arrangedAs}
 use Rattle.rules.specs.Bounds.{words, ModerateShape, PlaceWithin, LineWithin as rulesLineWithin, Bounded, itemWords}
-use Rattle.nodes.specs.Nodes.{Node, bytesInNode, bytesOf, moved}
+use Rattle.nodes.specs.Nodes.{Node, moved}
 use Rattle.nodes.specs.Bounds.{greatestLength}
 use Rattle.nodes.specs.Drawn.{Drawn}
 use Rattle.nodes.specs.Buffer.{movedFront}
@@ -65,7 +63,6 @@ use Rattle.walk.specs.declared.lists.LastSet.the-variants as last
 use Rattle.walk.specs.Setting.{Symbol, Part, emptyPart, Line, Box, kerned, beside, start, movedTo, ruleNodes, itemBox, placed, nextClass, setField, setItem, setItems, setList}
 use Rattle.walk.specs.Missing.{_orElse_, missingField, missingItem, missingItems}
 use Rattle.walk.specs.Fitting.{sizeFits, fieldFits, itemFits, itemsFit}
-use Rattle.walk.specs.MissingLaws.{later}
 
 -- ---- symbols
 

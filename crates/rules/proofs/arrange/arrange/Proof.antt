@@ -18,7 +18,8 @@ use Rattle.rules.specs.Boxes.{Size, Shape, Arranged, given}
 use Rattle.rules.specs.Nucleus.{Nucleus}
 use Rattle.rules.specs.Limits.{limited}
 use Rattle.rules.specs.Scripts.{scripted}
-use Rattle.rules.specs.Arrange.{isGiven, arrange, setsLimits, nucleusOf}
+use Rattle.rules.specs.Arrange.{isGiven, arrange}
+use Rattle.rules.specs.NucleusFirst.{setsLimits, nucleusOf}
 use Rattle.rules.specs.Values.{parametersIn, shapeAs, scriptAs, nucleusAs}
 use Rattle.rules.proofs.arrange.arrange.Statement.{statement}
 use Rattle.rules.proofs.arrange.arrange.Tie as tie

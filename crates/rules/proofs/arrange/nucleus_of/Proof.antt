@@ -3,7 +3,7 @@
 use mathlib.Core.Path.{ap₂, _∙_}
 use borrow.Author.Needs.{needs}
 use Rattle.rules.specs.Nucleus.{overline, underline}
-use Rattle.rules.specs.Arrange.{nucleusOf}
+use Rattle.rules.specs.NucleusFirst.{nucleusOf}
 use Rattle.rules.proofs.arrange.nucleus_of.Statement.{statement}
 use Rattle.rules.proofs.arrange.nucleus_of.Tie as tie
 
