@@ -22,6 +22,7 @@ use Rattle.formula.specs.declared.Class.{Class}
 use Rattle.formula.specs.declared.Opening.the-variants.{NoItem, Kern}
 use Rattle.formula.specs.declared.FieldHead.{FieldHead}
 use Rattle.formula.specs.declared.FieldHead.the-variants.{NoField, Empty, Sublist, CutSublist}
+use Rattle.formula.specs.Tree.{listOpeningBytes}
 use Rattle.formula.specs.Heads.{atomOf, greatestKern, kernWithin, kernOpening, symbolHead, listHead, fieldHead}
 use Rattle.formula.specs.Slices.{tail-part}
 
@@ -63,8 +64,6 @@ pub atom-none : (class : Option Class) → atomOf class none ≡ NoItem
 unfolding atomOf
 atom-none none = refl
 atom-none (some class) = refl
-
--- one number less that n can be
 
 -- in a match on a number: each number that it is not, and the only one left
 pub up : {n k : ℕ} → k ≤ n → (n ≡ k → ⊥) → suc k ≤ n
@@ -125,15 +124,15 @@ module _ (s : List ℕ) (some : 0 < length s) where
   kind-none a b c = ap fieldHead (one s some) ∙ simp (fieldHead, ne-eqb _ _ a, ne-eqb _ _ b, ne-eqb _ _ c)
 
 module _ (s : List ℕ) (n : ℕ) (long : 2 ≤ length s) (is : n ≡ getD s 0 0 + 256 * getD s 1 0) where
-  list-by : (t : Bool) → leb n (length s - 2) ≡ t → listHead s ≡ elim t [ true ↦ Sublist n | false ↦ CutSublist ]
+  list-by : (t : Bool) → leb n (length s - 2) ≡ t → listHead s ≡ elim t [ true ↦ Sublist listOpeningBytes n | false ↦ CutSublist ]
   unfolding listHead littleEndian
   list-by t e =
       let same : n ≡ littleEndian 2 (getD s 0 0 ∷ getD s 1 0 ∷ []) = omega arith in
       let behind : length (drop 2 s) ≡ length s - 2 = length-drop 2 s in
-      let choice : ℕ → FieldHead = λ m. elim t [ true ↦ Sublist m | false ↦ CutSublist ] in
+      let choice : ℕ → FieldHead = λ m. elim t [ true ↦ Sublist listOpeningBytes m | false ↦ CutSublist ] in
       ap listHead (two s long) ∙ simp (listHead, ← same, behind, e) (ap choice (sym same))
 
-  pub list-in : n ≤ length s - 2 → listHead s ≡ Sublist n
+  pub list-in : n ≤ length s - 2 → listHead s ≡ Sublist listOpeningBytes n
   list-in h = list-by true (le-leb n (length s - 2) h)
 
   pub list-cut : length s - 2 < n → listHead s ≡ CutSublist

@@ -13,38 +13,40 @@ use native.Mathlib.Omega.{arith}
 use lib.ListN.{length, take, drop, length-drop}
 use lib.Seq.{drop-drop}
 use Rattle.formula.specs.declared.Kind.{Kind}
-use Rattle.formula.specs.declared.Kind.the-variants.{Atom, Over, Under, Fraction}
+use Rattle.formula.specs.declared.Kind.the-variants.{Scripted, Fraction}
 use Rattle.formula.specs.declared.Opening.{Opening}
 use Rattle.formula.specs.declared.Opening.the-variants.{NoItem, Fields, Kern}
 use Rattle.formula.specs.declared.FieldHead.{FieldHead}
 use Rattle.formula.specs.declared.FieldHead.the-variants.{NoField, Empty, Symbol, Sublist, CutSublist}
+use Rattle.formula.specs.declared.Fault.{Fault}
+use Rattle.formula.specs.declared.Fault.the-variants.{Unreadable, TooDeep}
 use Rattle.formula.specs.declared.Verdict.{Verdict}
-use Rattle.formula.specs.declared.Verdict.the-variants.{Good, Fault}
+use Rattle.formula.specs.declared.Verdict.the-variants.{Good, Faulty}
 use Rattle.formula.specs.declared.Step.{Step}
 use Rattle.formula.specs.declared.Step.the-variants.{Next, Stop}
-use Rattle.formula.specs.Tree.{Item, noad, openingBytes, listOpeningBytes}
+use Rattle.formula.specs.Tree.{Item, noad, openingBytes}
 use Rattle.formula.specs.Heads.{openingOf, fieldHead}
-use Rattle.formula.specs.Reading.{Read, good, fault, Got, got, stopped, _thenAt_, unreadableNumber, tooDeepNumber, listGot, fieldBy, fieldAt, thirdAt, noadAt, openedBy, itemBy, before, restBy, read}
+use Rattle.formula.specs.Reading.{Read, good, fault, Got, got, stopped, _thenAt_, listGot, fieldBy, fieldAt, thirdAt, noadAt, openedBy, itemBy, before, restBy, read}
 use Rattle.formula.specs.Verdicts.{told, stepOf}
 use Rattle.formula.specs.Places.{headBytes, contents, hasThird, headAt, openedBytes}
 use Rattle.formula.specs.Slices.{tail-part, field-part}
-use Rattle.formula.specs.HeadLaws.{head-fits, contents-shorter, opening-fits}
+use Rattle.formula.specs.HeadLaws.{head-fits, list-opening, contents-shorter, opening-fits}
 use Rattle.formula.specs.ReadingLaws.{by-length, read-none, read-some}
 
 -- ---- a list
 
 abbrev pub later : ℕ → Verdict → Verdict
 later k Good = Good
-later k (Fault number place) = Fault number (k + place)
+later k (Faulty why place) = Faulty why (k + place)
 
 abbrev goOn : ℕ → List ℕ → Step → Verdict
 goOn levels s (Next k) = later k (told (read levels (drop k s)))
-goOn levels s (Stop number place) = Fault number place
+goOn levels s (Stop why place) = Faulty why place
 
 told-before : (i : Item) (size : ℕ) (x : Read) → told (before i size x) ≡ later size (told x)
 unfolding told before
 told-before i size (good l) = refl
-told-before i size (fault number place) = refl
+told-before i size (fault why place) = refl
 
 verdict-step : (levels : ℕ) (s : List ℕ) → 0 < length s →
     told (read levels s) ≡ goOn levels s (stepOf (itemBy read levels s))
@@ -53,24 +55,24 @@ verdict-step levels s pos = ap told (read-some levels s pos) ∙ go (itemBy read
   where
     go : (g : Got Item) → told (restBy read levels s g) ≡ goOn levels s (stepOf g)
     go (got i size) = told-before i size (read levels (drop size s))
-    go (stopped number place) = refl
+    go (stopped why place) = refl
 
 -- ---- places lie in the list
 
 abbrev pub Placed : ℕ → Verdict → Type 0
 Placed n Good = Unit {0}
-Placed n (Fault number place) = place ≤ n
+Placed n (Faulty why place) = place ≤ n
 
 -- from lo on, and up to hi
 abbrev pub StepIn : ℕ → ℕ → Step → Type 0
 StepIn lo hi (Next k) = (lo < k) × (k ≤ hi)
-StepIn lo hi (Stop number place) = place ≤ hi
+StepIn lo hi (Stop why place) = place ≤ hi
 
 then-in : {A B : Type 0} (lo hi : ℕ) (g : Got A) (k : A → ℕ → Got B) → StepIn lo hi (stepOf g) →
     ((a : A) (m : ℕ) → lo < m → m ≤ hi → StepIn 0 hi (stepOf (k a m))) → StepIn 0 hi (stepOf (g thenAt k))
 unfolding stepOf
 then-in lo hi (got a m) k h f = f a m (h .0) (h .1)
-then-in lo hi (stopped number place) k h f = h
+then-in lo hi (stopped why place) k h f = h
 
 abbrev AllPlaced : List ℕ → Type 0
 AllPlaced s = (levels : ℕ) → Placed (length s) (told (read levels s))
@@ -80,22 +82,22 @@ module _ (s : List ℕ) (ih : (r : List ℕ) → length r < length s → AllPlac
   unfolding fieldAt fieldBy listGot stepOf told
   field-by-in levels at l = go levels (headAt s at) refl
     where
-      inside : (at n : ℕ) (x : Read) → at + (listOpeningBytes + n) ≤ length s → Placed n (told x) →
-          StepIn at (length s) (stepOf (listGot at n x))
-      inside at n (good l) h p = omega arith
-      inside at n (fault number place) h p = omega arith
+      inside : (at opening n : ℕ) (x : Read) → 0 < opening → at + (opening + n) ≤ length s → Placed n (told x) →
+          StepIn at (length s) (stepOf (listGot at opening n x))
+      inside at opening n (good l) some h p = omega arith
+      inside at opening n (fault why place) some h p = omega arith
 
       go : (levels : ℕ) (h : FieldHead) → headAt s at ≡ h →
           StepIn at (length s) (stepOf (fieldBy read levels at (drop at s) h))
       go levels NoField e = omega arith
       go levels Empty e = omega (arith, length-drop at s, head-fits (drop at s) Empty e)
       go levels (Symbol family code) e = omega (arith, length-drop at s, head-fits (drop at s) (Symbol family code) e)
-      go zero (Sublist n) e = l
-      go (suc levels) (Sublist n) e =
-          let r = contents n (drop at s) in
-          let k = contents-shorter (drop at s) n e in
-          let fits = head-fits (drop at s) (Sublist n) e in
-          inside at n (read levels r) (omega (arith, length-drop at s))
+      go zero (Sublist opening n) e = l
+      go (suc levels) (Sublist opening n) e =
+          let r = contents opening n (drop at s) in
+          let k = contents-shorter (drop at s) opening n e in
+          let fits = head-fits (drop at s) (Sublist opening n) e in
+          inside at opening n (read levels r) (omega (arith, list-opening (drop at s) opening n e)) (omega (arith, length-drop at s))
           (subst (λ (m : ℕ). Placed m (told (read levels r))) (k .0) (ih r (omega (arith, length-drop at s)) levels))
       go zero CutSublist e = l
       go (suc levels) CutSublist e = omega arith
@@ -107,15 +109,13 @@ module _ (s : List ℕ) (ih : (r : List ℕ) → length r < length s → AllPlac
     where
       wide : (x : Step) → StepIn at (length s) x → StepIn 0 (length s) x
       wide (Next k) h = omega arith
-      wide (Stop number place) h = h
+      wide (Stop why place) h = h
 
       field : StepIn 0 (length s) (stepOf (fieldAt read levels s at))
       field = wide (stepOf (fieldAt read levels s at)) (field-by-in levels at l)
 
       go : (kind : Kind) → StepIn 0 (length s) (stepOf (thirdAt read levels s kind at))
-      go (Atom class limits) = field
-      go Over = field
-      go Under = field
+      go (Scripted base) = field
       go (Fraction bar) = (pos, l)
 
   item-by-in : (levels : ℕ) → StepIn 0 (length s) (stepOf (itemBy read levels s))
@@ -144,8 +144,8 @@ module _ (s : List ℕ) (ih : (r : List ℕ) → length r < length s → AllPlac
         where
           on : (k : ℕ) (v : Verdict) → k ≤ length s → Placed (length s - k) v → Placed (length s) (later k v)
           on k Good h p = tt
-          on k (Fault number place) h p = omega arith
-      rest (Stop number place) h = h
+          on k (Faulty why place) h p = omega arith
+      rest (Stop why place) h = h
 
       go : (n : ℕ) → length s ≡ n → Placed (length s) (told (read levels s))
       go zero z = rw (read-none levels s z) tt
@@ -160,8 +160,8 @@ field-in s = field-by-in s (λ r l. placed r)
 pub item-in : (s : List ℕ) (levels : ℕ) → StepIn 0 (length s) (stepOf (itemBy read levels s))
 item-in s = item-by-in s (λ r l. placed r)
 
-pub fault-in : (s : List ℕ) (levels number place : ℕ) → told (read levels s) ≡ Fault number place → place ≤ length s
-fault-in s levels number place e = subst (Placed (length s)) e (placed s levels)
+pub fault-in : (s : List ℕ) (levels : ℕ) (why : Fault) (place : ℕ) → told (read levels s) ≡ Faulty why place → place ≤ length s
+fault-in s levels why place e = subst (Placed (length s)) e (placed s levels)
 
 pub next-in : (s : List ℕ) (levels at m : ℕ) → at ≤ length s → stepOf (fieldAt read levels s at) ≡ Next m → m ≤ length s
 next-in s levels at m l e =
@@ -173,12 +173,12 @@ next-in s levels at m l e =
 -- what n bytes of a list that start at a place of their item say of the field
 abbrev pub inside : ℕ → ℕ → Verdict → Step
 inside start n Good = Next (start + n)
-inside start n (Fault number place) = Stop number (start + place)
+inside start n (Faulty why place) = Stop why (start + place)
 
-told-inside : (at n : ℕ) (x : Read) → stepOf (listGot at n x) ≡ inside (at + listOpeningBytes) n (told x)
+told-inside : (at opening n : ℕ) (x : Read) → stepOf (listGot at opening n x) ≡ inside (at + opening) n (told x)
 unfolding told stepOf listGot
-told-inside at n (good l) = refl
-told-inside at n (fault number place) = refl
+told-inside at opening n (good l) = refl
+told-inside at opening n (fault why place) = refl
 
 module _ (levels at : ℕ) (s : List ℕ) where
   -- the bytes that the code's `&s[at..]` holds
@@ -194,44 +194,44 @@ module _ (levels at : ℕ) (s : List ℕ) where
   pub field-fits : (h : FieldHead) → fieldHead rest ≡ h → at ≤ length s → at + headBytes h ≤ length s
   field-fits h e l = omega (arith, head-fits (drop at s) h (ap fieldHead (sym (tail-part s at)) ∙ e), length-drop at s)
 
-  pub field-deep : (n : ℕ) → fieldHead rest ≡ Sublist n → levels ≡ 0 →
-      stepOf (fieldAt read levels s at) ≡ Stop tooDeepNumber at
+  pub field-deep : (opening n : ℕ) → fieldHead rest ≡ Sublist opening n → levels ≡ 0 →
+      stepOf (fieldAt read levels s at) ≡ Stop TooDeep at
   unfolding fieldBy stepOf
-  field-deep n e z = field-step (Sublist n) e ∙ ap (λ (d : ℕ). stepOf (fieldBy read d at (drop at s) (Sublist n))) z
+  field-deep opening n e z = field-step (Sublist opening n) e ∙ ap (λ (d : ℕ). stepOf (fieldBy read d at (drop at s) (Sublist opening n))) z
 
-  pub cut-deep : fieldHead rest ≡ CutSublist → levels ≡ 0 → stepOf (fieldAt read levels s at) ≡ Stop tooDeepNumber at
+  pub cut-deep : fieldHead rest ≡ CutSublist → levels ≡ 0 → stepOf (fieldAt read levels s at) ≡ Stop TooDeep at
   unfolding fieldBy stepOf
   cut-deep e z = field-step CutSublist e ∙ ap (λ (d : ℕ). stepOf (fieldBy read d at (drop at s) CutSublist)) z
 
-  pub cut-short : fieldHead rest ≡ CutSublist → 0 < levels → stepOf (fieldAt read levels s at) ≡ Stop unreadableNumber 0
+  pub cut-short : fieldHead rest ≡ CutSublist → 0 < levels → stepOf (fieldAt read levels s at) ≡ Stop Unreadable 0
   unfolding fieldBy stepOf
   cut-short e pos = field-step CutSublist e ∙ go levels pos
     where
-      go : (d : ℕ) → 0 < d → stepOf (fieldBy read d at (drop at s) CutSublist) ≡ Stop unreadableNumber 0
+      go : (d : ℕ) → 0 < d → stepOf (fieldBy read d at (drop at s) CutSublist) ≡ Stop Unreadable 0
       go zero pos = absurd (omega arith)
       go (suc d) pos = refl
 
-  pub field-list : (n : ℕ) (v : Verdict) → fieldHead rest ≡ Sublist n → 0 < levels →
-      let start = at + listOpeningBytes in
+  pub field-list : (opening n : ℕ) (v : Verdict) → fieldHead rest ≡ Sublist opening n → 0 < levels →
+      let start = at + opening in
       told (read (levels - 1) (take (start + n - start) (drop start s))) ≡ v →
       stepOf (fieldAt read levels s at) ≡ inside start n v
   unfolding fieldBy stepOf
-  field-list n v e pos h = field-step (Sublist n) e ∙ go levels pos (rw field-part at h)
+  field-list opening n v e pos h = field-step (Sublist opening n) e ∙ go levels pos (rw field-part at h)
     where
-      go : (d : ℕ) → 0 < d → told (read (d - 1) (contents n (drop at s))) ≡ v →
-          stepOf (fieldBy read d at (drop at s) (Sublist n)) ≡ inside (at + listOpeningBytes) n v
+      go : (d : ℕ) → 0 < d → told (read (d - 1) (contents opening n (drop at s))) ≡ v →
+          stepOf (fieldBy read d at (drop at s) (Sublist opening n)) ≡ inside (at + opening) n v
       go zero pos h = absurd (omega arith)
       go (suc d) pos h =
           let e : suc d - 1 ≡ d = omega arith in
-          told-inside at n (read d (contents n (drop at s))) ∙ ap (inside (at + listOpeningBytes) n) (rw e at h)
+          told-inside at opening n (read d (contents opening n (drop at s))) ∙ ap (inside (at + opening) n) (rw e at h)
 
 -- ---- an item, by its fields
 
-then-stop : {A B : Type 0} (g : Got A) (k : A → ℕ → Got B) (number place : ℕ) → stepOf g ≡ Stop number place →
-    stepOf (g thenAt k) ≡ Stop number place
+then-stop : {A B : Type 0} (g : Got A) (k : A → ℕ → Got B) (why : Fault) (place : ℕ) → stepOf g ≡ Stop why place →
+    stepOf (g thenAt k) ≡ Stop why place
 unfolding stepOf
-then-stop (got a m) k number place e = let z : _≡_ {A = ℕ} 0 1 = cc in absurd (omega arith)
-then-stop (stopped n p) k number place e = e
+then-stop (got a m) k why place e = let z : _≡_ {A = ℕ} 0 1 = cc in absurd (omega arith)
+then-stop (stopped n p) k why place e = e
 
 then-next : {A B : Type 0} (g : Got A) (k : A → ℕ → Got B) (m : ℕ) (x : Step) → stepOf g ≡ Next m →
     ((a : A) → stepOf (k a m) ≡ x) → stepOf (g thenAt k) ≡ x
@@ -242,21 +242,21 @@ then-next (stopped n p) k m x e h = let z : _≡_ {A = ℕ} 0 1 = cc in absurd (
 then-last : {A B : Type 0} (g : Got A) (k : A → B) → stepOf (g thenAt λ a m. got (k a) m) ≡ stepOf g
 unfolding stepOf
 then-last (got a m) k = refl
-then-last (stopped number place) k = refl
+then-last (stopped why place) k = refl
 
 module _ (levels : ℕ) (s : List ℕ) (kind : Kind) where
-  pub noad-first : (number place : ℕ) → stepOf (fieldAt read levels s (openingBytes kind)) ≡ Stop number place →
-      stepOf (noadAt read levels s kind) ≡ Stop number place
+  pub noad-first : (why : Fault) (place : ℕ) → stepOf (fieldAt read levels s (openingBytes kind)) ≡ Stop why place →
+      stepOf (noadAt read levels s kind) ≡ Stop why place
   unfolding noadAt
-  noad-first number place e = then-stop (fieldAt read levels s (openingBytes kind)) _ number place e
+  noad-first why place e = then-stop (fieldAt read levels s (openingBytes kind)) _ why place e
 
   module _ (m : ℕ) (first : stepOf (fieldAt read levels s (openingBytes kind)) ≡ Next m) where
-    pub noad-second : (number place : ℕ) → stepOf (fieldAt read levels s m) ≡ Stop number place →
-        stepOf (noadAt read levels s kind) ≡ Stop number place
+    pub noad-second : (why : Fault) (place : ℕ) → stepOf (fieldAt read levels s m) ≡ Stop why place →
+        stepOf (noadAt read levels s kind) ≡ Stop why place
     unfolding noadAt
-    noad-second number place e =
+    noad-second why place e =
         then-next (fieldAt read levels s (openingBytes kind)) _ m _ first (λ a.
-        then-stop (fieldAt read levels s m) _ number place e)
+        then-stop (fieldAt read levels s m) _ why place e)
 
     noad-third : (e : ℕ) → stepOf (fieldAt read levels s m) ≡ Next e →
         stepOf (noadAt read levels s kind) ≡ stepOf (thirdAt read levels s kind e)
@@ -271,9 +271,7 @@ module _ (levels : ℕ) (s : List ℕ) (kind : Kind) where
     noad-three e second h = noad-third e second ∙ go kind h
       where
         go : (kind : Kind) → hasThird kind ≡ true → stepOf (thirdAt read levels s kind e) ≡ stepOf (fieldAt read levels s e)
-        go (Atom class limits) h = refl
-        go Over h = refl
-        go Under h = refl
+        go (Scripted base) h = refl
         go (Fraction bar) h = let z : _≡_ {A = ℕ} 0 1 = cc in absurd (omega arith)
 
     pub noad-two : (e : ℕ) → stepOf (fieldAt read levels s m) ≡ Next e → hasThird kind ≡ false →
@@ -282,9 +280,7 @@ module _ (levels : ℕ) (s : List ℕ) (kind : Kind) where
     noad-two e second h = noad-third e second ∙ go kind h
       where
         go : (kind : Kind) → hasThird kind ≡ false → stepOf (thirdAt read levels s kind e) ≡ Next e
-        go (Atom class limits) h = let z : _≡_ {A = ℕ} 0 1 = cc in absurd (omega arith)
-        go Over h = let z : _≡_ {A = ℕ} 0 1 = cc in absurd (omega arith)
-        go Under h = let z : _≡_ {A = ℕ} 0 1 = cc in absurd (omega arith)
+        go (Scripted base) h = let z : _≡_ {A = ℕ} 0 1 = cc in absurd (omega arith)
         go (Fraction bar) h = refl
 
 pub item-step : (levels : ℕ) (s : List ℕ) (o : Opening) → openingOf s ≡ o →
@@ -296,11 +292,11 @@ item-step levels s o e = ap (λ (o : Opening). stepOf (openedBy read levels s o)
 
 later-later : (k j : ℕ) (v : Verdict) → later k (later j v) ≡ later (k + j) v
 later-later k j Good = refl
-later-later k j (Fault number place) = ap (Fault number) (omega arith)
+later-later k j (Faulty why place) = ap (Faulty why) (omega arith)
 
 pub later-zero : (v : Verdict) → later 0 v ≡ v
 later-zero Good = refl
-later-zero (Fault number place) = ap (Fault number) (omega arith)
+later-zero (Faulty why place) = ap (Faulty why) (omega arith)
 
 module _ (levels : ℕ) (s : List ℕ) (at : ℕ) (low : at < length s)
     (inv : told (read levels s) ≡ later at (told (read levels (drop at s)))) (x : Step)
@@ -328,10 +324,10 @@ module _ (levels : ℕ) (s : List ℕ) (at : ℕ) (low : at < length s)
             ∙ ap (λ (r : List ℕ). later (at + k) (told (read levels r))) (drop-drop k at s),
       )
 
-  pub list-stop : (number place : ℕ) → x ≡ Stop number place →
-      (at + place ≤ length s) × (told (read levels s) ≡ Fault number (at + place))
-  list-stop number place e =
-      let b : StepIn 0 (length (drop at s)) (Stop number place) = subst (StepIn 0 (length (drop at s))) e item-bounds in
+  pub list-stop : (why : Fault) (place : ℕ) → x ≡ Stop why place →
+      (at + place ≤ length s) × (told (read levels s) ≡ Faulty why (at + place))
+  list-stop why place e =
+      let b : StepIn 0 (length (drop at s)) (Stop why place) = subst (StepIn 0 (length (drop at s))) e item-bounds in
       let l : length (drop at s) ≡ length s - at = length-drop at s in
       (omega arith, list-said ∙ ap (λ (x : Step). later at (goOn levels (drop at s) x)) e)
 

@@ -1,7 +1,9 @@
--- What a head speaks of lies in its list.
+-- What a head speaks of lies in its list, and within its bounds.
 --     head-fits            the bytes of a field
---     contents-shorter     the bytes of a list field are as many as it says, and fewer than those of what holds it
+--     list-opening         a list field opens with its kind byte and its length
+--     contents-shorter     the items of a list field have as many bytes as it says, and fewer than what holds it
 --     opening-fits         the bytes of an item before its fields
+--     kern-small           a kern is within its bound
 -- Each goes by the cases of the definition, whose tests `either` takes apart.
 -- Assumes nothing.
 use mathlib.Core.Path.{_≡_, refl, subst}
@@ -11,9 +13,11 @@ use mathlib.Core.Option.{Option, none, some}
 use Prim.Native.Nat.{ℕ, _≤_, _<_}
 use native.Mathlib.Omega.{arith}
 use lib.Dec.{leb, eqb}
-use lib.IntN.{ℤ, natAbs}
+use lib.IntN.{ℤ, pos, negsuc, natAbs}
 use lib.ListN.{length, drop, getElem?, length-take, length-drop}
 use borrow.Author.Tests.{leb-true}
+use Rattle.scaled.specs.declared.Sp.{Sp}
+use Rattle.scaled.specs.Signed.{Within}
 use Rattle.scaled.specs.Words.{littleEndian, signedWord}
 use Rattle.formula.specs.declared.Class.{Class}
 use Rattle.formula.specs.declared.Limits.{Limits}
@@ -21,10 +25,12 @@ use Rattle.formula.specs.declared.Bar.{Bar}
 use Rattle.formula.specs.declared.Mark.{Mark}
 use Rattle.formula.specs.declared.Mark.the-variants.{AT, OV, UN, FR, KN, Unknown}
 use Rattle.formula.specs.declared.Opening.{Opening}
+use Rattle.formula.specs.declared.Opening.the-variants.{NoItem, Fields, Kern}
 use Rattle.formula.specs.declared.FieldHead.{FieldHead}
-use Rattle.formula.specs.declared.FieldHead.the-variants.{Sublist}
+use Rattle.formula.specs.declared.FieldHead.the-variants.{NoField, Empty, Symbol, Sublist, CutSublist}
 use Rattle.formula.specs.Tree.{kernBytes, listOpeningBytes}
-use Rattle.formula.specs.Heads.{markOf, classes, limitKinds, bars, isOp, isDisplayOnly, atomOf, atomOpening, fractionOf, fractionOpening, greatestKern, kernWithin, kernOpening, opens, openingOf, greatestFamily, symbolHead, listHead, fieldHead}
+use Rattle.formula.specs.Marks.{markOf}
+use Rattle.formula.specs.Heads.{classes, limitKinds, bars, isOp, isDisplayOnly, atomOf, atomOpening, fractionOf, fractionOpening, greatestKern, kernWithin, kernOpening, opens, openingOf, greatestFamily, symbolHead, listHead, fieldHead}
 use Rattle.formula.specs.Places.{headBytes, contents, openedBytes}
 
 -- a choice by a test
@@ -35,89 +41,115 @@ either P false f g = g refl
 
 -- ---- a field
 
+ListOpens : FieldHead → Type 0
+ListOpens NoField = Unit {0}
+ListOpens Empty = Unit {0}
+ListOpens (Symbol family code) = Unit {0}
+ListOpens (Sublist opening n) = opening ≡ listOpeningBytes
+ListOpens CutSublist = Unit {0}
+
 HeadIn : List ℕ → FieldHead → Type 0
-HeadIn s h = headBytes h ≤ length s
+HeadIn s h = (headBytes h ≤ length s) × ListOpens h
 
-symbol-fits : (kind : ℕ) (s : List ℕ) → HeadIn (kind ∷ s) (symbolHead s)
-unfolding symbolHead HeadIn
-symbol-fits kind [] = omega arith
-symbol-fits kind (family ∷ []) = omega arith
-symbol-fits kind (family ∷ code ∷ s) =
-    either (HeadIn (kind ∷ family ∷ code ∷ s)) (leb family greatestFamily) (λ e. omega arith) (λ e. omega arith)
+symbol-in : (kind : ℕ) (s : List ℕ) → HeadIn (kind ∷ s) (symbolHead s)
+unfolding symbolHead HeadIn ListOpens
+symbol-in kind [] = (omega arith, tt)
+symbol-in kind (family ∷ []) = (omega arith, tt)
+symbol-in kind (family ∷ code ∷ s) =
+    either (HeadIn (kind ∷ family ∷ code ∷ s)) (leb family greatestFamily) (λ e. (omega arith, tt)) (λ e. (omega arith, tt))
 
-list-fits : (kind : ℕ) (s : List ℕ) → HeadIn (kind ∷ s) (listHead s)
-unfolding listHead HeadIn
-list-fits kind [] = omega arith
-list-fits kind (low ∷ []) = omega arith
-list-fits kind (low ∷ high ∷ s) =
+list-in : (kind : ℕ) (s : List ℕ) → HeadIn (kind ∷ s) (listHead s)
+unfolding listHead HeadIn ListOpens
+list-in kind [] = (omega arith, tt)
+list-in kind (low ∷ []) = (omega arith, tt)
+list-in kind (low ∷ high ∷ s) =
     let n = littleEndian 2 (low ∷ high ∷ []) in
     either (HeadIn (kind ∷ low ∷ high ∷ s)) (leb n (length s))
-    (λ e. omega (arith, leb-true n (length s) e)) (λ e. omega arith)
+    (λ e. (omega (arith, leb-true n (length s) e), refl)) (λ e. (omega arith, tt))
 
 head-in : (s : List ℕ) → HeadIn s (fieldHead s)
-unfolding fieldHead HeadIn
-head-in [] = omega arith
+unfolding fieldHead HeadIn ListOpens
+head-in [] = (omega arith, tt)
 head-in (kind ∷ s) =
     let P = HeadIn (kind ∷ s) in
-    either P (eqb kind 0) (λ e. omega arith) (λ e.
-    either P (eqb kind 1) (λ e. symbol-fits kind s) (λ e.
-    either P (eqb kind 2) (λ e. list-fits kind s) (λ e. omega arith)))
+    either P (eqb kind 0) (λ e. (omega arith, tt)) (λ e.
+    either P (eqb kind 1) (λ e. symbol-in kind s) (λ e.
+    either P (eqb kind 2) (λ e. list-in kind s) (λ e. (omega arith, tt))))
 
 pub head-fits : (s : List ℕ) (h : FieldHead) → fieldHead s ≡ h → headBytes h ≤ length s
 unfolding HeadIn
-head-fits s h e = subst (HeadIn s) e (head-in s)
+head-fits s h e = subst (HeadIn s) e (head-in s) .0
 
--- a list field's bytes are fewer than those of what holds it
-pub contents-shorter : (s : List ℕ) (n : ℕ) → fieldHead s ≡ Sublist n → (length (contents n s) ≡ n) × (n < length s)
-contents-shorter s n e =
-    let fits = head-fits s (Sublist n) e in
-    (omega (arith, length-take n (drop listOpeningBytes s), length-drop listOpeningBytes s), omega arith)
+pub list-opening : (s : List ℕ) (opening n : ℕ) → fieldHead s ≡ Sublist opening n → opening ≡ listOpeningBytes
+unfolding HeadIn ListOpens
+list-opening s opening n e = subst (HeadIn s) e (head-in s) .1
+
+pub contents-shorter : (s : List ℕ) (opening n : ℕ) → fieldHead s ≡ Sublist opening n →
+    (length (contents opening n s) ≡ n) × (n < length s)
+contents-shorter s opening n e =
+    let fits = head-fits s (Sublist opening n) e in
+    let opens = list-opening s opening n e in
+    (omega (arith, length-take n (drop opening s), length-drop opening s), omega arith)
 
 -- ---- an item
 
+KernIn : Opening → Type 0
+KernIn NoItem = Unit {0}
+KernIn (Fields kind) = Unit {0}
+KernIn (Kern n) = Within greatestKern (n .0)
+
 OpeningIn : List ℕ → Opening → Type 0
-OpeningIn s o = openedBytes o ≤ length s
+OpeningIn s o = (openedBytes o ≤ length s) × KernIn o
 
 atom-in : (s : List ℕ) (class : Option Class) (limits : Option Limits) → 4 ≤ length s → OpeningIn s (atomOf class limits)
-unfolding atomOf OpeningIn
-atom-in s none limits h = omega arith
-atom-in s (some class) none h = omega arith
+unfolding atomOf OpeningIn KernIn
+atom-in s none limits h = (omega arith, tt)
+atom-in s (some class) none h = (omega arith, tt)
 atom-in s (some class) (some limits) h =
-    either (OpeningIn s) (isOp class || isDisplayOnly limits) (λ e. h) (λ e. omega arith)
+    either (OpeningIn s) (isOp class || isDisplayOnly limits) (λ e. (h, tt)) (λ e. (omega arith, tt))
 
 fraction-in : (s : List ℕ) (bar : Option Bar) → 3 ≤ length s → OpeningIn s (fractionOf bar)
-unfolding fractionOf OpeningIn
-fraction-in s none h = omega arith
-fraction-in s (some bar) h = h
+unfolding fractionOf OpeningIn KernIn
+fraction-in s none h = (omega arith, tt)
+fraction-in s (some bar) h = (h, tt)
 
 kern-in : (s : List ℕ) (n : ℤ) → kernBytes ≤ length s → OpeningIn s (kernWithin n)
-unfolding kernWithin OpeningIn
-kern-in s n h = either (OpeningIn s) (leb (natAbs n) greatestKern) (λ e. h) (λ e. omega arith)
+unfolding kernWithin OpeningIn KernIn
+kern-in s n h =
+    either (OpeningIn s) (leb (natAbs n) greatestKern) (λ e. (h, small n (leb-true (natAbs n) greatestKern e))) (λ e. (omega arith, tt))
+  where
+    small : (n : ℤ) → natAbs n ≤ greatestKern → Within greatestKern n
+    small (pos m) l = omega arith
+    small (negsuc m) l = omega arith
 
 opens-in : (a b : ℕ) (m : Mark) (s : List ℕ) → OpeningIn (a ∷ b ∷ s) (opens m s)
-unfolding opens atomOpening fractionOpening kernOpening OpeningIn
-opens-in a b AT [] = omega arith
-opens-in a b AT (c ∷ []) = omega arith
+unfolding opens atomOpening fractionOpening kernOpening OpeningIn KernIn
+opens-in a b AT [] = (omega arith, tt)
+opens-in a b AT (c ∷ []) = (omega arith, tt)
 opens-in a b AT (c ∷ d ∷ s) =
     atom-in (a ∷ b ∷ c ∷ d ∷ s) (getElem? classes c) (getElem? limitKinds d) (omega arith)
-opens-in a b OV s = omega arith
-opens-in a b UN s = omega arith
-opens-in a b FR [] = omega arith
+opens-in a b OV s = (omega arith, tt)
+opens-in a b UN s = (omega arith, tt)
+opens-in a b FR [] = (omega arith, tt)
 opens-in a b FR (c ∷ s) = fraction-in (a ∷ b ∷ c ∷ s) (getElem? bars c) (omega arith)
-opens-in a b KN [] = omega arith
-opens-in a b KN (c ∷ []) = omega arith
-opens-in a b KN (c ∷ d ∷ []) = omega arith
-opens-in a b KN (c ∷ d ∷ e ∷ []) = omega arith
+opens-in a b KN [] = (omega arith, tt)
+opens-in a b KN (c ∷ []) = (omega arith, tt)
+opens-in a b KN (c ∷ d ∷ []) = (omega arith, tt)
+opens-in a b KN (c ∷ d ∷ e ∷ []) = (omega arith, tt)
 opens-in a b KN (c ∷ d ∷ e ∷ f ∷ s) =
     kern-in (a ∷ b ∷ c ∷ d ∷ e ∷ f ∷ s) (signedWord (littleEndian 4 (c ∷ d ∷ e ∷ f ∷ s))) (omega arith)
-opens-in a b Unknown s = omega arith
+opens-in a b Unknown s = (omega arith, tt)
 
 opening-in : (s : List ℕ) → OpeningIn s (openingOf s)
-unfolding openingOf OpeningIn
-opening-in [] = omega arith
-opening-in (a ∷ []) = omega arith
+unfolding openingOf OpeningIn KernIn
+opening-in [] = (omega arith, tt)
+opening-in (a ∷ []) = (omega arith, tt)
 opening-in (a ∷ b ∷ s) = opens-in a b (markOf a b) s
 
 pub opening-fits : (s : List ℕ) (o : Opening) → openingOf s ≡ o → openedBytes o ≤ length s
 unfolding OpeningIn
-opening-fits s o e = subst (OpeningIn s) e (opening-in s)
+opening-fits s o e = subst (OpeningIn s) e (opening-in s) .0
+
+pub kern-small : (s : List ℕ) (n : Sp) → openingOf s ≡ Kern n → Within greatestKern (n .0)
+unfolding OpeningIn KernIn
+kern-small s n e = subst (OpeningIn s) e (opening-in s) .1

@@ -3,10 +3,10 @@
 --     fieldHead    what a field says at its kind byte
 -- Both are total: bytes that can be neither are `NoItem` and `NoField`.
 -- Assumes nothing.
-use mathlib.Core.Bool.{Bool, true, false, _&&_, _||_}
+use mathlib.Core.Bool.{Bool, true, false, _||_}
 use mathlib.Core.List.{List, [], _∷_}
 use mathlib.Core.Option.{Option, none, some}
-use Prim.Native.Nat.{ℕ, zero, suc}
+use Prim.Native.Nat.{ℕ}
 use lib.Dec.{leb, eqb}
 use lib.IntN.{ℤ, natAbs}
 use lib.ListN.{length, getElem?}
@@ -17,37 +17,18 @@ use Rattle.formula.specs.declared.Limits.{Limits}
 use Rattle.formula.specs.declared.Limits.the-variants.{DisplayOnly, Always, Never}
 use Rattle.formula.specs.declared.Bar.{Bar}
 use Rattle.formula.specs.declared.Bar.the-variants.{Default, Without}
-use Rattle.formula.specs.declared.Kind.{Kind}
-use Rattle.formula.specs.declared.Kind.the-variants.{Atom, Over, Under, Fraction}
+use Rattle.formula.specs.declared.Base.the-variants.{Atom, Over, Under}
+use Rattle.formula.specs.declared.Kind.the-variants.{Scripted, Fraction}
 use Rattle.formula.specs.declared.Mark.{Mark}
 use Rattle.formula.specs.declared.Mark.the-variants.{AT, OV, UN, FR, KN, Unknown}
 use Rattle.formula.specs.declared.FieldHead.{FieldHead}
 use Rattle.formula.specs.declared.FieldHead.the-variants.{NoField, Empty, Symbol, Sublist, CutSublist}
 use Rattle.formula.specs.declared.Opening.{Opening}
 use Rattle.formula.specs.declared.Opening.the-variants.{NoItem, Fields, Kern}
+use Rattle.formula.specs.Tree.{listOpeningBytes}
+use Rattle.formula.specs.Marks.{markOf}
 
 -- ---- an item
-
--- the letters of the marks, in ASCII
-unfoldable pub markOf : ℕ → ℕ → Mark
-markOf a b =
-    elim (eqb a 65 && eqb b 84) [
-      | true ↦ AT
-      | false ↦
-          elim (eqb a 79 && eqb b 86) [
-            | true ↦ OV
-            | false ↦
-                elim (eqb a 85 && eqb b 78) [
-                  | true ↦ UN
-                  | false ↦
-                      elim (eqb a 70 && eqb b 82) [
-                        | true ↦ FR
-                        | false ↦
-                            elim (eqb a 75 && eqb b 78) [ true ↦ KN | false ↦ Unknown ]
-                      ]
-                ]
-          ]
-    ]
 
 abbrev pub classes : List Class
 classes = Ord ∷ Op ∷ Bin ∷ Rel ∷ Open ∷ Close ∷ Punct ∷ Inner ∷ []
@@ -78,7 +59,7 @@ unfoldable pub atomOf : Option Class → Option Limits → Opening
 atomOf none l = NoItem
 atomOf (some class) none = NoItem
 atomOf (some class) (some limits) =
-    elim (isOp class || isDisplayOnly limits) [ true ↦ Fields (Atom class limits) | false ↦ NoItem ]
+    elim (isOp class || isDisplayOnly limits) [ true ↦ Fields (Scripted (Atom class limits)) | false ↦ NoItem ]
 
 unfoldable pub atomOpening : List ℕ → Opening
 atomOpening [] = NoItem
@@ -110,8 +91,8 @@ kernOpening (a ∷ b ∷ c ∷ d ∷ s) = kernWithin (signedWord (littleEndian 4
 -- what opens behind a mark, from the bytes behind the mark
 unfoldable pub opens : Mark → List ℕ → Opening
 opens AT s = atomOpening s
-opens OV s = Fields Over
-opens UN s = Fields Under
+opens OV s = Fields (Scripted Over)
+opens UN s = Fields (Scripted Under)
 opens FR s = fractionOpening s
 opens KN s = kernOpening s
 opens Unknown s = NoItem
@@ -137,7 +118,7 @@ listHead [] = CutSublist
 listHead (low ∷ []) = CutSublist
 listHead (low ∷ high ∷ s) =
     let n = littleEndian 2 (low ∷ high ∷ []) in
-    elim (leb n (length s)) [ true ↦ Sublist n | false ↦ CutSublist ]
+    elim (leb n (length s)) [ true ↦ Sublist listOpeningBytes n | false ↦ CutSublist ]
 
 -- 0 is empty, 1 a symbol, 2 a list; s goes from the kind byte to the end of the list that holds the item
 unfoldable pub fieldHead : List ℕ → FieldHead

@@ -1,5 +1,6 @@
 -- A formula as bytes and as a tree, its reading, what the reader promises; the laws of these. Assumes nothing.
 pub mod Tree
+pub mod Marks
 pub mod Heads
 pub mod Reading
 pub mod Verdicts

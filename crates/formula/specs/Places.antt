@@ -13,12 +13,12 @@ use Prim.Native.Nat.{ℕ, _+_}
 use lib.IntN.{pos}
 use lib.ListN.{length, take, drop}
 use Rattle.formula.specs.declared.Kind.{Kind}
-use Rattle.formula.specs.declared.Kind.the-variants.{Atom, Over, Under, Fraction}
+use Rattle.formula.specs.declared.Kind.the-variants.{Scripted, Fraction}
 use Rattle.formula.specs.declared.Opening.{Opening}
 use Rattle.formula.specs.declared.Opening.the-variants.{NoItem, Fields, Kern}
 use Rattle.formula.specs.declared.FieldHead.{FieldHead}
 use Rattle.formula.specs.declared.FieldHead.the-variants.{NoField, Empty, Symbol, Sublist, CutSublist}
-use Rattle.formula.specs.Tree.{Items, Item, Field, nil, noad, kern, empty, symbol, list, openingBytes, kernBytes, symbolBytes, listOpeningBytes}
+use Rattle.formula.specs.Tree.{Items, Item, Field, nil, noad, kern, empty, symbol, list, openingBytes, kernBytes, symbolBytes}
 use Rattle.formula.specs.Heads.{fieldHead}
 use Rattle.formula.specs.Reading.{Read, good, fault, read}
 
@@ -26,11 +26,11 @@ use Rattle.formula.specs.Reading.{Read, good, fault, read}
 
 abbrev pub treeIn : Read → Items
 treeIn (good l) = l
-treeIn (fault number place) = nil
+treeIn (fault why place) = nil
 
 abbrev pub IsGood : Read → Type 0
 IsGood (good l) = Unit {0}
-IsGood (fault number place) = ⊥
+IsGood (fault why place) = ⊥
 
 unfoldable pub Readable : List ℕ → Type 0
 Readable s = IsGood (read (length s) s)
@@ -44,34 +44,32 @@ abbrev pub headBytes : FieldHead → ℕ
 headBytes NoField = 0
 headBytes Empty = 1
 headBytes (Symbol family code) = symbolBytes
-headBytes (Sublist n) = listOpeningBytes + n
+headBytes (Sublist opening n) = opening + n
 headBytes CutSublist = 0
 
--- the n bytes of a list field
-abbrev pub contents : ℕ → List ℕ → List ℕ
-contents n s = take n (drop listOpeningBytes s)
+-- the n bytes of a list field's items
+abbrev pub contents : ℕ → ℕ → List ℕ → List ℕ
+contents opening n s = take n (drop opening s)
 
 abbrev pub fieldOf : List ℕ → FieldHead → Field
 fieldOf s NoField = empty
 fieldOf s Empty = empty
 fieldOf s (Symbol family code) = symbol family code
-fieldOf s (Sublist n) = list (treeOf (contents n s))
+fieldOf s (Sublist opening n) = list (treeOf (contents opening n s))
 fieldOf s CutSublist = empty
 
 abbrev pub GoodField : List ℕ → FieldHead → Type 0
 GoodField s NoField = ⊥
 GoodField s Empty = Unit {0}
 GoodField s (Symbol family code) = Unit {0}
-GoodField s (Sublist n) = Readable (contents n s)
+GoodField s (Sublist opening n) = Readable (contents opening n s)
 GoodField s CutSublist = ⊥
 
 -- ---- an item
 
--- a fraction has two fields, any other kind three
+-- a fraction has two fields, a base with scripts three
 abbrev pub hasThird : Kind → Bool
-hasThird (Atom class limits) = true
-hasThird Over = true
-hasThird Under = true
+hasThird (Scripted base) = true
 hasThird (Fraction bar) = false
 
 -- the bytes before the fields

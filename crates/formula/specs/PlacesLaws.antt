@@ -2,6 +2,7 @@
 --     known, readable-of, tree-is     `Readable` and `treeOf` say what `read` says, with whatever number of levels it reads
 --     step                 a list that is not empty is its first item, given by its opening, and a readable rest.
 --                          A list field of that item is `Readable` by itself, and the field is the list of its tree
+--     Noad, noad-at        where the fields of a first item with fields stand
 --     items-bytes, item-bytes, field-bytes     a list, an item and a field are as long as their tree is written
 --     formula-good, formula-fault     what the verdict of a formula says of its reading
 -- Assumes nothing.
@@ -13,19 +14,22 @@ use native.Mathlib.Omega.{arith}
 use lib.Dec.{ltb}
 use lib.ListN.{length, drop, length-drop}
 use borrow.Author.Tests.{ltb-false}
+use Rattle.formula.specs.declared.Base.the-variants.{Atom, Over, Under}
 use Rattle.formula.specs.declared.Kind.{Kind}
-use Rattle.formula.specs.declared.Kind.the-variants.{Atom, Over, Under, Fraction}
+use Rattle.formula.specs.declared.Kind.the-variants.{Scripted, Fraction}
 use Rattle.formula.specs.declared.Opening.{Opening}
 use Rattle.formula.specs.declared.Opening.the-variants.{NoItem, Fields, Kern}
 use Rattle.formula.specs.declared.FieldHead.{FieldHead}
 use Rattle.formula.specs.declared.FieldHead.the-variants.{NoField, Empty, Symbol, Sublist, CutSublist}
-use Rattle.formula.specs.declared.Verdict.the-variants.{Good, Fault}
+use Rattle.formula.specs.declared.Fault.{Fault}
+use Rattle.formula.specs.declared.Fault.the-variants.{Unreadable}
+use Rattle.formula.specs.declared.Verdict.the-variants.{Good, Faulty}
 use Rattle.formula.specs.Tree.{Items, Item, Field, nil, cons, list, openingBytes, itemsBytes, itemBytes, fieldBytes}
-use Rattle.formula.specs.Heads.{openingOf}
-use Rattle.formula.specs.Reading.{formulaLimit, depthLimit, unreadableNumber, Read, good, fault, read, readFormula}
+use Rattle.formula.specs.Heads.{openingOf, fieldHead}
+use Rattle.formula.specs.Reading.{formulaLimit, depthLimit, Read, good, fault, read, readFormula}
 use Rattle.formula.specs.Verdicts.{told}
-use Rattle.formula.specs.Places.{treeIn, IsGood, Readable, treeOf, headBytes, contents, fieldOf, GoodField, hasThird, headAt, second, third, itemSize, fieldIn, thirdIn, itemOf, GoodFieldAt, GoodThird, GoodItem}
-use Rattle.formula.specs.HeadLaws.{contents-shorter}
+use Rattle.formula.specs.Places.{treeIn, IsGood, Readable, treeOf, headBytes, contents, fieldOf, GoodField, hasThird, headAt, second, third, thirdEnd, end, itemSize, fieldIn, thirdIn, itemOf, GoodFieldAt, GoodThird, GoodItem}
+use Rattle.formula.specs.HeadLaws.{list-opening, contents-shorter, opening-fits}
 use Rattle.formula.specs.ReadingLaws.{by-length, FieldIs, ThirdIs, ItemIs, item-map, size-fits, size-some, Below, read-none, list-good, agree}
 
 -- ---- a readable list
@@ -36,7 +40,7 @@ known s h = go (read (length s) s) h
   where
     go : (x : Read) → IsGood x → x ≡ good (treeIn x)
     go (good l) h = refl
-    go (fault number place) h = absurd h
+    go (fault why place) h = absurd h
 
 own : (s : List ℕ) (d : ℕ) (l : Items) → read d s ≡ good l → read (length s) s ≡ good l
 own s d l e = agree s d (length s) l e (omega arith)
@@ -60,7 +64,7 @@ unfolding Known
 field-known s NoField f i = absurd i
 field-known s Empty f i = (tt, i)
 field-known s (Symbol family code) f i = (tt, i)
-field-known s (Sublist n) f i = (i .1 .0, i .2 ∙ ap list (sym (i .1 .1)))
+field-known s (Sublist opening n) f i = (i .1 .0, i .2 ∙ ap list (sym (i .1 .1)))
 field-known s CutSublist f i = absurd i
 
 third-known : (s : List ℕ) (has : Bool) (at : ℕ) (f : Field) → ThirdIs Known s has at f →
@@ -110,6 +114,70 @@ step-by s r pos =
 pub step : (s : List ℕ) (o : Opening) → openingOf s ≡ o → Readable s → 0 < length s → Stepped s o
 step s o e r pos = subst (Stepped s) e (step-by s r pos)
 
+-- ---- an item with fields
+
+-- a field is at least one byte long
+pub good-some : (s : List ℕ) (h : FieldHead) → fieldHead s ≡ h → GoodField s h → 0 < headBytes h
+good-some s NoField e g = absurd g
+good-some s Empty e g = omega arith
+good-some s (Symbol family code) e g = omega arith
+good-some s (Sublist opening n) e g = omega (arith, list-opening s opening n e)
+good-some s CutSublist e g = absurd g
+
+pub third-good : (s : List ℕ) (has : Bool) (at : ℕ) → has ≡ true → GoodThird s has at → GoodFieldAt s at
+third-good s true at e g = g
+third-good s false at e g = let z : _≡_ {A = ℕ} 0 1 = cc in absurd (omega arith)
+
+-- its fields and what stands behind it are good, and they stand one behind the other
+pub record Noad (s : List ℕ) (kind : Kind) : Type 0 where
+  pub x : GoodFieldAt s (openingBytes kind)
+  pub y : GoodFieldAt s (second s kind)
+  pub z : GoodThird s (hasThird kind) (third s kind)
+  pub rest : Readable (drop (end s kind) s)
+  pub opened : 2 ≤ openingBytes kind
+  pub first-in : openingBytes kind < second s kind
+  pub second-in : second s kind < third s kind
+  pub third-in : third s kind ≤ end s kind
+  pub long : 5 ≤ end s kind
+  pub end-in : end s kind ≤ length s
+
+pub noad-at : (s : List ℕ) (kind : Kind) → openingOf s ≡ Fields kind → Readable s → Noad s kind
+noad-at s kind e readable =
+    let two = opened kind in
+    let p = step s (Fields kind) e readable (omega (arith, opening-fits s (Fields kind) e)) in
+    let a = some (openingBytes kind) (p .item .0) in
+    let b = some (second s kind) (p .item .1) in
+    record {
+      x = p .item .0;
+      y = p .item .1;
+      z = p .item .2;
+      rest = p .rest;
+      opened = two;
+      first-in = omega arith;
+      second-in = omega arith;
+      third-in = from (hasThird kind) (third s kind);
+      long = five kind (omega arith) (omega arith) (p .item .2);
+      end-in = p .fits;
+    }
+  where
+    some : (at : ℕ) → GoodFieldAt s at → 0 < headBytes (headAt s at)
+    some at = good-some (drop at s) (headAt s at) refl
+
+    opened : (kind : Kind) → 2 ≤ openingBytes kind
+    opened (Scripted (Atom class limits)) = omega arith
+    opened (Scripted Over) = omega arith
+    opened (Scripted Under) = omega arith
+    opened (Fraction bar) = omega arith
+
+    from : (has : Bool) (at : ℕ) → at ≤ thirdEnd s has at
+    from true at = omega arith
+    from false at = omega arith
+
+    five : (kind : Kind) → openingBytes kind < second s kind → second s kind < third s kind →
+        GoodThird s (hasThird kind) (third s kind) → 5 ≤ end s kind
+    five (Scripted base) a b g = omega (arith, opened (Scripted base), some (third s (Scripted base)) g)
+    five (Fraction bar) a b g = omega arith
+
 -- ---- the bytes that a tree is written in
 
 module _ (s : List ℕ) (ih : (r : List ℕ) → length r < length s → Readable r → itemsBytes (treeOf r) ≡ length r) where
@@ -121,9 +189,10 @@ module _ (s : List ℕ) (ih : (r : List ℕ) → length r < length s → Readabl
       go NoField e g = absurd g
       go Empty e g = refl
       go (Symbol family code) e g = refl
-      go (Sublist n) e g =
-          let k = contents-shorter (drop at s) n e in
-          omega (arith, ih (contents n (drop at s)) (omega (arith, length-drop at s)) g)
+      go (Sublist opening n) e g =
+          let k = contents-shorter (drop at s) opening n e in
+          let o = list-opening (drop at s) opening n e in
+          omega (arith, ih (contents opening n (drop at s)) (omega (arith, length-drop at s)) g)
       go CutSublist e g = absurd g
 
   item-by-bytes : (o : Opening) → GoodItem s o → itemBytes (itemOf s o) ≡ itemSize s o
@@ -137,9 +206,7 @@ module _ (s : List ℕ) (ih : (r : List ℕ) → length r < length s → Readabl
       go : (kind : Kind) → fieldBytes (fieldIn s (openingBytes kind)) ≡ headBytes (headAt s (openingBytes kind)) →
           fieldBytes (fieldIn s (second s kind)) ≡ headBytes (headAt s (second s kind)) →
           GoodThird s (hasThird kind) (third s kind) → itemBytes (itemOf s (Fields kind)) ≡ itemSize s (Fields kind)
-      go (Atom class limits) a b g = omega (arith, field-by-bytes (third s (Atom class limits)) g)
-      go Over a b g = omega (arith, field-by-bytes (third s Over) g)
-      go Under a b g = omega (arith, field-by-bytes (third s Under) g)
+      go (Scripted base) a b g = omega (arith, field-by-bytes (third s (Scripted base)) g)
       go (Fraction bar) a b g = omega arith
   item-by-bytes (Kern n) g = refl
 
@@ -175,7 +242,7 @@ field-bytes s = field-by-bytes s (λ r l. items-bytes r)
 told-good : (x : Read) → told x ≡ Good → (l : Items) × (x ≡ good l)
 unfolding told
 told-good (good l) e = (l, refl)
-told-good (fault number place) e = let z : _≡_ {A = ℕ} 0 1 = cc in absurd (omega arith)
+told-good (fault why place) e = let z : _≡_ {A = ℕ} 0 1 = cc in absurd (omega arith)
 
 -- the formula is small, readable, and its tree is that of its bytes
 pub record FormulaIs (s : List ℕ) : Type 0 where
@@ -188,7 +255,7 @@ unfolding readFormula told
 formula-good s e = go (ltb formulaLimit (length s)) refl e
   where
     by : Bool → Read
-    by t = elim t [ true ↦ fault unreadableNumber 0 | false ↦ read (depthLimit - 1) s ]
+    by t = elim t [ true ↦ fault Unreadable 0 | false ↦ read (depthLimit - 1) s ]
 
     go : (t : Bool) → ltb formulaLimit (length s) ≡ t → told (by t) ≡ Good → FormulaIs s
     go true q e = let z : _≡_ {A = ℕ} 0 1 = cc in absurd (omega arith)
@@ -200,11 +267,11 @@ formula-good s e = go (ltb formulaLimit (length s)) refl e
           is = ap by q ∙ l .1 ∙ ap good (sym (tree-is s (depthLimit - 1) (l .0) (l .1)));
         }
 
-pub formula-fault : (s : List ℕ) (number place : ℕ) → told (readFormula s) ≡ Fault number place →
-    readFormula s ≡ fault number place
+pub formula-fault : (s : List ℕ) (why : Fault) (place : ℕ) → told (readFormula s) ≡ Faulty why place →
+    readFormula s ≡ fault why place
 unfolding told
-formula-fault s number place e = go (readFormula s) e
+formula-fault s why place e = go (readFormula s) e
   where
-    go : (x : Read) → told x ≡ Fault number place → x ≡ fault number place
+    go : (x : Read) → told x ≡ Faulty why place → x ≡ fault why place
     go (good l) e = let z : _≡_ {A = ℕ} 0 1 = cc in absurd (omega arith)
     go (fault n p) e = cc

@@ -1,5 +1,5 @@
--- The reading of a formula: its tree, or the number and the place of its first fault in reading order (document 01,
--- "Bytes of a formula" and answers 3 and 4).
+-- The reading of a formula: its tree, or its first fault in reading order with its place (document 01, "Bytes of a
+-- formula" and answers 3 and 4).
 -- A list is read with the number of levels that may still be entered below it. Places within an item count from its
 -- first byte, and places within a list from the list's first byte. `R` stands for the reading of shorter lists.
 --     fieldBy      a field, by its head
@@ -7,18 +7,20 @@
 --     listBy       a list: its first item, then the rest
 --     read         the whole
 -- Assumes nothing.
-use mathlib.Core.Bool.{Bool, true, false}
+use mathlib.Core.Bool.{true, false}
 use mathlib.Core.List.{List, [], _∷_}
 use Prim.Native.Nat.{ℕ, zero, suc, _+_, _-_}
 use lib.Dec.{ltb}
 use lib.ListN.{length, take, drop}
 use Rattle.formula.specs.declared.Kind.{Kind}
-use Rattle.formula.specs.declared.Kind.the-variants.{Atom, Over, Under, Fraction}
+use Rattle.formula.specs.declared.Kind.the-variants.{Scripted, Fraction}
 use Rattle.formula.specs.declared.Opening.{Opening}
 use Rattle.formula.specs.declared.Opening.the-variants.{NoItem, Fields, Kern}
 use Rattle.formula.specs.declared.FieldHead.{FieldHead}
 use Rattle.formula.specs.declared.FieldHead.the-variants.{NoField, Empty, Symbol, Sublist, CutSublist}
-use Rattle.formula.specs.Tree.{Items, Item, Field, nil, cons, noad, kern, empty, symbol, list, openingBytes, kernBytes, symbolBytes, listOpeningBytes}
+use Rattle.formula.specs.declared.Fault.{Fault}
+use Rattle.formula.specs.declared.Fault.the-variants.{Unreadable, TooDeep}
+use Rattle.formula.specs.Tree.{Items, Item, Field, nil, cons, noad, kern, empty, symbol, list, openingBytes, kernBytes, symbolBytes}
 use Rattle.formula.specs.Heads.{openingOf, fieldHead}
 
 -- ---- the numbers of the format
@@ -29,49 +31,42 @@ formulaLimit = 4_096
 abbrev pub depthLimit : ℕ
 depthLimit = 16
 
--- the answer numbers of the two faults: an item that can't be read, and a list too deep
-abbrev pub unreadableNumber : ℕ
-unreadableNumber = 3
-
-abbrev pub tooDeepNumber : ℕ
-tooDeepNumber = 4
-
 -- ---- what reading gives
 
--- a list's tree, or its first fault: number and place
+-- a list's tree, or its first fault and the place of it
 pub data Read : Type 0 where
   good : Items → Read
-  fault : ℕ → ℕ → Read
+  fault : Fault → ℕ → Read
 
 -- a part of an item, with the place behind it, or a fault
 pub data Got (A : Type 0) : Type 0 where
   got : A → ℕ → Got A
-  stopped : ℕ → ℕ → Got A
+  stopped : Fault → ℕ → Got A
 
 -- an item that can't be read is a fault at its own first byte
 abbrev pub unreadable : {A : Type 0} → Got A
-unreadable = stopped unreadableNumber 0
+unreadable = stopped Unreadable 0
 
 infixr 20 _thenAt_
 abbrev pub _thenAt_ : {A B : Type 0} → Got A → (A → ℕ → Got B) → Got B
 got a at thenAt next = next a at
-stopped number place thenAt next = stopped number place
+stopped why place thenAt next = stopped why place
 
 -- ---- a field, whose kind byte stands at the place `at` of its item
 
--- a list of n bytes that has been read
-unfoldable pub listGot : ℕ → ℕ → Read → Got Field
-listGot at n (good l) = got (list l) (at + listOpeningBytes + n)
-listGot at n (fault number place) = stopped number (at + listOpeningBytes + place)
+-- a list of n bytes, behind those of its opening, that has been read
+unfoldable pub listGot : ℕ → ℕ → ℕ → Read → Got Field
+listGot at opening n (good l) = got (list l) (at + opening + n)
+listGot at opening n (fault why place) = stopped why (at + opening + place)
 
 -- a list's kind byte comes before its length, its length before its contents; s goes from the kind byte to the end
 unfoldable pub fieldBy : (ℕ → List ℕ → Read) → ℕ → ℕ → List ℕ → FieldHead → Got Field
 fieldBy R levels at s NoField = unreadable
 fieldBy R levels at s Empty = got empty (at + 1)
 fieldBy R levels at s (Symbol family code) = got (symbol family code) (at + symbolBytes)
-fieldBy R zero at s (Sublist n) = stopped tooDeepNumber at
-fieldBy R (suc levels) at s (Sublist n) = listGot at n (R levels (take n (drop listOpeningBytes s)))
-fieldBy R zero at s CutSublist = stopped tooDeepNumber at
+fieldBy R zero at s (Sublist opening n) = stopped TooDeep at
+fieldBy R (suc levels) at s (Sublist opening n) = listGot at opening n (R levels (take n (drop opening s)))
+fieldBy R zero at s CutSublist = stopped TooDeep at
 fieldBy R (suc levels) at s CutSublist = unreadable
 
 -- ---- an item, from its first byte to the end of its list
@@ -80,11 +75,9 @@ module _ (R : ℕ → List ℕ → Read) (levels : ℕ) (s : List ℕ) where
   unfoldable pub fieldAt : ℕ → Got Field
   fieldAt at = fieldBy R levels at (drop at s) (fieldHead (drop at s))
 
-  -- a fraction has two fields, any other kind three
+  -- a fraction has two fields, a base with scripts three
   unfoldable pub thirdAt : Kind → ℕ → Got Field
-  thirdAt (Atom class limits) at = fieldAt at
-  thirdAt Over at = fieldAt at
-  thirdAt Under at = fieldAt at
+  thirdAt (Scripted base) at = fieldAt at
   thirdAt (Fraction bar) at = got empty at
 
   unfoldable pub noadAt : Kind → Got Item
@@ -107,11 +100,11 @@ module _ (R : ℕ → List ℕ → Read) (levels : ℕ) (s : List ℕ) where
 -- the item i of `size` bytes, and then what reading the rest gave
 unfoldable pub before : Item → ℕ → Read → Read
 before i size (good l) = good (cons i l)
-before i size (fault number place) = fault number (size + place)
+before i size (fault why place) = fault why (size + place)
 
 unfoldable pub restBy : (ℕ → List ℕ → Read) → ℕ → List ℕ → Got Item → Read
 restBy R levels s (got i size) = before i size (R levels (drop size s))
-restBy R levels s (stopped number place) = fault number place
+restBy R levels s (stopped why place) = fault why place
 
 unfoldable pub listBy : (ℕ → List ℕ → Read) → ℕ → List ℕ → Read
 listBy R levels [] = good nil
@@ -119,7 +112,7 @@ listBy R levels (b ∷ s) = restBy R levels (b ∷ s) (itemBy R levels (b ∷ s)
 
 -- reading in at most n steps; with more steps than bytes their number makes no difference
 unfoldable pub readBy : ℕ → ℕ → List ℕ → Read
-readBy zero levels s = fault unreadableNumber 0
+readBy zero levels s = fault Unreadable 0
 readBy (suc n) levels s = listBy (readBy n) levels s
 
 unfoldable pub read : ℕ → List ℕ → Read
@@ -127,4 +120,4 @@ read levels s = readBy (suc (length s)) levels s
 
 -- the formula itself is the first level
 unfoldable pub readFormula : List ℕ → Read
-readFormula s = elim (ltb formulaLimit (length s)) [ true ↦ fault unreadableNumber 0 | false ↦ read (depthLimit - 1) s ]
+readFormula s = elim (ltb formulaLimit (length s)) [ true ↦ fault Unreadable 0 | false ↦ read (depthLimit - 1) s ]

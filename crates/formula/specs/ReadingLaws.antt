@@ -15,16 +15,17 @@ use Prim.Native.Nat.{ℕ, zero, suc, _+_, _-_, _≤_, _<_, min}
 use native.Mathlib.Omega.{arith}
 use lib.ListN.{length, drop, length-drop}
 use Rattle.formula.specs.declared.Kind.{Kind}
-use Rattle.formula.specs.declared.Kind.the-variants.{Atom, Over, Under, Fraction}
+use Rattle.formula.specs.declared.Kind.the-variants.{Scripted, Fraction}
 use Rattle.formula.specs.declared.Opening.{Opening}
 use Rattle.formula.specs.declared.Opening.the-variants.{NoItem, Fields, Kern}
 use Rattle.formula.specs.declared.FieldHead.{FieldHead}
 use Rattle.formula.specs.declared.FieldHead.the-variants.{NoField, Empty, Symbol, Sublist, CutSublist}
-use Rattle.formula.specs.Tree.{Items, Item, Field, nil, cons, noad, kern, empty, symbol, list, openingBytes, listOpeningBytes}
-use Rattle.formula.specs.Heads.{openingOf}
+use Rattle.formula.specs.declared.Fault.{Fault}
+use Rattle.formula.specs.Tree.{Items, Item, Field, nil, cons, noad, kern, empty, symbol, list, openingBytes}
+use Rattle.formula.specs.Heads.{openingOf, fieldHead}
 use Rattle.formula.specs.Reading.{Read, good, fault, Got, got, stopped, _thenAt_, listGot, fieldBy, fieldAt, thirdAt, noadAt, openedBy, itemBy, before, restBy, listBy, readBy, read}
 use Rattle.formula.specs.Places.{headBytes, contents, hasThird, openedBytes, headAt, behind, second, third, thirdEnd, end, itemSize}
-use Rattle.formula.specs.HeadLaws.{head-fits, contents-shorter, opening-fits}
+use Rattle.formula.specs.HeadLaws.{head-fits, list-opening, contents-shorter, opening-fits}
 
 pub by-length : (P : List ℕ → Type 0) → ((s : List ℕ) → ((r : List ℕ) → length r < length s → P r) → P s) →
     (s : List ℕ) → P s
@@ -44,7 +45,7 @@ abbrev pub FieldIs : Says → List ℕ → FieldHead → Field → Type 0
 FieldIs P s NoField f = ⊥
 FieldIs P s Empty f = f ≡ empty
 FieldIs P s (Symbol family code) f = f ≡ symbol family code
-FieldIs P s (Sublist n) f = (l : Items) × P (contents n s) l × (f ≡ list l)
+FieldIs P s (Sublist opening n) f = (l : Items) × P (contents opening n s) l × (f ≡ list l)
 FieldIs P s CutSublist f = ⊥
 
 module _ (P : Says) (s : List ℕ) where
@@ -70,12 +71,12 @@ module _ (P : Says) (s : List ℕ) where
   ItemIs (Kern n) i = i ≡ kern (n .0)
 
 -- a field is at least one byte long
-pub head-some : (P : Says) (s : List ℕ) (h : FieldHead) (f : Field) → FieldIs P s h f → 0 < headBytes h
-head-some P s NoField f i = absurd i
-head-some P s Empty f i = omega arith
-head-some P s (Symbol family code) f i = omega arith
-head-some P s (Sublist n) f i = omega arith
-head-some P s CutSublist f i = absurd i
+pub head-some : (P : Says) (s : List ℕ) (h : FieldHead) (f : Field) → fieldHead s ≡ h → FieldIs P s h f → 0 < headBytes h
+head-some P s NoField f e i = absurd i
+head-some P s Empty f e i = omega arith
+head-some P s (Symbol family code) f e i = omega arith
+head-some P s (Sublist opening n) f e i = omega (arith, list-opening s opening n e)
+head-some P s CutSublist f e i = absurd i
 
 module _ (P Q : Says) (s : List ℕ)
     (to : (r : List ℕ) (l : Items) → length r < length s → P r l → Q r l) where
@@ -86,9 +87,9 @@ module _ (P Q : Says) (s : List ℕ)
       go NoField e i = i
       go Empty e i = i
       go (Symbol family code) e i = i
-      go (Sublist n) e i =
-          let k = contents-shorter (drop at s) n e in
-          (i .0, to (contents n (drop at s)) (i .0) (omega (arith, length-drop at s)) (i .1), i .2)
+      go (Sublist opening n) e i =
+          let k = contents-shorter (drop at s) opening n e in
+          (i .0, to (contents opening n (drop at s)) (i .0) (omega (arith, length-drop at s)) (i .1), i .2)
       go CutSublist e i = i
 
   third-map : (has : Bool) (at : ℕ) (f : Field) → ThirdIs P s has at f → ThirdIs Q s has at f
@@ -135,7 +136,7 @@ pub size-some : (P : Says) (s : List ℕ) (o : Opening) (i : Item) → ItemIs P 
 size-some P s NoItem i h = absurd h
 size-some P s (Fields kind) i h =
     third-end-some s (hasThird kind) (third s kind)
-    (omega (arith, head-some P (drop (openingBytes kind) s) (headAt s (openingBytes kind)) (h .a) (h .a-is)))
+    (omega (arith, head-some P (drop (openingBytes kind) s) (headAt s (openingBytes kind)) (h .a) refl (h .a-is)))
 size-some P s (Kern n) i h = omega arith
 
 -- ---- `itemBy` gives an item exactly where `ItemIs` holds
@@ -148,22 +149,22 @@ abbrev pub Below : Reader → ℕ → List ℕ → Items → Type 0
 Below R zero r l = ⊥
 Below R (suc levels) r l = R levels r ≡ good l
 
-stopped-got : {A B : Type 0} {number place : ℕ} {a : A} {e : ℕ} → stopped number place ≡ got a e → B
+stopped-got : {A B : Type 0} {why : Fault} {place : ℕ} {a : A} {e : ℕ} → stopped why place ≡ got a e → B
 stopped-got q = let z : _≡_ {A = ℕ} 0 1 = cc in absurd (omega arith)
 
-fault-good : {B : Type 0} {number place : ℕ} {l : Items} → fault number place ≡ good l → B
+fault-good : {B : Type 0} {why : Fault} {place : ℕ} {l : Items} → fault why place ≡ good l → B
 fault-good q = let z : _≡_ {A = ℕ} 0 1 = cc in absurd (omega arith)
 
 then-got : {A B : Type 0} (g : Got A) (k : A → ℕ → Got B) (b : B) (e : ℕ) → (g thenAt k) ≡ got b e →
     (a : A) × (m : ℕ) × (g ≡ got a m) × (k a m ≡ got b e)
 then-got (got a m) k b e q = (a, m, refl, q)
-then-got (stopped number place) k b e q = stopped-got q
+then-got (stopped why place) k b e q = stopped-got q
 
-list-got : (at n : ℕ) (x : Read) (f : Field) (e : ℕ) → listGot at n x ≡ got f e →
-    (l : Items) × (x ≡ good l) × (f ≡ list l) × (e ≡ at + listOpeningBytes + n)
+list-got : (at opening n : ℕ) (x : Read) (f : Field) (e : ℕ) → listGot at opening n x ≡ got f e →
+    (l : Items) × (x ≡ good l) × (f ≡ list l) × (e ≡ at + opening + n)
 unfolding listGot
-list-got at n (good l) f e q = (l, refl, (cc), (cc))
-list-got at n (fault number place) f e q = stopped-got q
+list-got at opening n (good l) f e q = (l, refl, (cc), (cc))
+list-got at opening n (fault why place) f e q = stopped-got q
 
 module _ (R : Reader) where
   field-by-got : (levels at : ℕ) (s : List ℕ) (h : FieldHead) (f : Field) (e : ℕ) → fieldBy R levels at s h ≡ got f e →
@@ -172,9 +173,9 @@ module _ (R : Reader) where
   field-by-got levels at s NoField f e q = stopped-got q
   field-by-got levels at s Empty f e q = ((cc), (cc))
   field-by-got levels at s (Symbol family code) f e q = ((cc), (cc))
-  field-by-got zero at s (Sublist n) f e q = stopped-got q
-  field-by-got (suc levels) at s (Sublist n) f e q =
-      let g = list-got at n (R levels (contents n s)) f e q in
+  field-by-got zero at s (Sublist opening n) f e q = stopped-got q
+  field-by-got (suc levels) at s (Sublist opening n) f e q =
+      let g = list-got at opening n (R levels (contents opening n s)) f e q in
       ((g .0, g .1, g .2), omega (arith, g .3))
   field-by-got zero at s CutSublist f e q = stopped-got q
   field-by-got (suc levels) at s CutSublist f e q = stopped-got q
@@ -185,10 +186,10 @@ module _ (R : Reader) where
   got-field-by levels at s NoField f i = absurd i
   got-field-by levels at s Empty f i = rw i
   got-field-by levels at s (Symbol family code) f i = rw i
-  got-field-by zero at s (Sublist n) f i = absurd (i .1)
-  got-field-by (suc levels) at s (Sublist n) f i =
-      let e : at + listOpeningBytes + n ≡ at + (listOpeningBytes + n) = omega arith in
-      ap (listGot at n) (i .1) ∙ ap₂ got (sym (i .2)) e
+  got-field-by zero at s (Sublist opening n) f i = absurd (i .1)
+  got-field-by (suc levels) at s (Sublist opening n) f i =
+      let e : at + opening + n ≡ at + (opening + n) = omega arith in
+      ap (listGot at opening n) (i .1) ∙ ap₂ got (sym (i .2)) e
   got-field-by levels at s CutSublist f i = absurd i
 
   module _ (levels : ℕ) (s : List ℕ) where
@@ -204,17 +205,13 @@ module _ (R : Reader) where
     third-got : (kind : Kind) (at : ℕ) (f : Field) (e : ℕ) → thirdAt R levels s kind at ≡ got f e →
         ThirdIs (Below R levels) s (hasThird kind) at f × (e ≡ thirdEnd s (hasThird kind) at)
     unfolding thirdAt
-    third-got (Atom class limits) at f e q = field-got at f e q
-    third-got Over at f e q = field-got at f e q
-    third-got Under at f e q = field-got at f e q
+    third-got (Scripted base) at f e q = field-got at f e q
     third-got (Fraction bar) at f e q = ((cc), (cc))
 
     got-third : (kind : Kind) (at : ℕ) (f : Field) → ThirdIs (Below R levels) s (hasThird kind) at f →
         thirdAt R levels s kind at ≡ got f (thirdEnd s (hasThird kind) at)
     unfolding thirdAt
-    got-third (Atom class limits) at f i = got-field at f i
-    got-third Over at f i = got-field at f i
-    got-third Under at f i = got-field at f i
+    got-third (Scripted base) at f i = got-field at f i
     got-third (Fraction bar) at f i = rw i
 
     noad-got : (kind : Kind) (i : Item) (e : ℕ) → noadAt R levels s kind ≡ got i e →
@@ -272,7 +269,7 @@ module _ (R : Reader) where
 then-after : {A B : Type 0} (g : Got A) (k k′ : A → ℕ → Got B) → ((a : A) (m : ℕ) → k a m ≡ k′ a m) →
     (g thenAt k) ≡ (g thenAt k′)
 then-after (got a m) k k′ h = h a m
-then-after (stopped number place) k k′ h = refl
+then-after (stopped why place) k k′ h = refl
 
 then-same : {A B : Type 0} (g g′ : Got A) (k k′ : A → ℕ → Got B) → g ≡ g′ → ((a : A) (m : ℕ) → k a m ≡ k′ a m) →
     (g thenAt k) ≡ (g′ thenAt k′)
@@ -289,18 +286,16 @@ module _ (R R′ : Reader) (levels : ℕ) (s : List ℕ)
       go levels NoField e = refl
       go levels Empty e = refl
       go levels (Symbol family code) e = refl
-      go zero (Sublist n) e = refl
-      go (suc levels) (Sublist n) e =
-          let k = contents-shorter (drop at s) n e in
-          ap (listGot at n) (same levels (contents n (drop at s)) (omega (arith, length-drop at s)))
+      go zero (Sublist opening n) e = refl
+      go (suc levels) (Sublist opening n) e =
+          let k = contents-shorter (drop at s) opening n e in
+          ap (listGot at opening n) (same levels (contents opening n (drop at s)) (omega (arith, length-drop at s)))
       go zero CutSublist e = refl
       go (suc levels) CutSublist e = refl
 
   third-same : (kind : Kind) (at : ℕ) → thirdAt R levels s kind at ≡ thirdAt R′ levels s kind at
   unfolding thirdAt
-  third-same (Atom class limits) at = field-same at
-  third-same Over at = field-same at
-  third-same Under at = field-same at
+  third-same (Scripted base) at = field-same at
   third-same (Fraction bar) at = refl
 
   noad-same : (kind : Kind) → noadAt R levels s kind ≡ noadAt R′ levels s kind
@@ -325,7 +320,7 @@ module _ (R R′ : Reader) (levels : ℕ) (s : List ℕ)
       let is = item-got R′ levels s i size e in
       let some = size-some (Below R′ levels) s (openingOf s) i (is .0) in
       ap (before i size) (same levels (drop size s) (omega (arith, length-drop size s, is .1, size-fits s)))
-  rest-same (stopped number place) e = refl
+  rest-same (stopped why place) e = refl
 
 list-same : (R R′ : Reader) (levels : ℕ) (s : List ℕ) →
     ((d : ℕ) (r : List ℕ) → length r < length s → R d r ≡ R′ d r) → listBy R levels s ≡ listBy R′ levels s
@@ -371,7 +366,7 @@ before-good : (i : Item) (size : ℕ) (x : Read) (l : Items) → before i size x
     (r : Items) × (x ≡ good r) × (l ≡ cons i r)
 unfolding before
 before-good i size (good r) l e = (r, refl, (cc))
-before-good i size (fault number place) l e = fault-good e
+before-good i size (fault why place) l e = fault-good e
 
 pub list-good : (levels : ℕ) (s : List ℕ) (l : Items) → 0 < length s → read levels s ≡ good l → ListIs levels s l
 unfolding restBy
@@ -388,7 +383,7 @@ list-good levels s l pos e = go (itemBy read levels s) refl (sym (read-some leve
           others-are = ap (λ (k : ℕ). read levels (drop k s)) (sym (is .1)) ∙ b .1;
           is = b .2;
         }
-    go (stopped number place) q e = fault-good e
+    go (stopped why place) q e = fault-good e
 
 pub good-list : (levels : ℕ) (s : List ℕ) (l : Items) → 0 < length s → ListIs levels s l → read levels s ≡ good l
 unfolding restBy before

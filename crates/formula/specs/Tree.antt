@@ -5,8 +5,10 @@
 -- Assumes nothing.
 use Prim.Native.Nat.{ℕ, _+_}
 use lib.IntN.{ℤ}
+use Rattle.formula.specs.declared.Base.{Base}
+use Rattle.formula.specs.declared.Base.the-variants.{Atom, Over, Under}
 use Rattle.formula.specs.declared.Kind.{Kind}
-use Rattle.formula.specs.declared.Kind.the-variants.{Atom, Over, Under, Fraction}
+use Rattle.formula.specs.declared.Kind.the-variants.{Scripted, Fraction}
 
 mutual
   pub data Items : Type 0 where
@@ -23,10 +25,13 @@ mutual
     list : Items → Field
 
 -- mark and what stands before the fields: class and limits, nothing, or the bar
+abbrev pub baseBytes : Base → ℕ
+baseBytes (Atom class limits) = 4
+baseBytes Over = 2
+baseBytes Under = 2
+
 abbrev pub openingBytes : Kind → ℕ
-openingBytes (Atom class limits) = 4
-openingBytes Over = 2
-openingBytes Under = 2
+openingBytes (Scripted base) = baseBytes base
 openingBytes (Fraction bar) = 3
 
 -- mark and four bytes
@@ -43,9 +48,7 @@ listOpeningBytes = 3
 
 -- a fraction has no third field
 abbrev pub thirdBytes : Kind → ℕ → ℕ
-thirdBytes (Atom class limits) n = n
-thirdBytes Over n = n
-thirdBytes Under n = n
+thirdBytes (Scripted base) n = n
 thirdBytes (Fraction bar) n = 0
 
 unfoldable mutual

@@ -3,14 +3,16 @@
 ghost use mathlib.Core.Path.{_≡_};
 ghost use mathlib.Core.Bool.{_&&_};
 ghost use mathlib.Core.Option.{some};
-ghost use Prim.Native.Nat.{_+_, _*_, _^_, _≤_, _<_};
+ghost use Prim.Native.Nat.{_+_, _*_, _^_, _<_};
 ghost use lib.Dec.{eqb};
-ghost use lib.ListN.{length, getElem?};
+ghost use lib.ListN.{getElem?};
 ghost use Rattle.scaled.specs.Words.{signedWord};
-ghost use Rattle.formula.specs.Tree.{openingBytes};
-ghost use Rattle.formula.specs.Heads.{markOf, classes, limitKinds, isOp, isDisplayOnly, atomOf, atomOpening, fractionOpening, kernWithin, kernOpening, opens, openingOf, symbolHead, listHead, fieldHead};
-ghost use Rattle.formula.specs.Places.{headBytes, hasThird, behind};
+ghost use Rattle.formula.specs.Tree.{baseBytes, openingBytes};
+ghost use Rattle.formula.specs.Marks.{markOf};
+ghost use Rattle.formula.specs.Heads.{classes, limitKinds, isOp, isDisplayOnly, atomOf, atomOpening, fractionOpening, kernWithin, kernOpening, opens, openingOf, symbolHead, listHead, fieldHead};
+ghost use Rattle.formula.specs.Places.{headBytes, hasThird};
 use crate::Bar;
+use crate::Base;
 use crate::Class;
 use crate::FieldHead;
 use crate::Kind;
@@ -19,11 +21,28 @@ use crate::Mark;
 use crate::Opening;
 use scaled::Sp;
 
+// A kern's mark and its four bytes.
+pub const KERN_BYTES: usize = 6;
+
 const LEAST_KERN: i64 = -8_388_607;
 
 const GREATEST_KERN: i64 = 8_388_607;
 
 const GREATEST_FAMILY: u8 = 15;
+
+// A list's kind byte and its length.
+const LIST_OPENING_BYTES: usize = 3;
+
+// The letters of the marks, and the marks in the same order; most items are atoms.
+const LETTERS: [[u8; 2]; 5] = [
+    [b'A', b'T'],
+    [b'O', b'V'],
+    [b'U', b'N'],
+    [b'F', b'R'],
+    [b'K', b'N'],
+];
+
+const MARKS: [Mark; 5] = [Mark::AT, Mark::OV, Mark::UN, Mark::FR, Mark::KN];
 
 // What opens with the first byte of s.
 pub fn opening(s: &[u8]) -> Opening
@@ -41,8 +60,8 @@ fn opened(mark: Mark, s: &[u8]) -> Opening
 {
     match mark {
         Mark::AT => atom_opening(s),
-        Mark::OV => Opening::Fields(Kind::Over),
-        Mark::UN => Opening::Fields(Kind::Under),
+        Mark::OV => Opening::Fields(Kind::Scripted(Base::Over)),
+        Mark::UN => Opening::Fields(Kind::Scripted(Base::Under)),
         Mark::FR => fraction_opening(s),
         Mark::KN => kern_opening(s),
         Mark::Unknown => Opening::NoItem,
@@ -54,21 +73,27 @@ pub fn opening_bytes(kind: Kind) -> usize
     ensures { λ r. ⌜ r ≡ openingBytes kind ⌝ }
 {
     match kind {
-        Kind::Atom(_, _) => 4,
-        Kind::Over => 2,
-        Kind::Under => 2,
+        Kind::Scripted(base) => base_bytes(base),
         Kind::Fraction(_) => 3,
     }
 }
 
-// A fraction has two fields, any other kind three.
+fn base_bytes(base: Base) -> usize
+    ensures { λ r. ⌜ r ≡ baseBytes base ⌝ }
+{
+    match base {
+        Base::Atom(_, _) => 4,
+        Base::Over => 2,
+        Base::Under => 2,
+    }
+}
+
+// A fraction has two fields, a base with scripts three.
 pub fn has_third(kind: Kind) -> bool
     ensures { λ r. ⌜ r ≡ hasThird kind ⌝ }
 {
     match kind {
-        Kind::Atom(_, _) => true,
-        Kind::Over => true,
-        Kind::Under => true,
+        Kind::Scripted(_) => true,
         Kind::Fraction(_) => false,
     }
 }
@@ -82,20 +107,12 @@ fn both(a: u8, b: u8, x: u8, y: u8) -> bool
 fn mark(a: u8, b: u8) -> Mark
     ensures { λ r. ⌜ r ≡ markOf a b ⌝ }
 {
-    if both(a, b, b'A', b'T') {
-        return Mark::AT;
-    }
-    if both(a, b, b'O', b'V') {
-        return Mark::OV;
-    }
-    if both(a, b, b'U', b'N') {
-        return Mark::UN;
-    }
-    if both(a, b, b'F', b'R') {
-        return Mark::FR;
-    }
-    if both(a, b, b'K', b'N') {
-        return Mark::KN;
+    let mut i: usize = 0;
+    while i < MARKS.len() {
+        if both(a, b, LETTERS[i][0], LETTERS[i][1]) {
+            return MARKS[i];
+        }
+        i += 1;
     }
     Mark::Unknown
 }
@@ -122,10 +139,10 @@ fn atom(class: u8, limits: u8) -> Opening
     let c = class_of(class);
     let l = limits_of(limits);
     if is_op(c) {
-        return Opening::Fields(Kind::Atom(c, l));
+        return Opening::Fields(Kind::Scripted(Base::Atom(c, l)));
     }
     if is_display_only(l) {
-        return Opening::Fields(Kind::Atom(c, l));
+        return Opening::Fields(Kind::Scripted(Base::Atom(c, l)));
     }
     Opening::NoItem
 }
@@ -273,17 +290,9 @@ pub fn field_bytes(head: FieldHead) -> usize
         FieldHead::NoField => 0,
         FieldHead::Empty => 1,
         FieldHead::Symbol(_, _) => 3,
-        FieldHead::Sublist(n) => 3 + n,
+        FieldHead::Sublist(opening, n) => opening + n,
         FieldHead::CutSublist => 0,
     }
-}
-
-// The place behind the field whose kind byte stands at `at` of its item.
-pub fn behind(s: &[u8], at: usize) -> usize
-    requires { ⌜ at ≤ length (now s) ⌝ }
-    ensures { λ r. ⌜ r ≡ behind (now (s .entry)) at ⌝ }
-{
-    at + field_bytes(field_head(&s[at..]))
 }
 
 fn symbol_head(s: &[u8]) -> FieldHead
@@ -309,5 +318,5 @@ fn list_head(s: &[u8]) -> FieldHead
     if n > s.len() - 2 {
         return FieldHead::CutSublist;
     }
-    FieldHead::Sublist(n)
+    FieldHead::Sublist(LIST_OPENING_BYTES, n)
 }

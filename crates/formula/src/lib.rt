@@ -1,5 +1,5 @@
-// The formula's bytes. What they mean, and where they break a rule, is defined in specs/Tree.antt, specs/Heads.antt and
-// specs/Reading.antt; specs/Places.antt and the laws beside it are for a walk over a formula that reads.
+// The formula's bytes. What they mean, and where they break a rule, is defined in specs/Tree.antt, specs/Marks.antt,
+// specs/Heads.antt and specs/Reading.antt; specs/Places.antt and the laws beside it are for a walk over a formula that reads.
 
 use scaled::Sp;
 
@@ -31,11 +31,16 @@ pub enum Bar {
     Without,
 }
 
-// What an item with fields is.
-pub enum Kind {
+// What the scripts of an item are set to.
+pub enum Base {
     Atom(Class, Limits),
     Over,
     Under,
+}
+
+// What an item with fields is: a base with scripts, or a fraction.
+pub enum Kind {
+    Scripted(Base),
     Fraction(Bar),
 }
 
@@ -56,23 +61,30 @@ pub enum Opening {
     Kern(Sp),
 }
 
-// What a field says at its kind byte. A list has its number of bytes, or its length is cut off or passes the end.
+// What a field says at its kind byte. A list has the number of bytes before its items and that of its items, or its
+// length is cut off or passes the end.
 pub enum FieldHead {
     NoField,
     Empty,
     Symbol(u8, u8),
-    Sublist(usize),
+    Sublist(usize, usize),
     CutSublist,
 }
 
-// What reading a list comes to: a fault has its number and its place.
+// What keeps a formula from being read: an item that can't be read, or a list too deep.
+pub enum Fault {
+    Unreadable,
+    TooDeep,
+}
+
+// What reading a list comes to: a fault has its place.
 pub enum Verdict {
     Good,
-    Fault(u8, usize),
+    Faulty(Fault, usize),
 }
 
 // What reading an item or a field comes to: the place behind it, or a fault.
 pub enum Step {
     Next(usize),
-    Stop(u8, usize),
+    Stop(Fault, usize),
 }

@@ -7,11 +7,13 @@ ghost use Rattle.formula.specs.declared.Opening.the-variants.{Fields};
 ghost use Rattle.formula.specs.Heads.{openingOf};
 ghost use Rattle.formula.specs.Reading.{fieldAt, noadAt, itemBy, read, readFormula};
 ghost use Rattle.formula.specs.Verdicts.{told, stepOf};
+use crate::Fault;
 use crate::FieldHead;
 use crate::Kind;
 use crate::Opening;
 use crate::Step;
 use crate::Verdict;
+use crate::heads::KERN_BYTES;
 use crate::heads::field_head;
 use crate::heads::has_third;
 use crate::heads::opening;
@@ -21,16 +23,12 @@ const FORMULA_LIMIT: usize = 4_096;
 
 const DEPTH_LIMIT: usize = 16;
 
-const UNREADABLE: u8 = 3;
-
-const TOO_DEEP: u8 = 4;
-
 // The formula itself is the first level.
 pub fn read_formula(s: &[u8]) -> Verdict
     ensures { λ r. ⌜ r ≡ told (readFormula (now (s .entry))) ⌝ }
 {
     if s.len() > FORMULA_LIMIT {
-        return Verdict::Fault(UNREADABLE, 0);
+        return Verdict::Faulty(Fault::Unreadable, 0);
     }
     read_list(s, DEPTH_LIMIT - 1)
 }
@@ -46,8 +44,8 @@ pub fn read_list(s: &[u8], levels: usize) -> Verdict
             Step::Next(size) => {
                 at += size;
             }
-            Step::Stop(number, place) => {
-                return Verdict::Fault(number, at + place);
+            Step::Stop(fault, place) => {
+                return Verdict::Faulty(fault, at + place);
             }
         }
     }
@@ -60,9 +58,9 @@ fn read_item(s: &[u8], levels: usize) -> Step
 {
     let o = opening(s);
     match o {
-        Opening::NoItem => Step::Stop(UNREADABLE, 0),
+        Opening::NoItem => Step::Stop(Fault::Unreadable, 0),
         Opening::Fields(kind) => read_noad(s, kind, levels),
-        Opening::Kern(_) => Step::Next(6),
+        Opening::Kern(_) => Step::Next(KERN_BYTES),
     }
 }
 
@@ -92,26 +90,26 @@ fn read_field(s: &[u8], at: usize, levels: usize) -> Step
 {
     let h = field_head(&s[at..]);
     match h {
-        FieldHead::NoField => Step::Stop(UNREADABLE, 0),
+        FieldHead::NoField => Step::Stop(Fault::Unreadable, 0),
         FieldHead::Empty => Step::Next(at + 1),
         FieldHead::Symbol(_, _) => Step::Next(at + 3),
-        FieldHead::Sublist(n) => {
+        FieldHead::Sublist(opening, n) => {
             if levels == 0 {
-                return Step::Stop(TOO_DEEP, at);
+                return Step::Stop(Fault::TooDeep, at);
             }
-            let start = at + 3;
+            let start = at + opening;
             let end = start + n;
             let v = read_list(&s[start..end], levels - 1);
             match v {
                 Verdict::Good => Step::Next(end),
-                Verdict::Fault(number, place) => Step::Stop(number, start + place),
+                Verdict::Faulty(fault, place) => Step::Stop(fault, start + place),
             }
         }
         FieldHead::CutSublist => {
             if levels == 0 {
-                return Step::Stop(TOO_DEEP, at);
+                return Step::Stop(Fault::TooDeep, at);
             }
-            Step::Stop(UNREADABLE, 0)
+            Step::Stop(Fault::Unreadable, 0)
         }
     }
 }

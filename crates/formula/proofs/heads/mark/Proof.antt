@@ -1,110 +1,87 @@
--- `mark` meets its contract: the tests that failed and the one that held decide `markOf`.
+-- `mark` meets its contract, whatever the rows of the table are: the code's tables of letters and of marks are the
+-- definition's rows. The loop's invariant: the rows from `i` on have the mark.
 -- Assumes nothing.
-use mathlib.Core.Path.{sym, _∙_}
+use mathlib.Core.Path.{_≡_, refl, sym, ap, _∙_}
+use mathlib.Core.Bool.{Bool, true, false, _&&_}
+use mathlib.Core.List.{List, [], _∷_, map}
+use Prim.Native.Nat.{ℕ, zero, suc, _-_, _≤_, _<_}
+use native.Mathlib.Numerals.{add-one}
+use native.Mathlib.Omega.{arith}
+use lib.Dec.{eqb}
+use lib.ListN.{length, drop, getD}
+use lib.Seq.{drop-nil}
 use borrow.Author.Needs.{needs}
-use Rattle.formula.specs.Heads.{markOf}
+use Rattle.formula.specs.declared.Mark.{Mark}
+use Rattle.formula.specs.declared.Mark.the-variants.{AT, Unknown}
+use Rattle.formula.specs.Marks.{Row, rows, markIn, markOf}
 use Rattle.formula.proofs.heads.mark.Statement.{statement}
 use Rattle.formula.proofs.heads.mark.Tie as tie
 
-both-requires : tie.Need-both-requires
-both-requires c κs = search needs
+-- the code's tables
+abbrev letters : List Row → List (List ℕ)
+letters = map (λ (r : Row). r .first ∷ r .second ∷ [])
 
-returns : tie.Need-returns
+abbrev marks : List Row → List Mark
+marks = map (λ (r : Row). r .mark)
+
+-- the rows from a place on: the row there if it has both letters, else those behind it
+row-by : (t : Bool) (rs : List Row) (i : ℕ) (d : Mark) (a b : ℕ) → i < length rs →
+    let two = getD (letters rs) i [] in
+    (eqb a (getD two 0 0) && eqb b (getD two 1 0)) ≡ t →
+    markIn (drop i rs) a b ≡ elim t [ true ↦ getD (marks rs) i d | false ↦ markIn (drop (suc i) rs) a b ]
+unfolding markIn
+row-by t [] i d a b low e = absurd (omega arith)
+row-by t (r ∷ rs) zero d a b low e = ap (λ (t : Bool). elim t [ true ↦ r .mark | false ↦ markIn rs a b ]) e
+row-by t (r ∷ rs) (suc i) d a b low e = row-by t rs i d a b (omega arith) e
+
+no-row : (rs : List Row) (i a b : ℕ) → length rs ≤ i → markIn (drop i rs) a b ≡ Unknown
+unfolding markIn
+no-row [] i a b past = ap (λ (rs : List Row). markIn rs a b) (drop-nil i)
+no-row (r ∷ rs) zero a b past = absurd (omega arith)
+no-row (r ∷ rs) (suc i) a b past = no-row rs i a b (omega arith)
+
+abbrev Inv-loop : tie.InvT-loop
+Inv-loop a b i₀ i = (i ≤ length rows) × (markIn (drop i rows) a b ≡ markOf a b)
+
+abbrev μ-loop : tie.MeasureT-loop
+μ-loop a b i₀ i = length rows - i
+
+loop-holds : tie.Need-loop-holds Inv-loop μ-loop
 unfolding markOf
-returns c = simp (markOf, sym (c .before .both .ensures) ∙ c .if1 .taken)
+loop-holds c = (omega arith, refl)
 
-both-requires-2 : tie.Need-both-requires-2
-both-requires-2 c κs = search needs
+returns : tie.Need-returns Inv-loop μ-loop
+returns c =
+    let test = c .before .before in
+    let inside = test .before .before .before in
+    let is = sym (test .both .ensures) ∙ c .before .if1 .taken in
+    sym (row-by true rows _ AT _ _ (inside .loop-test .taken) is) ∙ inside .before .loop .inv .1
 
-returns-2 : tie.Need-returns-2
-unfolding markOf
-returns-2 c =
-    let first = c .before .before in
-    simp (
-      markOf,
-      sym (first .before .both .ensures) ∙ first .if1 .left,
-      sym (c .before .both2 .ensures) ∙ c .if2 .taken,
-    )
-
-both-requires-3 : tie.Need-both-requires-3
-both-requires-3 c κs = search needs
-
-returns-3 : tie.Need-returns-3
-unfolding markOf
-returns-3 c =
-    let second = c .before .before in
-    let first = second .before .before in
-    simp (
-      markOf,
-      sym (first .before .both .ensures) ∙ first .if1 .left,
-      sym (second .before .both2 .ensures) ∙ second .if2 .left,
-      sym (c .before .both3 .ensures) ∙ c .if3 .taken,
-    )
-
-both-requires-4 : tie.Need-both-requires-4
-both-requires-4 c κs = search needs
-
-returns-4 : tie.Need-returns-4
-unfolding markOf
-returns-4 c =
-    let third = c .before .before in
-    let second = third .before .before in
-    let first = second .before .before in
-    simp (
-      markOf,
-      sym (first .before .both .ensures) ∙ first .if1 .left,
-      sym (second .before .both2 .ensures) ∙ second .if2 .left,
-      sym (third .before .both3 .ensures) ∙ third .if3 .left,
-      sym (c .before .both4 .ensures) ∙ c .if4 .taken,
-    )
-
-both-requires-5 : tie.Need-both-requires-5
-both-requires-5 c κs = search needs
-
-returns-5 : tie.Need-returns-5
-unfolding markOf
-returns-5 c =
-    let fourth = c .before .before in
-    let third = fourth .before .before in
-    let second = third .before .before in
-    let first = second .before .before in
-    simp (
-      markOf,
-      sym (first .before .both .ensures) ∙ first .if1 .left,
-      sym (second .before .both2 .ensures) ∙ second .if2 .left,
-      sym (third .before .both3 .ensures) ∙ third .if3 .left,
-      sym (fourth .before .both4 .ensures) ∙ fourth .if4 .left,
-      sym (c .before .both5 .ensures) ∙ c .if5 .taken,
-    )
-
-returns-6 : tie.Need-returns-6
-unfolding markOf
-returns-6 c =
-    let fourth = c .before .before in
-    let third = fourth .before .before in
-    let second = third .before .before in
-    let first = second .before .before in
-    simp (
-      markOf,
-      sym (first .before .both .ensures) ∙ first .if1 .left,
-      sym (second .before .both2 .ensures) ∙ second .if2 .left,
-      sym (third .before .both3 .ensures) ∙ third .if3 .left,
-      sym (fourth .before .both4 .ensures) ∙ fourth .if4 .left,
-      sym (c .before .both5 .ensures) ∙ c .if5 .left,
-    )
+loop-again : tie.Need-loop-again Inv-loop μ-loop
+loop-again c =
+    let test = c .before in
+    let inside = test .before .before .before in
+    let is = sym (test .both .ensures) ∙ c .if1 .left in
+    let behind = row-by false rows _ AT _ _ (inside .loop-test .taken) is in
+    (omega arith, rw add-one (sym behind ∙ inside .before .loop .inv .1))
 
 pub mark-spec : {M : Type 1} → statement M
 mark-spec =
     tie.close
     (tie.spec
-    both-requires
+    Inv-loop
+    μ-loop
+    loop-holds
+    (λ c. search needs)
+    (λ c. search needs)
+    (λ c. search needs)
+    (λ c. search needs)
+    (λ c. search needs)
+    (λ c. search needs)
+    (λ c κs. search needs)
+    (λ c. search needs)
     returns
-    both-requires-2
-    returns-2
-    both-requires-3
-    returns-3
-    both-requires-4
-    returns-4
-    both-requires-5
-    returns-5
-    returns-6)
+    (λ c. search needs)
+    (λ c. search needs)
+    loop-again
+    (λ c. sym (no-row rows _ _ _ (c .loop-test .left)) ∙ c .before .loop .inv .1))

@@ -10,15 +10,18 @@ use lib.ListN.{length, take, drop}
 use borrow.Author.Needs.{needs}
 use borrow.Fn.Kinds.{In}
 use borrow.Fn.PlainCycle.{Measures, is, falls, and}
-use Rattle.formula.specs.declared.Opening.the-variants.{NoItem, Fields, Kern}
-use Rattle.formula.specs.declared.FieldHead.the-variants.{NoField, Empty, Symbol, Sublist}
-use Rattle.formula.specs.declared.Verdict.the-variants.{Good, Fault}
+use Rattle.formula.specs.declared.Opening.{Opening}
+use Rattle.formula.specs.declared.Opening.the-variants.{Fields}
+use Rattle.formula.specs.declared.FieldHead.{FieldHead}
+use Rattle.formula.specs.declared.FieldHead.the-variants.{Sublist}
+use Rattle.formula.specs.declared.Verdict.the-variants.{Good, Faulty}
 use Rattle.formula.specs.declared.Step.the-variants.{Next}
 use Rattle.formula.specs.Tree.{openingBytes}
 use Rattle.formula.specs.Heads.{fieldHead}
-use Rattle.formula.specs.Reading.{fieldBy, fieldAt, openedBy, read}
+use Rattle.formula.specs.Reading.{fieldBy, fieldAt, openedBy, itemBy, read}
 use Rattle.formula.specs.Verdicts.{told, stepOf}
-use Rattle.formula.specs.HeadLaws.{opening-fits}
+use Rattle.formula.specs.Places.{headBytes}
+use Rattle.formula.specs.HeadLaws.{list-opening, opening-fits}
 use Rattle.formula.proofs.VerdictLaws.{later, later-zero, fault-in, next-in, field-step, field-fits, field-deep, cut-deep, cut-short, field-list, noad-first, noad-second, noad-three, noad-two, item-step, list-next, list-stop, list-done}
 use Rattle.formula.proofs.reading.+read_field+read_item+read_list+read_noad.{statement}
 use Rattle.formula.proofs.reading.+read_field+read_item+read_list+read_noad.Tie.{close}
@@ -94,131 +97,49 @@ read-noad-claims t = (opening-bytes-reads.Asked, opening-bytes-reads.Learnt, rea
 
 -- ---- read_field
 
--- in the arm of a list of n bytes
-rf-head : (t : ℕ) (c : read-field-lts.After-h (read-field-claims t) (read-field-at t) read-field.Post) →
-    let a = c .before .before .before .before .before .args in
-    fieldHead (take (length (a .s .now) - a .at) (drop (a .at) (a .s .now))) ≡ Sublist (c .h .given .0 .0)
-rf-head t c = sym (c .before .before .field-head .ensures) ∙ c .h .given .1
+-- the head that is matched is that of the field, by which the field lies in its item and says what it says
+module _ (t : ℕ) (c : read-field-lts.After-field-head (read-field-claims t) (read-field-at t) read-field.Post) (h : FieldHead) (e : c .field-head .result ≡ h) where
+  rf-is : let a = c .before .before .before .args in fieldHead (take (length (a .s .now) - a .at) (drop (a .at) (a .s .now))) ≡ h
+  rf-is = sym (c .field-head .ensures) ∙ e
 
-rf-fits : (t : ℕ) (c : read-field-lts.After-h (read-field-claims t) (read-field-at t) read-field.Post) →
-    let a = c .before .before .before .before .before .args in
-    a .at + (3 + c .h .given .0 .0) ≤ length (a .s .now)
-rf-fits t c =
-    let start = c .before .before .before .before .before in
-    let a = start .args in
-    field-fits (a .levels) (a .at) (a .s .now) (Sublist (c .h .given .0 .0)) (rf-head t c) (start .pre .1)
+  rf-fits : let a = c .before .before .before .args in a .at + headBytes h ≤ length (a .s .now)
+  rf-fits =
+      let start = c .before .before .before in
+      let a = start .args in
+      field-fits (a .levels) (a .at) (a .s .now) h rf-is (start .pre .1)
 
-read-field-sub-field-head : (t : ℕ) → read-field-lts.Need-sub-field-head (read-field-claims t) (read-field-at t) read-field.Post
-read-field-sub-field-head t c = search needs
+  rf-says : let a = c .before .before .before .args in
+      stepOf (fieldBy read (a .levels) (a .at) (drop (a .at) (a .s .now)) h) ≡ stepOf (fieldAt read (a .levels) (a .s .now) (a .at))
+  rf-says = sym (field-step _ _ _ h rf-is)
 
-read-field-part-field-head-start : (t : ℕ) → read-field-lts.Need-part-field-head-start (read-field-claims t) (read-field-at t) read-field.Post
-read-field-part-field-head-start t c = search needs
+-- in the arm of a list of n bytes behind its opening
+module _ (t : ℕ) (c : read-field-lts.After-h (read-field-claims t) (read-field-at t) read-field.Post) where
+  rf-list : let a = c .before .before .before .before .before .args in
+      fieldHead (take (length (a .s .now) - a .at) (drop (a .at) (a .s .now))) ≡ Sublist (c .h .given .0 .0) (c .h .given .0 .1 .0)
+  rf-list = rf-is t (c .before .before) _ (c .h .given .1)
 
-read-field-part-field-head-end : (t : ℕ) → read-field-lts.Need-part-field-head-end (read-field-claims t) (read-field-at t) read-field.Post
-read-field-part-field-head-end t c = search needs
+  rf-in : let a = c .before .before .before .before .before .args in
+      (0 < c .h .given .0 .0) × (a .at + (c .h .given .0 .0 + c .h .given .0 .1 .0) ≤ length (a .s .now))
+  rf-in = (omega (arith, list-opening _ _ _ rf-list), rf-fits t (c .before .before) _ (c .h .given .1))
 
-read-field-field-head-requires : (t : ℕ) → read-field-lts.Need-field-head-requires (read-field-claims t) (read-field-at t) read-field.Post
-read-field-field-head-requires t c κs = search needs
-
-read-field-enum-told : (t : ℕ) → read-field-lts.Need-enum-told (read-field-claims t) (read-field-at t) read-field.Post
-read-field-enum-told t c = search needs
-
-read-field-enum-told-2 : (t : ℕ) → read-field-lts.Need-enum-told-2 (read-field-claims t) (read-field-at t) read-field.Post
-read-field-enum-told-2 t c = search needs
-
-read-field-add-t16 : (t : ℕ) → read-field-lts.Need-add-t16 (read-field-claims t) (read-field-at t) read-field.Post
-read-field-add-t16 t c =
-    let start = c .before .before .before .before .before in
-    let a = start .args in
-    let is = sym (c .before .before .field-head .ensures) ∙ c .enum-told2 .given .1 in
-    omega (arith, field-fits (a .levels) (a .at) (a .s .now) Empty is (start .pre .1))
-
-read-field-enum-told-3 : (t : ℕ) → read-field-lts.Need-enum-told-3 (read-field-claims t) (read-field-at t) read-field.Post
-read-field-enum-told-3 t c = search needs
-
-read-field-add-t17 : (t : ℕ) → read-field-lts.Need-add-t17 (read-field-claims t) (read-field-at t) read-field.Post
-read-field-add-t17 t c =
-    let start = c .before .before .before .before .before in
-    let a = start .args in
-    let is = sym (c .before .before .field-head .ensures) ∙ c .enum-told3 .given .1 in
-    omega (arith, field-fits (a .levels) (a .at) (a .s .now) (Symbol (c .enum-told3 .given .0 .0) (c .enum-told3 .given .0 .1 .0)) is (start .pre .1))
-
-read-field-enum-known-h : (t : ℕ) → read-field-lts.Need-enum-known-h (read-field-claims t) (read-field-at t) read-field.Post
-read-field-enum-known-h t c = search needs
-
-read-field-returns : (t : ℕ) → read-field-lts.Need-returns (read-field-claims t) (read-field-at t) read-field.Post
-read-field-returns t c =
-    let list = c .before .before in
-    let a = list .before .before .before .before .before .args in
-    sym (field-deep (a .levels) (a .at) (a .s .now) _ (rf-head t list) (c .if1 .taken))
-
-read-field-add-start : (t : ℕ) → read-field-lts.Need-add-start (read-field-claims t) (read-field-at t) read-field.Post
-read-field-add-start t c = omega (arith, rf-fits t (c .before .before))
-
-read-field-add-end : (t : ℕ) → read-field-lts.Need-add-end (read-field-claims t) (read-field-at t) read-field.Post
-read-field-add-end t c = omega (arith, rf-fits t (c .before .before))
-
-read-field-sub-read-list : (t : ℕ) → read-field-lts.Need-sub-read-list (read-field-claims t) (read-field-at t) read-field.Post
-read-field-sub-read-list t c = omega (arith, rf-fits t (c .before .before))
-
-read-field-part-read-list-start : (t : ℕ) → read-field-lts.Need-part-read-list-start (read-field-claims t) (read-field-at t) read-field.Post
-read-field-part-read-list-start t c = omega (arith, rf-fits t (c .before .before))
-
-read-field-part-read-list-end : (t : ℕ) → read-field-lts.Need-part-read-list-end (read-field-claims t) (read-field-at t) read-field.Post
-read-field-part-read-list-end t c = omega (arith, rf-fits t (c .before .before))
-
-read-field-sub-read-list-2 : (t : ℕ) → read-field-lts.Need-sub-read-list-2 (read-field-claims t) (read-field-at t) read-field.Post
-read-field-sub-read-list-2 t c = omega arith
-
-read-field-read-list-requires : (t : ℕ) → read-field-lts.Need-read-list-requires (read-field-claims t) (read-field-at t) read-field.Post
-read-field-read-list-requires t c κs = (omega (arith, c .read-list-arg .given .2, rf-fits t (c .before .before .before)), tt)
-
-read-field-enum-told-4 : (t : ℕ) → read-field-lts.Need-enum-told-4 (read-field-claims t) (read-field-at t) read-field.Post
-read-field-enum-told-4 t c = search needs
-
-read-field-enum-known-v : (t : ℕ) → read-field-lts.Need-enum-known-v (read-field-claims t) (read-field-at t) read-field.Post
-read-field-enum-known-v t c = search needs
-
-read-field-add-t25 : (t : ℕ) → read-field-lts.Need-add-t25 (read-field-claims t) (read-field-at t) read-field.Post
-read-field-add-t25 t c =
+read-field-add-t28 : (t : ℕ) → read-field-lts.Need-add-t28 (read-field-claims t) (read-field-at t) read-field.Post
+read-field-add-t28 t c =
     let call = c .before .before .before in
     let list = call .before .before .before .before in
     let says = fault-in _ _ _ _ (sym (call .read-list .ensures) ∙ c .before .v .given .1) in
-    omega (arith, says, call .before .read-list-arg .given .2, rf-fits t list)
-
-read-field-enum-told-5 : (t : ℕ) → read-field-lts.Need-enum-told-5 (read-field-claims t) (read-field-at t) read-field.Post
-read-field-enum-told-5 t c = search needs
-
-read-field-returns-2 : (t : ℕ) → read-field-lts.Need-returns-2 (read-field-claims t) (read-field-at t) read-field.Post
-read-field-returns-2 t c =
-    let start = c .before .before .before .before .before .before in
-    let a = start .args in
-    let is = sym (c .before .before .before .field-head .ensures) ∙ c .before .enum-told5 .given .1 in
-    sym (cut-deep (a .levels) (a .at) (a .s .now) is (c .if2 .taken))
+    omega (arith, says, call .before .read-list-arg .given .2, rf-in t list)
 
 read-field-returns-3 : (t : ℕ) → read-field-lts.Need-returns-3 (read-field-claims t) (read-field-at t) read-field.Post
 unfolding fieldBy stepOf
-read-field-returns-3 t c =
-    let start = c .before .before .before .before .before in
-    let a = start .args in
-    let is = sym (c .before .before .field-head .ensures) ∙ c .enum-told .given .1 in
-    sym (field-step (a .levels) (a .at) (a .s .now) NoField is)
+read-field-returns-3 t c = rf-says t (c .before .before) _ (c .enum-told .given .1)
 
 read-field-returns-4 : (t : ℕ) → read-field-lts.Need-returns-4 (read-field-claims t) (read-field-at t) read-field.Post
 unfolding fieldBy stepOf
-read-field-returns-4 t c =
-    let start = c .before .before .before .before .before in
-    let a = start .args in
-    let is = sym (c .before .before .field-head .ensures) ∙ c .enum-told2 .given .1 in
-    sym (field-step (a .levels) (a .at) (a .s .now) Empty is)
+read-field-returns-4 t c = rf-says t (c .before .before) _ (c .enum-told2 .given .1)
 
 read-field-returns-5 : (t : ℕ) → read-field-lts.Need-returns-5 (read-field-claims t) (read-field-at t) read-field.Post
 unfolding fieldBy stepOf
-read-field-returns-5 t c =
-    let start = c .before .before .before .before .before in
-    let a = start .args in
-    let is = sym (c .before .before .field-head .ensures) ∙ c .enum-told3 .given .1 in
-    sym (field-step (a .levels) (a .at) (a .s .now) (Symbol (c .enum-told3 .given .0 .0) (c .enum-told3 .given .0 .1 .0)) is)
+read-field-returns-5 t c = rf-says t (c .before .before) _ (c .enum-told3 .given .1)
 
 read-field-returns-6 : (t : ℕ) → read-field-lts.Need-returns-6 (read-field-claims t) (read-field-at t) read-field.Post
 read-field-returns-6 t c =
@@ -226,7 +147,7 @@ read-field-returns-6 t c =
     let list = call .before .before .before .before in
     let a = list .before .before .before .before .before .args in
     let says = sym (call .read-list .ensures) ∙ c .enum-told4 .given .1 in
-    sym (field-list (a .levels) (a .at) (a .s .now) _ Good (rf-head t list) (omega arith) says)
+    sym (field-list (a .levels) (a .at) (a .s .now) _ _ Good (rf-list t list) (omega arith) says)
 
 read-field-returns-7 : (t : ℕ) → read-field-lts.Need-returns-7 (read-field-claims t) (read-field-at t) read-field.Post
 read-field-returns-7 t c =
@@ -235,52 +156,26 @@ read-field-returns-7 t c =
     let a = list .before .before .before .before .before .args in
     let v = c .before .v .given in
     let says = sym (call .read-list .ensures) ∙ v .1 in
-    sym (field-list (a .levels) (a .at) (a .s .now) _ (Fault (v .0 .0) (v .0 .1 .0)) (rf-head t list) (omega arith) says)
-
-read-field-returns-8 : (t : ℕ) → read-field-lts.Need-returns-8 (read-field-claims t) (read-field-at t) read-field.Post
-read-field-returns-8 t c =
-    let start = c .before .before .before .before .before .before in
-    let a = start .args in
-    let is = sym (c .before .before .before .field-head .ensures) ∙ c .before .enum-told5 .given .1 in
-    sym (cut-short (a .levels) (a .at) (a .s .now) is (omega arith))
+    sym (field-list (a .levels) (a .at) (a .s .now) _ _ (Faulty (v .0 .0) (v .0 .1 .0)) (rf-list t list) (omega arith) says)
 
 -- ---- read_item
 
-read-item-opening-requires : (t : ℕ) → read-item-lts.Need-opening-requires (read-item-claims t) (read-item-at t) read-item.Post
-read-item-opening-requires t c κs = search needs
-
-read-item-enum-told : (t : ℕ) → read-item-lts.Need-enum-told (read-item-claims t) (read-item-at t) read-item.Post
-read-item-enum-told t c = search needs
-
-read-item-enum-known-o : (t : ℕ) → read-item-lts.Need-enum-known-o (read-item-claims t) (read-item-at t) read-item.Post
-read-item-enum-known-o t c = search needs
-
-read-item-read-noad-requires : (t : ℕ) → read-item-lts.Need-read-noad-requires (read-item-claims t) (read-item-at t) read-item.Post
-read-item-read-noad-requires t c κs = (omega arith, sym (c .before .before .before .opening .ensures) ∙ c .before .o .given .1)
-
-read-item-enum-told-2 : (t : ℕ) → read-item-lts.Need-enum-told-2 (read-item-claims t) (read-item-at t) read-item.Post
-read-item-enum-told-2 t c = search needs
+-- the item says what it says by the opening that is matched
+ri-says : (t : ℕ) (c : read-item-lts.After-opening (read-item-claims t) (read-item-at t) read-item.Post) (o : Opening) → c .opening .result ≡ o →
+    let a = c .before .before .args in stepOf (openedBy read (a .levels) (a .s .now) o) ≡ stepOf (itemBy read (a .levels) (a .s .now))
+ri-says t c o e = sym (item-step _ _ o (sym (c .opening .ensures) ∙ e))
 
 read-item-returns : (t : ℕ) → read-item-lts.Need-returns (read-item-claims t) (read-item-at t) read-item.Post
 unfolding openedBy stepOf
-read-item-returns t c =
-    let a = c .before .before .before .before .args in
-    sym (item-step (a .levels) (a .s .now) NoItem (sym (c .before .before .opening .ensures) ∙ c .enum-told .given .1))
+read-item-returns t c = ri-says t (c .before .before) _ (c .enum-told .given .1)
 
 read-item-returns-2 : (t : ℕ) → read-item-lts.Need-returns-2 (read-item-claims t) (read-item-at t) read-item.Post
 unfolding openedBy
-read-item-returns-2 t c =
-    let noad = c .before .before in
-    let a = noad .before .before .before .before .args in
-    let is = sym (noad .before .before .opening .ensures) ∙ noad .o .given .1 in
-    c .read-noad .ensures ∙ sym (item-step (a .levels) (a .s .now) (Fields (noad .o .given .0 .0)) is)
+read-item-returns-2 t c = let noad = c .before .before in c .read-noad .ensures ∙ ri-says t (noad .before .before) _ (noad .o .given .1)
 
 read-item-returns-3 : (t : ℕ) → read-item-lts.Need-returns-3 (read-item-claims t) (read-item-at t) read-item.Post
 unfolding openedBy stepOf
-read-item-returns-3 t c =
-    let a = c .before .before .before .before .args in
-    let is = sym (c .before .before .opening .ensures) ∙ c .enum-told2 .given .1 in
-    sym (item-step (a .levels) (a .s .now) (Kern (c .enum-told2 .given .0 .0)) is)
+read-item-returns-3 t c = ri-says t (c .before .before) _ (c .enum-told2 .given .1)
 
 -- ---- read_list
 
@@ -308,50 +203,11 @@ rl-stop : (t : ℕ) (c : read-list-lts.After-r2 (read-list-claims t) (read-list-
     let turn = c .before .before .before .before .before in
     let at = turn .loop .at in
     let a = turn .before .before .args in
-    (at + place ≤ length (a .s .now)) × (told (read (a .levels) (a .s .now)) ≡ Fault (c .r2 .given .0 .0) (at + place))
+    (at + place ≤ length (a .s .now)) × (told (read (a .levels) (a .s .now)) ≡ Faulty (c .r2 .given .0 .0) (at + place))
 rl-stop t c =
     let call = c .before .before in
     let inside = call .before .before in
     list-stop _ _ _ (inside .loop-test .taken) (inside .before .loop .inv .1) _ (call .read-item .ensures) _ _ (c .r2 .given .1)
-
-read-list-loop-holds : (t : ℕ) → read-list-lts.Need-loop-holds (read-list-claims t) (read-list-at t) read-list.Post read-list-Inv-loop read-list-μ-loop
-read-list-loop-holds t c = (omega arith, sym (later-zero _))
-
-read-list-sub-read-item : (t : ℕ) → read-list-lts.Need-sub-read-item (read-list-claims t) (read-list-at t) read-list.Post read-list-Inv-loop read-list-μ-loop
-read-list-sub-read-item t c = search needs
-
-read-list-part-read-item-start : (t : ℕ) → read-list-lts.Need-part-read-item-start (read-list-claims t) (read-list-at t) read-list.Post read-list-Inv-loop read-list-μ-loop
-read-list-part-read-item-start t c = search needs
-
-read-list-part-read-item-end : (t : ℕ) → read-list-lts.Need-part-read-item-end (read-list-claims t) (read-list-at t) read-list.Post read-list-Inv-loop read-list-μ-loop
-read-list-part-read-item-end t c = search needs
-
-read-list-read-item-requires : (t : ℕ) → read-list-lts.Need-read-item-requires (read-list-claims t) (read-list-at t) read-list.Post read-list-Inv-loop read-list-μ-loop
-read-list-read-item-requires t c κs = (omega (arith, c .read-item-arg .given .2), tt)
-
-read-list-enum-known-r : (t : ℕ) → read-list-lts.Need-enum-known-r (read-list-claims t) (read-list-at t) read-list.Post read-list-Inv-loop read-list-μ-loop
-read-list-enum-known-r t c = search needs
-
-read-list-add-at : (t : ℕ) → read-list-lts.Need-add-at (read-list-claims t) (read-list-at t) read-list.Post read-list-Inv-loop read-list-μ-loop
-read-list-add-at t c = omega (arith, rl-next t (c .before) .1)
-
-read-list-loop-less : (t : ℕ) → read-list-lts.Need-loop-less (read-list-claims t) (read-list-at t) read-list.Post read-list-Inv-loop read-list-μ-loop
-read-list-loop-less t c = omega (arith, rl-next t (c .before) .0, rl-next t (c .before) .1)
-
-read-list-loop-again : (t : ℕ) → read-list-lts.Need-loop-again (read-list-claims t) (read-list-at t) read-list.Post read-list-Inv-loop read-list-μ-loop
-read-list-loop-again t c = (rl-next t (c .before) .1, rl-next t (c .before) .2)
-
-read-list-enum-known-r-2 : (t : ℕ) → read-list-lts.Need-enum-known-r-2 (read-list-claims t) (read-list-at t) read-list.Post read-list-Inv-loop read-list-μ-loop
-read-list-enum-known-r-2 t c = search needs
-
-read-list-add-t13 : (t : ℕ) → read-list-lts.Need-add-t13 (read-list-claims t) (read-list-at t) read-list.Post read-list-Inv-loop read-list-μ-loop
-read-list-add-t13 t c = omega (arith, rl-stop t (c .before) .0)
-
-read-list-returns : (t : ℕ) → read-list-lts.Need-returns (read-list-claims t) (read-list-at t) read-list.Post read-list-Inv-loop read-list-μ-loop
-read-list-returns t c = sym (rl-stop t (c .before) .1)
-
-read-list-returns-2 : (t : ℕ) → read-list-lts.Need-returns-2 (read-list-claims t) (read-list-at t) read-list.Post read-list-Inv-loop read-list-μ-loop
-read-list-returns-2 t c = sym (list-done _ _ _ (c .loop-test .left) (c .before .loop .inv .1))
 
 -- ---- read_noad
 
@@ -392,32 +248,11 @@ rn-b t c =
     let says = sym (c .before .before .read-field2 .ensures) ∙ c .b .given .1 in
     (says, next-in _ _ _ _ (rn-a t (c .before .before .before .before) .1) says)
 
-read-noad-opening-bytes-requires : (t : ℕ) → read-noad-lts.Need-opening-bytes-requires (read-noad-claims t) (read-noad-at t) read-noad.Post
-read-noad-opening-bytes-requires t c κs = search needs
-
-read-noad-read-field-requires : (t : ℕ) → read-noad-lts.Need-read-field-requires (read-noad-claims t) (read-noad-at t) read-noad.Post
-read-noad-read-field-requires t c κs = (omega arith, rn-fits t c)
-
-read-noad-enum-known-a : (t : ℕ) → read-noad-lts.Need-enum-known-a (read-noad-claims t) (read-noad-at t) read-noad.Post
-read-noad-enum-known-a t c = search needs
-
-read-noad-enum-told : (t : ℕ) → read-noad-lts.Need-enum-told (read-noad-claims t) (read-noad-at t) read-noad.Post
-read-noad-enum-told t c = search needs
-
 read-noad-returns : (t : ℕ) → read-noad-lts.Need-returns (read-noad-claims t) (read-noad-at t) read-noad.Post
 read-noad-returns t c =
     let a = c .before .before .before .before .before .args in
     let says = c .enum-told .given .1 in
     says ∙ sym (noad-first (a .levels) (a .s .now) (a .kind) _ _ (rn-first t (c .before .before) ∙ says))
-
-read-noad-read-field-requires-2 : (t : ℕ) → read-noad-lts.Need-read-field-requires-2 (read-noad-claims t) (read-noad-at t) read-noad.Post
-read-noad-read-field-requires-2 t c κs = (omega arith, rn-a t (c .before) .1)
-
-read-noad-enum-known-b : (t : ℕ) → read-noad-lts.Need-enum-known-b (read-noad-claims t) (read-noad-at t) read-noad.Post
-read-noad-enum-known-b t c = search needs
-
-read-noad-enum-told-2 : (t : ℕ) → read-noad-lts.Need-enum-told-2 (read-noad-claims t) (read-noad-at t) read-noad.Post
-read-noad-enum-told-2 t c = search needs
 
 read-noad-returns-2 : (t : ℕ) → read-noad-lts.Need-returns-2 (read-noad-claims t) (read-noad-at t) read-noad.Post
 read-noad-returns-2 t c =
@@ -425,12 +260,6 @@ read-noad-returns-2 t c =
     let a = first .before .before .before .before .before .args in
     let says = c .enum-told2 .given .1 in
     says ∙ sym (noad-second (a .levels) (a .s .now) (a .kind) _ (rn-a t first .0) _ _ (sym (c .before .before .read-field2 .ensures) ∙ says))
-
-read-noad-has-third-requires : (t : ℕ) → read-noad-lts.Need-has-third-requires (read-noad-claims t) (read-noad-at t) read-noad.Post
-read-noad-has-third-requires t c κs = search needs
-
-read-noad-read-field-requires-3 : (t : ℕ) → read-noad-lts.Need-read-field-requires-3 (read-noad-claims t) (read-noad-at t) read-noad.Post
-read-noad-read-field-requires-3 t c κs = (omega arith, rn-b t (c .before .before .before) .1)
 
 read-noad-returns-3 : (t : ℕ) → read-noad-lts.Need-returns-3 (read-noad-claims t) (read-noad-at t) read-noad.Post
 read-noad-returns-3 t c =
@@ -451,69 +280,69 @@ read-noad-returns-4 t c =
 pub +read-field+read-item+read-list+read-noad-spec : {M : Type 1} → statement M
 +read-field+read-item+read-list+read-noad-spec =
     close μ-read-field μ-read-item μ-read-list μ-read-noad (λ t. read-field-lts.spec (read-field-claims t) (read-field-at t) read-field.Post
-    (read-field-sub-field-head t)
-    (read-field-part-field-head-start t)
-    (read-field-part-field-head-end t)
-    (read-field-field-head-requires t)
-    (read-field-enum-told t)
-    (read-field-enum-told-2 t)
-    (read-field-add-t16 t)
-    (read-field-enum-told-3 t)
-    (read-field-add-t17 t)
-    (read-field-enum-known-h t)
-    (read-field-returns t)
-    (read-field-add-start t)
-    (read-field-add-end t)
-    (read-field-sub-read-list t)
-    (read-field-part-read-list-start t)
-    (read-field-part-read-list-end t)
-    (read-field-sub-read-list-2 t)
-    (read-field-read-list-requires t)
-    (read-field-enum-told-4 t)
-    (read-field-enum-known-v t)
-    (read-field-add-t25 t)
-    (read-field-enum-told-5 t)
-    (read-field-returns-2 t)
+    (λ c. search needs)
+    (λ c. search needs)
+    (λ c. search needs)
+    (λ c κs. search needs)
+    (λ c. search needs)
+    (λ c. search needs)
+    (λ c. omega (arith, rf-fits t (c .before .before) _ (c .enum-told2 .given .1)))
+    (λ c. search needs)
+    (λ c. omega (arith, rf-fits t (c .before .before) _ (c .enum-told3 .given .1)))
+    (λ c. search needs)
+    (λ c. sym (field-deep _ _ _ _ _ (rf-list t (c .before .before)) (c .if1 .taken)))
+    (λ c. omega (arith, rf-in t (c .before .before)))
+    (λ c. omega (arith, rf-in t (c .before .before)))
+    (λ c. omega (arith, rf-in t (c .before .before)))
+    (λ c. omega (arith, rf-in t (c .before .before)))
+    (λ c. omega (arith, rf-in t (c .before .before)))
+    (λ c. omega arith)
+    (λ c κs. (omega (arith, c .read-list-arg .given .2, rf-in t (c .before .before .before)), tt))
+    (λ c. search needs)
+    (λ c. search needs)
+    (read-field-add-t28 t)
+    (λ c. search needs)
+    (λ c. sym (cut-deep _ _ _ (rf-is t (c .before .before .before) _ (c .before .enum-told5 .given .1)) (c .if2 .taken)))
     (read-field-returns-3 t)
     (read-field-returns-4 t)
     (read-field-returns-5 t)
     (read-field-returns-6 t)
     (read-field-returns-7 t)
-    (read-field-returns-8 t))
+    (λ c. sym (cut-short _ _ _ (rf-is t (c .before .before .before) _ (c .before .enum-told5 .given .1)) (omega arith))))
     (λ t. read-item-lts.spec (read-item-claims t) (read-item-at t) read-item.Post
-    (read-item-opening-requires t)
-    (read-item-enum-told t)
-    (read-item-enum-known-o t)
-    (read-item-read-noad-requires t)
-    (read-item-enum-told-2 t)
+    (λ c κs. search needs)
+    (λ c. search needs)
+    (λ c. search needs)
+    (λ c κs. (omega arith, sym (c .before .before .before .opening .ensures) ∙ c .before .o .given .1))
+    (λ c. search needs)
     (read-item-returns t)
     (read-item-returns-2 t)
     (read-item-returns-3 t))
     (λ t. read-list-lts.spec (read-list-claims t) (read-list-at t) read-list.Post read-list-Inv-loop read-list-μ-loop
-    (read-list-loop-holds t)
-    (read-list-sub-read-item t)
-    (read-list-part-read-item-start t)
-    (read-list-part-read-item-end t)
-    (read-list-read-item-requires t)
-    (read-list-enum-known-r t)
-    (read-list-add-at t)
-    (read-list-loop-less t)
-    (read-list-loop-again t)
-    (read-list-enum-known-r-2 t)
-    (read-list-add-t13 t)
-    (read-list-returns t)
-    (read-list-returns-2 t))
+    (λ c. (omega arith, sym (later-zero _)))
+    (λ c. search needs)
+    (λ c. search needs)
+    (λ c. search needs)
+    (λ c κs. (omega (arith, c .read-item-arg .given .2), tt))
+    (λ c. search needs)
+    (λ c. omega (arith, rl-next t (c .before) .1))
+    (λ c. omega (arith, rl-next t (c .before) .0, rl-next t (c .before) .1))
+    (λ c. (rl-next t (c .before) .1, rl-next t (c .before) .2))
+    (λ c. search needs)
+    (λ c. omega (arith, rl-stop t (c .before) .0))
+    (λ c. sym (rl-stop t (c .before) .1))
+    (λ c. sym (list-done _ _ _ (c .loop-test .left) (c .before .loop .inv .1))))
     λ t. read-noad-lts.spec (read-noad-claims t) (read-noad-at t) read-noad.Post
-    (read-noad-opening-bytes-requires t)
-    (read-noad-read-field-requires t)
-    (read-noad-enum-known-a t)
-    (read-noad-enum-told t)
+    (λ c κs. search needs)
+    (λ c κs. (omega arith, rn-fits t c))
+    (λ c. search needs)
+    (λ c. search needs)
     (read-noad-returns t)
-    (read-noad-read-field-requires-2 t)
-    (read-noad-enum-known-b t)
-    (read-noad-enum-told-2 t)
+    (λ c κs. (omega arith, rn-a t (c .before) .1))
+    (λ c. search needs)
+    (λ c. search needs)
     (read-noad-returns-2 t)
-    (read-noad-has-third-requires t)
-    (read-noad-read-field-requires-3 t)
+    (λ c κs. search needs)
+    (λ c κs. (omega arith, rn-b t (c .before .before .before) .1))
     (read-noad-returns-3 t)
     (read-noad-returns-4 t)
