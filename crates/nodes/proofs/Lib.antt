@@ -1,5 +1,5 @@
 -- What the proofs of several functions use. Assumes nothing.
 mod Stores
 mod Moves
-mod HullCases
+mod RunCases
 mod Unmoved

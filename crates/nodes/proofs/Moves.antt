@@ -1,6 +1,7 @@
 -- Moving nodes in a buffer.
 --     added-behind, head-behind     a word that is added to, or a node that is moved, behind a prefix leaves the prefix alone
 --     Moving             the invariant of the loop over nodes, with its start, its turn and its end
+--     none-moved         no node is moved
 -- Assumes nothing.
 use mathlib.Core.Path.{_≡_, refl, sym, _∙_}
 use mathlib.Core.List.{List, [], _∷_, _++_, append-assoc}
@@ -9,9 +10,11 @@ use native.Mathlib.Omega.{arith}
 use native.Mathlib.Nat.{add-suc, le-add-right}
 use lib.ListN.{length, take, drop, set, take-append-drop}
 use lib.Seq.{sets, length-take-le, drop-drop, take-set-le, drop-set-add, take-at, drop-at, take-append-add, drop-append-add}
+use lib.IntN.{ℤ}
 use Rattle.scaled.specs.Words.{littleEndian, fourBytes}
 use Rattle.nodes.specs.Nodes.{bytesInNode}
-use Rattle.nodes.specs.Buffer.{addedAt, movedHead, movedBytes}
+use Rattle.nodes.specs.Buffer.{addedAt, movedHead, movedBytes, movedFront, roomFor, behindNodes}
+use Rattle.nodes.specs.BufferLaws.{moved-room}
 
 -- ---- behind a prefix
 
@@ -72,3 +75,11 @@ module _ {u v count i : ℕ} {b₀ b : List ℕ} (m : Moving u v count b₀ b i)
   finished l =
       let none : count - i ≡ 0 = omega arith in
       m .rest ∙ rw none (take-append-drop (bytesInNode * i) b)
+
+-- ---- no node
+
+pub none-moved : {count : ℕ} (k : ℕ) (dx dy : ℤ) (b : List ℕ) → count ≡ 0 → behindNodes k (movedFront dx dy count) b ≡ b
+unfolding behindNodes movedBytes
+none-moved k dx dy b none =
+    let j = roomFor k (length b) in
+    rw (none, moved-room dx dy 0 (drop j b) (omega arith)) (take-append-drop j b)

@@ -4,7 +4,7 @@
 --     four-stores, pair-stores, node-stores   stores one after the other are a run of stores, and a node's are its bytes
 --     glyph-bytes, rule-bytes                 what is handed to `put_node` is the node's bytes
 -- Assumes nothing.
-use mathlib.Core.Path.{_≡_, refl, sym, ap, _∙_}
+use mathlib.Core.Path.{_≡_, refl, sym, _∙_}
 use mathlib.Core.List.{List, [], _∷_, _++_}
 use Prim.Native.Nat.{ℕ, suc, _+_, _*_, _/_, _%_, _≤_}
 use native.Mathlib.Omega.{arith}

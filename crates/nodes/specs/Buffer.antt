@@ -4,11 +4,13 @@
 --     addedAt k w b           w added to the four-byte word at k
 --     movedBytes u v k b      the words u and v added to the x and the y of each of the first k nodes
 --     movedFront dx dy k b    the first k nodes moved right by dx and up by dy
+--     roomFor k n             where node number k starts in n bytes
+--     behindNodes k f b       what f makes of the bytes behind the first k nodes
 -- `put` and `movedFront` change nothing where the bytes are too few. That moved bytes are the bytes of moved nodes is shown in
 -- `BufferLaws`. Assumes nothing.
 use mathlib.Core.Bool.{cond}
 use mathlib.Core.List.{List, _∷_, _++_}
-use Prim.Native.Nat.{ℕ, zero, suc, _+_, _*_}
+use Prim.Native.Nat.{ℕ, zero, suc, _+_, _*_, min}
 use lib.Dec.{leb}
 use lib.IntN.{ℤ}
 use lib.ListN.{length, take, drop, getD}
@@ -44,3 +46,10 @@ movedBytes u v (suc k) b = take bytesInNode (movedHead u v b) ++ movedBytes u v 
 
 unfoldable pub movedFront : ℤ → ℤ → ℕ → List ℕ → List ℕ
 movedFront dx dy k b = cond (leb (bytesInNode * k) (length b)) (movedBytes (wordOf dx) (wordOf dy) k b) b
+
+-- n if there is no room up to there
+abbrev pub roomFor : ℕ → ℕ → ℕ
+roomFor k n = min (bytesInNode * k) n
+
+unfoldable pub behindNodes : ℕ → (List ℕ → List ℕ) → List ℕ → List ℕ
+behindNodes k f b = let j = roomFor k (length b) in take j b ++ f (drop j b)

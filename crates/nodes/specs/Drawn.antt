@@ -1,20 +1,17 @@
--- Nodes that stand at the front of a buffer, if it has room for them; without room nothing is said. What a walk that writes nodes
--- and moves them needs:
+-- Nodes that stand at the front of a buffer, if it has room for them; without room nothing is said. For a walk that writes nodes:
 --     drawn-none, drawn-put     no node, and one
---     drawn-moved               a run, moved
 --     drawn-append              a run, and one behind it that was set in the rest of the buffer
 -- Assumes nothing.
-use mathlib.Core.Path.{_≡_, refl, sym, ap, _∙_}
+use mathlib.Core.Path.{_≡_, refl, sym, _∙_}
 use mathlib.Core.List.{List, [], _∷_, _++_, append-nil, append-assoc}
 use Prim.Native.Nat.{ℕ, _+_, _*_, _≤_}
 use native.Mathlib.Omega.{arith}
-use lib.IntN.{ℤ}
 use lib.ListN.{length, take, drop, length-append, length-drop}
 use lib.Seq.{take-at, drop-at, drop-drop}
-use Rattle.nodes.specs.Nodes.{Node, moved, bytesInNode, nodeBytes, bytesOf}
-use Rattle.nodes.specs.NodeLaws.{length-bytes, bytes-append, length-moved}
-use Rattle.nodes.specs.Buffer.{put, movedFront}
-use Rattle.nodes.specs.BufferLaws.{written-room, moved-front}
+use Rattle.nodes.specs.Nodes.{Node, bytesInNode, nodeBytes, bytesOf}
+use Rattle.nodes.specs.NodeLaws.{length-bytes, bytes-append}
+use Rattle.nodes.specs.Buffer.{put}
+use Rattle.nodes.specs.BufferLaws.{written-room}
 
 -- the buffer b has become b′
 abbrev pub Drawn : List Node → List ℕ → List ℕ → Type 0
@@ -27,13 +24,6 @@ drawn-none b room = refl
 pub drawn-put : (n : Node) (b : List ℕ) → Drawn (n ∷ []) b (put n b)
 unfolding bytesOf
 drawn-put n b room = rw append-nil (written-room (nodeBytes n) b room)
-
-pub drawn-moved : {k : ℕ} (dx dy : ℤ) (ns : List Node) (b b′ : List ℕ) → k ≡ length ns → Drawn ns b b′ →
-    Drawn (moved dx dy ns) b (movedFront dx dy k b′)
-drawn-moved dx dy ns b b′ count drawn room =
-    let size = length-moved dx dy ns in
-    let at : b′ ≡ bytesOf ns ++ drop (bytesInNode * length ns) b = drawn (omega arith) in
-    rw (count, at, size) (moved-front dx dy ns (drop (bytesInNode * length ns) b))
 
 -- the rest of b₁ from j on is set to r
 pub drawn-append : {j : ℕ} (ms ns : List Node) (b b₁ r : List ℕ) → length b₁ ≡ length b →

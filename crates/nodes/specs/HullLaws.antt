@@ -20,7 +20,7 @@ use Rattle.scaled.specs.Length.{maxℤ, minℤ}
 use Rattle.scaled.specs.Signed.{Within, own, le-parts, parts-max, parts-min}
 use Rattle.scaled.specs.Linear.{#, _⊕_, greatest, least, eq-by, le-by, within-by}
 use Rattle.nodes.specs.Nodes.{Node, glyph, rule, movedNode, moved}
-use Rattle.nodes.specs.Bounds.{greatestLength, within, nodeFits, nodesFit}
+use Rattle.nodes.specs.Bounds.{greatestLength, within, nodesFit}
 use Rattle.nodes.specs.Hull.{Hull, none, around, joined, movedHull, nodeHull, hull, hullFits, HullWithin}
 
 -- ---- joining

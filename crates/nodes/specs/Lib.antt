@@ -1,9 +1,13 @@
--- Nodes, their bytes and how far they reach; what becomes of a buffer of nodes; the laws of these. Assumes nothing.
+-- Nodes, their bytes and how far they reach; what becomes of a buffer of nodes; what is known of a run of nodes; the laws of
+-- these. Assumes nothing.
 pub mod Nodes
 pub mod Bounds
 pub mod NodeLaws
 pub mod Buffer
 pub mod BufferLaws
 pub mod Drawn
+pub mod Lent
 pub mod Hull
 pub mod HullLaws
+pub mod Runs
+pub mod RunLaws

@@ -2,17 +2,16 @@
 --     word-below, four-back, four-rest        a word's size, and its four bytes
 --     signed-sum                              a length is added to the bytes of another, modulo 2 ^ 32
 --     length-node-bytes, length-bytes, bytes-append     how many bytes nodes have, and those of two runs
---     length-moved, moved-append, moved-moved, moved-zero     moved runs of nodes
+--     length-moved, moved-append, moved-twice, moved-nowhere     moved runs of nodes
 -- Assumes nothing.
 use mathlib.Core.Path.{_≡_, refl, sym, ap, _∙_}
 use mathlib.Core.List.{List, [], _∷_, _++_, append-assoc}
-use Prim.Native.Nat.{ℕ, suc, _+_, _-_, _*_, _/_, _%_, _<_}
+use Prim.Native.Nat.{ℕ, suc, _+_, _*_, _/_, _%_, _<_}
 use native.Mathlib.Omega.{arith}
-use lib.IntN.{ℤ, pos, negsuc, _+ℤ_}
+use lib.IntN.{ℤ, pos, negsuc, _+ℤ_, +ℤ-assoc, +ℤ-idr}
 use lib.ListN.{length, length-append}
 use Rattle.scaled.specs.Words.{littleEndian, wordRange, wordOf, fourBytes}
 use Rattle.scaled.specs.Signed.{above, below, own, parts-add}
-use Rattle.scaled.specs.Linear.{#, _⊕_, eq-by}
 use Rattle.nodes.specs.Nodes.{Node, glyph, rule, movedNode, moved, bytesInNode, signedBytes, nodeBytes, bytesOf}
 
 -- ---- four-byte words
@@ -113,21 +112,14 @@ unfolding moved
 moved-append dx dy [] ns = refl
 moved-append dx dy (m ∷ ms) ns = ap (λ (l : List Node). movedNode dx dy m ∷ l) (moved-append dx dy ms ns)
 
--- what holds of each node's place holds of a run of nodes
-sum-place : (x ex dx : ℤ) → x +ℤ ex +ℤ dx ≡ x +ℤ (ex +ℤ dx)
-sum-place x ex dx = eq-by (# x ⊕ # ex ⊕ # dx) (# x ⊕ (# ex ⊕ # dx)) (omega arith)
-
-zero-place : (x : ℤ) → x +ℤ pos 0 ≡ x
-zero-place x = eq-by (# x ⊕ # (pos 0)) (# x) (omega arith)
-
-pub moved-moved : (dx dy ex ey : ℤ) (ns : List Node) → moved dx dy (moved ex ey ns) ≡ moved (ex +ℤ dx) (ey +ℤ dy) ns
+pub moved-twice : (dx dy ex ey : ℤ) (ns : List Node) → moved dx dy (moved ex ey ns) ≡ moved (ex +ℤ dx) (ey +ℤ dy) ns
 unfolding moved
-moved-moved dx dy ex ey [] = refl
-moved-moved dx dy ex ey (glyph x y size family code ∷ ns) = rw (sum-place x, sum-place y, moved-moved dx dy ex ey ns)
-moved-moved dx dy ex ey (rule x y width thickness ∷ ns) = rw (sum-place x, sum-place y, moved-moved dx dy ex ey ns)
+moved-twice dx dy ex ey [] = refl
+moved-twice dx dy ex ey (glyph x y size family code ∷ ns) = rw (+ℤ-assoc x, +ℤ-assoc y, moved-twice dx dy ex ey ns)
+moved-twice dx dy ex ey (rule x y width thickness ∷ ns) = rw (+ℤ-assoc x, +ℤ-assoc y, moved-twice dx dy ex ey ns)
 
-pub moved-zero : (ns : List Node) → moved (pos 0) (pos 0) ns ≡ ns
+pub moved-nowhere : (ns : List Node) → moved (pos 0) (pos 0) ns ≡ ns
 unfolding moved
-moved-zero [] = refl
-moved-zero (glyph x y size family code ∷ ns) = rw (zero-place x, zero-place y, moved-zero ns)
-moved-zero (rule x y width thickness ∷ ns) = rw (zero-place x, zero-place y, moved-zero ns)
+moved-nowhere [] = refl
+moved-nowhere (glyph x y size family code ∷ ns) = rw (+ℤ-idr x, +ℤ-idr y, moved-nowhere ns)
+moved-nowhere (rule x y width thickness ∷ ns) = rw (+ℤ-idr x, +ℤ-idr y, moved-nowhere ns)

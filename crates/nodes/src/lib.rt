@@ -1,13 +1,13 @@
 // Nodes in a buffer of bytes. What a node is, and its bytes, is defined in specs/Nodes.antt.
-pub mod hull;
+pub mod run;
 mod words;
 
 ghost use mathlib.Core.Path.{_≡_};
 ghost use mathlib.Core.List.{_++_};
-ghost use Prim.Native.Nat.{_+_, _*_, _≤_};
+ghost use Prim.Native.Nat.{_+_, _≤_};
 ghost use lib.ListN.{length, take, drop};
 ghost use Rattle.nodes.specs.Nodes.{glyph, rule, bytesInNode};
-ghost use Rattle.nodes.specs.Buffer.{written, put, nodeOf, movedHead, movedFront};
+ghost use Rattle.nodes.specs.Buffer.{written, put, nodeOf, movedHead, movedFront, roomFor, behindNodes};
 use scaled::Sp;
 
 pub const BYTES_IN_NODE: usize = 18;
@@ -20,13 +20,14 @@ pub fn put_glyph(buf: &mut [u8], x: Sp, y: Sp, size: u8, family: u8, code: u8)
     put_node(buf, b'G', b'L', x, y, symbol, 0);
 }
 
-// Writes a rule's node at the front, if there is room.
-pub fn put_rule(buf: &mut [u8], x: Sp, y: Sp, width: Sp, thickness: Sp)
-    ensures { λ _. ⌜ now (buf .exit) ≡ put (rule (x .0) (y .0) (width .0) (thickness .0)) (now (buf .entry)) ⌝ }
+// Writes a rule's node behind the first `before` nodes, if there is room.
+pub fn put_rule(buf: &mut [u8], before: usize, x: Sp, y: Sp, width: Sp, thickness: Sp)
+    ensures { λ _. ⌜ now (buf .exit) ≡ behindNodes before (put (rule (x .0) (y .0) (width .0) (thickness .0))) (now (buf .entry)) ⌝ }
 {
     let width = Sp(0).max(width);
+    let at = room(before, buf.len());
     put_node(
-        buf,
+        &mut buf[at..],
         b'R',
         b'U',
         x,
@@ -51,7 +52,7 @@ fn put_node(buf: &mut [u8], m: u8, n: u8, x: Sp, y: Sp, p: u32, q: u32)
 
 // Where the node number `count` starts in a buffer of len bytes: len if it has no room up to there.
 pub fn room(count: usize, len: usize) -> usize
-    ensures { λ r. ⌜ (r ≤ len) × ((bytesInNode * count ≤ len → r ≡ bytesInNode * count)) ⌝ }
+    ensures { λ r. ⌜ r ≡ roomFor count len ⌝ }
 {
     if count <= len / BYTES_IN_NODE {
         BYTES_IN_NODE * count
@@ -60,8 +61,19 @@ pub fn room(count: usize, len: usize) -> usize
     }
 }
 
+// Moves `count` nodes, which stand behind the first `before`, right by dx and up by dy, if they are all there.
+pub fn move_nodes(buf: &mut [u8], before: usize, count: usize, dx: Sp, dy: Sp)
+    ensures { λ _. ⌜ now (buf .exit) ≡ behindNodes before (movedFront (dx .0) (dy .0) count) (now (buf .entry)) ⌝ }
+{
+    if count == 0 {
+        return;
+    }
+    let at = room(before, buf.len());
+    move_front(&mut buf[at..], count, dx, dy);
+}
+
 // Moves the first `count` nodes right by dx and up by dy, if they are all there.
-pub fn move_nodes(buf: &mut [u8], count: usize, dx: Sp, dy: Sp)
+fn move_front(buf: &mut [u8], count: usize, dx: Sp, dy: Sp)
     ensures { λ _. ⌜ now (buf .exit) ≡ movedFront (dx .0) (dy .0) count (now (buf .entry)) ⌝ }
 {
     if buf.len() / BYTES_IN_NODE < count {

@@ -1,10 +1,9 @@
--- `hull::within` meets its contract, by `within-tests`.
+-- `run::within` meets its contract, by `within-tests`.
 -- Assumes nothing.
-use mathlib.Core.Path.{_∙_}
 use borrow.Author.Needs.{needs}
 use Rattle.nodes.specs.HullLaws.{within-tests}
-use Rattle.nodes.proofs.hull.within.Statement.{statement}
-use Rattle.nodes.proofs.hull.within.Tie as tie
+use Rattle.nodes.proofs.run.within.Statement.{statement}
+use Rattle.nodes.proofs.run.within.Tie as tie
 
 sub-t3 : tie.Need-sub-t3
 sub-t3 c = search needs
