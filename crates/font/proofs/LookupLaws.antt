@@ -1,11 +1,11 @@
 -- The lookup of a symbol, record by record.
 --     recordsFrom                          the CH records from a place on, where the loop of `symbol` stands
 --     lookup-start, lookup-hit, lookup-miss, lookup-done    where it starts, each turn, and the end
---     is-of-size, is-of-family, is-of-code    whether a record is that of a symbol, byte by byte, for `is_of`
+--     is-of-code, is-of-family, is-of-size    whether a record is that of a symbol, byte by byte, for `is_of`
 --     metrics-of, successor-some, successor-none    what a record says, for `metrics_of` and `successor_of`
 -- Assumes nothing.
 use mathlib.Core.Path.{_≡_, refl, ap, _∙_}
-use mathlib.Core.Bool.{Bool, true, false}
+use mathlib.Core.Bool.{Bool, true, false, _&&_, and-true, and-false}
 use mathlib.Core.List.{List, _∷_}
 use mathlib.Core.Option.{Option, none, some}
 use Prim.Native.Nat.{ℕ, _+_, _-_, _/_, _<_, _≤_}
@@ -61,17 +61,17 @@ module _ (size family code : ℕ) (t : List ℕ) (at : ℕ) (fits : at + charact
 -- ---- whether a record is that of a symbol
 
 module _ (size family code : ℕ) (r : List ℕ) where
-  pub is-of-size : (sizeByte r ≡ size → ⊥) → isOf size family code r ≡ false
+  pub is-of-code : (codeByte r ≡ code → ⊥) → isOf size family code r ≡ false
   unfolding isOf
-  is-of-size s = rw (ne-eqb (sizeByte r) size s)
+  is-of-code c = rw (ne-eqb (codeByte r) code c) (and-false (eqb (sizeByte r) size && eqb (familyByte r) family))
 
-  pub is-of-family : sizeByte r ≡ size → (familyByte r ≡ family → ⊥) → isOf size family code r ≡ false
+  pub is-of-family : (familyByte r ≡ family → ⊥) → isOf size family code r ≡ false
   unfolding isOf
-  is-of-family s f = rw (eq-eqb (sizeByte r) size s, ne-eqb (familyByte r) family f)
+  is-of-family f = rw (ne-eqb (familyByte r) family f, and-false (eqb (sizeByte r) size))
 
-  pub is-of-code : sizeByte r ≡ size → familyByte r ≡ family → isOf size family code r ≡ eqb (codeByte r) code
+  pub is-of-size : codeByte r ≡ code → familyByte r ≡ family → isOf size family code r ≡ eqb (sizeByte r) size
   unfolding isOf
-  is-of-code s f = rw (eq-eqb (sizeByte r) size s, eq-eqb (familyByte r) family f)
+  is-of-size c f = rw (eq-eqb (codeByte r) code c, eq-eqb (familyByte r) family f) (and-true (eqb (sizeByte r) size && true) ∙ and-true (eqb (sizeByte r) size))
 
 -- ---- what a record says
 

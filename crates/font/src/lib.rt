@@ -96,18 +96,18 @@ pub fn symbol(table: &[u8], size: u8, family: u8, code: u8) -> Found
     Found::Absent
 }
 
-// Whether a record is that of this size, family and code.
+// Whether a record is that of this size, family and code. Most records have another code, so that is tested first.
 fn is_of(r: &[u8], size: u8, family: u8, code: u8) -> bool
     requires { ⌜ characterBytes ≤ length (now r) ⌝ }
     ensures { λ answer. ⌜ answer ≡ isOf size family code (now (r .entry)) ⌝ }
 {
-    if r[format::SIZE] != size {
+    if r[format::CODE] != code {
         return false;
     }
     if r[format::FAMILY] != family {
         return false;
     }
-    r[format::CODE] == code
+    r[format::SIZE] == size
 }
 
 // The metrics in a record.
