@@ -3,31 +3,30 @@
 -- layout's definition.) An edit of a rule is refused here, by the row that it changes.
 -- Assumes nothing.
 use mathlib.Core.Path.{_≡_, refl}
-use mathlib.Core.Bool.{Bool, true, false}
 use mathlib.Core.List.{List, [], _∷_, map}
-use mathlib.Core.Option.{Option, none, some}
+use mathlib.Core.Option.{none, some}
 use Prim.Native.Nat.{ℕ}
 use lib.IntN.{ℤ, pos, negℤ}
 use lib.ListN.{getD}
 use Rattle.scaled.specs.Length.{pick, maxℤ, half, atQuad}
-use Rattle.font.specs.Font.{Metrics}
 use Rattle.formula.specs.declared.Class.{Class}
 use Rattle.formula.specs.declared.Class.the-variants.{Ord, Op, Bin, Rel}
 use Rattle.formula.specs.declared.Limits.the-variants.{DisplayOnly}
 use Rattle.formula.specs.declared.Bar.the-variants.{Default, Without}
+use Rattle.formula.specs.declared.Base.the-variants.{Atom}
 use Rattle.formula.specs.declared.Kind.{Kind}
-use Rattle.formula.specs.declared.Kind.the-variants.{Atom, Fraction}
+use Rattle.formula.specs.declared.Kind.the-variants.{Scripted, Fraction}
 use Rattle.rules.specs.declared.Level.the-variants.{Display, Text, Script}
 use Rattle.rules.specs.declared.Style.{Style}
 use Rattle.rules.specs.Styles.{plain, cramp}
 use Rattle.rules.specs.Parameters.{Parameters}
-use Rattle.rules.specs.Classes.{Neighbour, changedClass}
+use Rattle.rules.specs.Classes.{changedClass}
 use Rattle.rules.specs.Spacing.{row, chart, spaceBefore}
-use Rattle.rules.specs.Boxes.{Size, Shape, nothing, char, Place, at, origin, Rule, Arranged, greatest}
+use Rattle.rules.specs.Boxes.{Shape, nothing, char, Place, at, origin, Own, noOwn, ruledBehind, Arranged, greatest}
 use Rattle.rules.specs.Limits.{limited}
 use Rattle.rules.specs.Scripts.{dropUp, dropDown, subscriptDown, leastUp, superscriptUp, pairDown, gapDown, ψOf, lifted, spread, pairShifts, scripted}
 use Rattle.rules.specs.Fractions.{fractionShifts, parted, shiftsWithoutBar, cleared, shiftsWithBar, fraction}
-use Rattle.rules.specs.Arrange.{arrange}
+use Rattle.rules.specs.Arrange.{nucleusOf, arrange}
 
 -- ---- the bench table's numbers, alike at every size
 
@@ -86,10 +85,10 @@ record Example : Type 0 where
   third : Shape
   arranged : Arranged
 
--- style, kind and fields; then width, height, depth, the places of the fields, and the rule
+-- style, kind and fields; then width, height, depth, the places of the fields, and the own nodes
 abbrev example :
-    Style → Kind → Shape → Shape → Shape → ℤ → ℤ → ℤ → Place → Place → Place → Option Rule → Example
-example style kind x y z w h d first second third rule =
+    Style → Kind → Shape → Shape → Shape → ℤ → ℤ → ℤ → Place → Place → Place → Own → Example
+example style kind x y z w h d first second third own =
     record {
       style = style;
       kind = kind;
@@ -102,34 +101,34 @@ example style kind x y z w h d first second third rule =
             first = first;
             second = second;
             third = third;
-            rule = rule;
+            own = own;
           };
     }
 
 abbrev ord : Kind
-ord = Atom Ord DisplayOnly
+ord = Scripted (Atom Ord DisplayOnly)
 
 examples : List Example
 examples =
     -- P7, twice
-    example (plain Text) ord a a nothing (pos 33768) (pos 800) (pos 0) origin (at (pos 500) (pos 370)) origin none
-    ∷ example (cramp Text) ord a a nothing (pos 33768) (pos 720) (pos 0) origin (at (pos 500) (pos 290)) origin none
+    example (plain Text) ord a a nothing (pos 33768) (pos 800) (pos 0) origin (at (pos 500) (pos 370)) origin noOwn
+    ∷ example (cramp Text) ord a a nothing (pos 33768) (pos 720) (pos 0) origin (at (pos 500) (pos 290)) origin noOwn
     -- P8
     ∷ example (plain Text) ord f a a (pos 33868) (pos 800) (pos 250) origin (at (pos 600) (pos 370))
-    (at (pos 490) (minus 250)) none
+    (at (pos 490) (minus 250)) noOwn
     -- P9
     ∷ example (cramp Text) ord f a a (pos 33868) (pos 774) (pos 246) origin (at (pos 600) (pos 344))
-    (at (pos 490) (minus 246)) none
+    (at (pos 490) (minus 246)) noOwn
     -- P10
     ∷ example (plain Text) (Fraction Default) a a nothing (pos 500) (pos 830) (pos 350) (at (pos 0) (pos 400))
     (at (pos 0) (minus 350)) origin
-    (some record { place = at (pos 0) (pos 230); width = pos 500; thickness = pos 40 })
+    (ruledBehind record { place = at (pos 0) (pos 230); width = pos 500; thickness = pos 40 })
     -- P11
     ∷ example (plain Text) (Fraction Without) a a nothing (pos 500) (pos 880) (pos 350) (at (pos 0) (pos 450))
-    (at (pos 0) (minus 350)) origin none
+    (at (pos 0) (minus 350)) origin noOwn
     -- P12
-    ∷ example (plain Display) (Atom Op DisplayOnly) largeSum nothing a (pos 1400) (pos 950) (pos 1150)
-    (at (pos 0) (pos 950)) origin (at (pos 450) (minus 1050)) none
+    ∷ example (plain Display) (Scripted (Atom Op DisplayOnly)) largeSum nothing a (pos 1400) (pos 950) (pos 1150)
+    (at (pos 0) (pos 950)) origin (at (pos 450) (minus 1050)) noOwn
     ∷ []
 
 computed : Example → Arranged
@@ -140,5 +139,5 @@ stated e = e .arranged
 
 examples-hold : map computed examples ≡ map stated examples
 unfolding
-    bench examples computed stated pick maxℤ half greatest limited dropUp dropDown subscriptDown leastUp superscriptUp pairDown gapDown ψOf lifted spread pairShifts scripted fractionShifts parted shiftsWithoutBar cleared shiftsWithBar fraction arrange
+    bench examples computed stated pick maxℤ half greatest limited dropUp dropDown subscriptDown leastUp superscriptUp pairDown gapDown ψOf lifted spread pairShifts scripted fractionShifts parted shiftsWithoutBar cleared shiftsWithBar fraction nucleusOf arrange
 examples-hold = refl

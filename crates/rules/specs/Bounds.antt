@@ -3,7 +3,7 @@
 --     SizeWithin k       a size of at most two words in width, and k in height and depth; the size of a field is `Moderate`
 --     ModerateShape, ModerateScript     a field, a script: what is asked of a list alone
 --     ModerateNucleus    a nucleus
---     PlaceWithin, ShiftsWithin, DistancesWithin, LineWithin     places, shifts, distances and lines within so many words
+--     PlaceWithin, ShiftsWithin, DistancesWithin, OwnWithin     places, shifts, distances and own nodes within so many words
 --     Bounded            an item
 -- Assumes nothing.
 use Prim.Native.Nat.{ℕ, _*_, _^_}
@@ -15,9 +15,10 @@ use Rattle.rules.specs.declared.boxes.Script.{Script}
 use Rattle.rules.specs.declared.boxes.Script.the-variants.{Absent, Given}
 use Rattle.rules.specs.declared.boxes.Place.{Place}
 use Rattle.rules.specs.declared.boxes.Shifts.{Shifts}
-use Rattle.rules.specs.declared.boxes.Line.{Line}
-use Rattle.rules.specs.declared.boxes.Line.the-variants.{Unruled, Ruled}
 use Rattle.rules.specs.declared.boxes.Rule.{Rule}
+use Rattle.rules.specs.declared.boxes.Ruling.{Ruling}
+use Rattle.rules.specs.declared.boxes.Ruling.the-variants.{Unruled, Ruled}
+use Rattle.rules.specs.declared.boxes.Own.{Own}
 use Rattle.rules.specs.declared.boxes.Arranged.{Arranged}
 use Rattle.rules.specs.declared.nucleus.Nucleus.{Nucleus}
 use Rattle.rules.specs.declared.limits.Distances.{Distances}
@@ -60,11 +61,15 @@ pub record RuleWithin (k : ℕ) (r : Rule) : Type 0 where
   pub width : Within (words k) (r .width .0)
   pub thickness : Within (words k) (r .thickness .0)
 
-abbrev pub LineWithin : ℕ → Line → Type 0
-LineWithin k Unruled = Unit {0}
-LineWithin k (Ruled r) = RuleWithin k r
+abbrev pub RulingWithin : ℕ → Ruling → Type 0
+RulingWithin k Unruled = Unit {0}
+RulingWithin k (Ruled r) = RuleWithin k r
 
--- how many words an item's size, places and line lie within
+pub record OwnWithin (k : ℕ) (o : Own) : Type 0 where
+  pub before : RulingWithin k (o .before)
+  pub behind : RulingWithin k (o .behind)
+
+-- how many words an item's size, places and own nodes lie within
 abbrev pub itemWords : ℕ
 itemWords = 32
 
@@ -73,7 +78,7 @@ pub record ModerateNucleus (n : Nucleus) : Type 0 where
   pub size : SizeWithin 7 (n .size)
   pub raise : Within (words 2) (n .raise .0)
   pub delta : Within (words 1) (n .delta .0)
-  pub line : LineWithin itemWords (n .line)
+  pub own : OwnWithin itemWords (n .own)
 
 pub record Bounded (a : Arranged) : Type 0 where
   pub width : Within (words itemWords) (a .size .width .0)
@@ -82,4 +87,4 @@ pub record Bounded (a : Arranged) : Type 0 where
   pub first : PlaceWithin itemWords (a .first)
   pub second : PlaceWithin itemWords (a .second)
   pub third : PlaceWithin itemWords (a .third)
-  pub rule : LineWithin itemWords (a .rule)
+  pub own : OwnWithin itemWords (a .own)

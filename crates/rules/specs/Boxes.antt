@@ -58,13 +58,24 @@ pub record Rule : Type 0 where
   pub width : ℤ
   pub thickness : ℤ
 
--- an item: its size, where its three fields stand, and its line or bar if it has one
+-- an item's own nodes: some before its first field, some behind it
+pub record Own : Type 0 where
+  pub before : List Rule
+  pub behind : List Rule
+
+abbrev pub noOwn : Own
+noOwn = record { before = []; behind = [] }
+
+abbrev pub ruledBehind : Rule → Own
+ruledBehind r = record { before = []; behind = r ∷ [] }
+
+-- an item: its size, where its three fields stand, and its own nodes
 pub record Arranged : Type 0 where
   pub size : Size
   pub first : Place
   pub second : Place
   pub third : Place
-  pub rule : Option Rule
+  pub own : Own
 
 -- how far a box of width w is moved right to stand in the middle of the width all
 abbrev pub centred : ℤ → ℤ → ℤ

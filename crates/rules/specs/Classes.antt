@@ -5,17 +5,23 @@ use mathlib.Core.Bool.{Bool, true, false, _||_}
 use mathlib.Core.Option.{Option, none, some}
 use Rattle.formula.specs.declared.Class.{Class}
 use Rattle.formula.specs.declared.Class.the-variants.{Ord, Op, Bin, Rel, Open, Close, Punct, Inner}
+use Rattle.formula.specs.declared.Base.{Base}
+use Rattle.formula.specs.declared.Base.the-variants.{Atom, Over, Under}
 use Rattle.formula.specs.declared.Kind.{Kind}
-use Rattle.formula.specs.declared.Kind.the-variants.{Atom, Over, Under, Fraction}
+use Rattle.formula.specs.declared.Kind.the-variants.{Scripted, Fraction}
 
 abbrev pub Neighbour : Type 0
 Neighbour = Option Class
 
--- lines count as Ord (rule 16), fractions as Inner (rule 15e)
+-- lines count as Ord (rule 16)
+abbrev pub baseClass : Base → Class
+baseClass (Atom class limits) = class
+baseClass Over = Ord
+baseClass Under = Ord
+
+-- fractions count as Inner (rule 15e)
 abbrev pub classOf : Kind → Class
-classOf (Atom class limits) = class
-classOf Over = Ord
-classOf Under = Ord
+classOf (Scripted base) = baseClass base
 classOf (Fraction bar) = Inner
 
 -- rule 5: a Bin is no binary operation as the first atom, or behind one of these, after its own change

@@ -1,7 +1,6 @@
 -- Fractions (document 01, "FR"; rules 15 to 15d): numerator x, denominator z, bar thickness θ.
 -- Assumes nothing.
 use mathlib.Core.Bool.{Bool, true, false}
-use mathlib.Core.Option.{Option, none, some}
 use Prim.Native.Nat.{ℕ}
 use lib.IntN.{ℤ, pos, negℤ, _+ℤ_, _-ℤ_, _*ℤ_}
 use lib.Signed.{ltZ}
@@ -11,7 +10,7 @@ use Rattle.formula.specs.declared.Bar.the-variants.{Default, Without}
 use Rattle.rules.specs.declared.Style.{Style}
 use Rattle.rules.specs.Styles.{isDisplay, fontSize}
 use Rattle.rules.specs.Parameters.{Parameters, num1, num2, num3, denom1, denom2, axisHeight, ruleThickness}
-use Rattle.rules.specs.Boxes.{Size, Shifts, Rule, Arranged, at, origin, centred}
+use Rattle.rules.specs.Boxes.{Size, Shifts, Own, noOwn, ruledBehind, Arranged, at, origin, centred}
 
 -- ---- 15: the thickness of the bar; with thickness 0 there is none
 
@@ -89,26 +88,26 @@ finalShifts p s θ x z =
     ]
 
 -- the bar's top is half of its thickness above the axis
-abbrev pub barOf : ℤ → ℤ → ℤ → Option Rule
+abbrev pub barOf : ℤ → ℤ → ℤ → Own
 barOf axis θ w =
     elim (hasBar θ) [
-      | true ↦ some record {
+      | true ↦ ruledBehind record {
         place = at (pos 0) ((axis +ℤ half θ) -ℤ θ);
         width = w;
         thickness = θ;
       }
-      | false ↦ none
+      | false ↦ noOwn
     ]
 
 -- numerator and denominator, shifted by t, in the middle of the width w
-abbrev pub stacked : Size → Size → ℤ → Shifts → Option Rule → Arranged
+abbrev pub stacked : Size → Size → ℤ → Shifts → Own → Arranged
 stacked x z w t bar =
     record {
       size = record { width = w; height = x .height +ℤ t .up; depth = z .depth +ℤ t .down };
       first = at (centred w (x .width)) (t .up);
       second = at (centred w (z .width)) (negℤ (t .down));
       third = origin;
-      rule = bar;
+      own = bar;
     }
 
 unfoldable pub fraction : Parameters → Style → Bar → Size → Size → Arranged

@@ -1,4 +1,5 @@
--- The rules of Appendix G, idea by idea up to `arrange`; how values of the code stand for theirs, and bounds. Assumes nothing.
+-- The rules of Appendix G, idea by idea up to `arrange`; how values of the code stand for theirs, and bounds; laws that callers
+-- go by. Assumes nothing.
 pub mod Styles
 pub mod Parameters
 pub mod Classes
@@ -9,6 +10,7 @@ pub mod Limits
 pub mod Scripts
 pub mod Fractions
 pub mod Arrange
-pub mod NucleusFirst
+pub mod ArrangeLaws
 pub mod Values
+pub mod ValueLaws
 pub mod Bounds

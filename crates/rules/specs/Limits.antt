@@ -79,5 +79,5 @@ limited p size n superscript subscript =
       first = at (centred w (n .size .width)) (n .raise);
       second = placeAbove p size n w superscript;
       third = placeBelow p size n w subscript;
-      rule = n .line;
+      own = n .own;
     }

@@ -1,11 +1,10 @@
 -- The nucleus of an atom, an operator, an overline or an underline (document 01, "Nucleus", "OV", "UN"; rules 9, 10, 13, 17).
 -- Assumes nothing.
 use mathlib.Core.Bool.{Bool, true, false, _&&_, not}
-use mathlib.Core.Option.{Option, none, some}
 use lib.IntN.{ℤ, pos, negℤ, _+ℤ_, _-ℤ_, _*ℤ_}
 use Rattle.scaled.specs.Length.{maxℤ, half}
 use Rattle.font.specs.Font.{Metrics}
-use Rattle.rules.specs.Boxes.{Size, Shape, nothing, char, box, charSize, zeroSize, Rule, at}
+use Rattle.rules.specs.Boxes.{Size, Shape, nothing, char, box, charSize, zeroSize, Own, noOwn, ruledBehind, at}
 
 -- A nucleus as the limits and the scripts see it.
 pub record Nucleus : Type 0 where
@@ -13,10 +12,10 @@ pub record Nucleus : Type 0 where
   pub raise : ℤ  -- how far its symbol stands above the baseline
   pub δ : ℤ  -- the italic correction that a superscript of a pair, or the limits, still have to heed
   pub isPlain : Bool  -- whether the drops of rule 18a are 0
-  pub line : Option Rule
+  pub own : Own  -- its line, if it has one
 
 abbrev pub boxNucleus : Size → Nucleus
-boxNucleus z = record { size = z; raise = pos 0; δ = pos 0; isPlain = false; line = none }
+boxNucleus z = record { size = z; raise = pos 0; δ = pos 0; isPlain = false; own = noOwn }
 
 -- ---- rule 17: a symbol of a class other than Op; its italic correction is space behind it unless a subscript follows
 
@@ -27,9 +26,9 @@ symbolNucleus m true =
       raise = pos 0;
       δ = pos (m .italic);
       isPlain = true;
-      line = none;
+      own = noOwn;
     }
-symbolNucleus m false = record { size = charSize m; raise = pos 0; δ = pos 0; isPlain = true; line = none }
+symbolNucleus m false = record { size = charSize m; raise = pos 0; δ = pos 0; isPlain = true; own = noOwn }
 
 -- ---- rule 13: an operator's symbol stands centred on the axis
 
@@ -59,7 +58,7 @@ operatorNucleus axis m subscriptBeside =
       raise = negℤ down;
       δ = pos (m .italic);
       isPlain = false;
-      line = none;
+      own = noOwn;
     }
 
 -- an atom's nucleus; the tests are whether it is an Op, has limits set, and has a subscript
@@ -79,7 +78,7 @@ lined z θ up =
       raise = pos 0;
       δ = pos 0;
       isPlain = false;
-      line = some record { place = at (pos 0) up; width = z .width; thickness = θ };
+      own = ruledBehind record { place = at (pos 0) up; width = z .width; thickness = θ };
     }
 
 abbrev pub overline : ℤ → Size → Nucleus

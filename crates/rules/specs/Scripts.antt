@@ -2,14 +2,13 @@
 -- Each stage of a shift has a name; u, v and ψ are the rule's own letters. A script's size is that of its box before the
 -- script space is added.
 -- Assumes nothing.
-use mathlib.Core.Bool.{Bool, true, false}
+use mathlib.Core.Bool.{true, false}
 use mathlib.Core.List.{[], _∷_}
 use mathlib.Core.Option.{Option, none, some}
 use Prim.Native.Nat.{ℕ}
 use lib.IntN.{ℤ, pos, negℤ, _+ℤ_, _-ℤ_, _*ℤ_}
 use lib.Signed.{ltZ, shrZ}
 use Rattle.scaled.specs.Length.{pick, maxℤ}
-use Rattle.rules.specs.declared.Level.{Level}
 use Rattle.rules.specs.declared.Style.{Style}
 use Rattle.rules.specs.Styles.{isDisplay, fontSize, superscriptStyle}
 use Rattle.rules.specs.Parameters.{Parameters, xHeight, sup1, sup2, sup3, sub1, sub2, supDrop, subDrop, ruleThickness}
@@ -107,7 +106,7 @@ assembled n second third w top bottom =
       first = at (pos 0) (n .raise);
       second = second;
       third = third;
-      rule = n .line;
+      own = n .own;
     }
 
 abbrev pub withoutScripts : Nucleus → Arranged

@@ -2,14 +2,13 @@
 -- Assumes nothing.
 use mathlib.Core.Bool.{Bool, true, false}
 use mathlib.Core.List.{List, [], _∷_}
-use mathlib.Core.Option.{Option, none, some}
+use mathlib.Core.Option.{none, some}
 use Prim.Native.Nat.{ℕ}
 use lib.IntN.{ℤ, pos}
 use lib.ListN.{getD}
 use Rattle.scaled.specs.Length.{atQuad}
 use Rattle.formula.specs.declared.Class.{Class}
 use Rattle.formula.specs.declared.Class.the-variants.{Ord, Op, Bin, Rel, Open, Close, Punct, Inner}
-use Rattle.rules.specs.declared.Level.{Level}
 use Rattle.rules.specs.declared.Style.{Style}
 use Rattle.rules.specs.Styles.{isLarge, fontSize}
 use Rattle.rules.specs.Classes.{Neighbour}

@@ -1,12 +1,13 @@
 -- What the values of the code stand for in the definitions: each struct and enum is read by a function of its own.
 -- Assumes nothing.
 use mathlib.Core.Bool.{true, false}
-use mathlib.Core.List.{List, []}
+use mathlib.Core.List.{List, [], _∷_}
 use mathlib.Core.Option.{Option, none, some}
 use mathlib.Core.Path.{_≡_}
-use Prim.Native.Nat.{ℕ, _/_, _%_, _<_}
+use Prim.Native.Nat.{ℕ, _+_, _/_, _%_, _≤_, _<_}
 use lib.ListN.{getD}
 use Rattle.font.specs.Answers.{metricsAs}
+use Rattle.formula.specs.declared.Kind.{Kind}
 use Rattle.rules.specs.declared.Style.{Style}
 use Rattle.rules.specs.declared.styles.Numbered.{Numbered}
 use Rattle.rules.specs.declared.styles.Numbered.the-variants.{Styled, Unstyled}
@@ -20,18 +21,21 @@ use Rattle.rules.specs.declared.boxes.Script.the-variants.{Absent, Given
 use Rattle.rules.specs.declared.boxes.Place.{Place}
 use Rattle.rules.specs.declared.boxes.Shifts.{Shifts}
 use Rattle.rules.specs.declared.boxes.Rule.{Rule}
-use Rattle.rules.specs.declared.boxes.Line.{Line}
-use Rattle.rules.specs.declared.boxes.Line.the-variants.{Unruled, Ruled}
+use Rattle.rules.specs.declared.boxes.Ruling.{Ruling}
+use Rattle.rules.specs.declared.boxes.Ruling.the-variants.{Unruled, Ruled}
+use Rattle.rules.specs.declared.boxes.Own.{Own}
 use Rattle.rules.specs.declared.boxes.Arranged.{Arranged}
 use Rattle.rules.specs.declared.nucleus.Nucleus.{Nucleus}
 use Rattle.rules.specs.declared.limits.Distances.{Distances}
+use Rattle.rules.specs.declared.arrange.OwnCounts.{OwnCounts}
 use Rattle.rules.specs.Parameters.{Parameters}
 use Rattle.rules.specs.Boxes.{nothing, char, box}
-use Rattle.rules.specs.Boxes.{Size as SizeOf, Shape as ShapeOf, Place as PlaceOf, Shifts as ShiftsOf, Rule as RuleOf, Arranged as ArrangedOf}
+use Rattle.rules.specs.Boxes.{Size as SizeOf, Shape as ShapeOf, Place as PlaceOf, Shifts as ShiftsOf, Rule as RuleOf, Own as OwnOf, Arranged as ArrangedOf}
 use Rattle.rules.specs.Nucleus.{Nucleus as NucleusOf}
 use Rattle.rules.specs.Limits.{Limit}
 use Rattle.rules.specs.Spacing.{Entry, units}
 use Rattle.rules.specs.Classes.{Neighbour as NeighbourOf}
+use Rattle.rules.specs.Arrange.{OwnCounts as OwnCountsOf, ownCounts}
 
 -- three rows of thirty-five words, read by size and number
 unfoldable pub parametersIn : List (List ℕ) → Parameters
@@ -66,9 +70,12 @@ shiftsAs t = record { up = t .up .0; down = t .down .0 }
 abbrev pub ruleAs : Rule → RuleOf
 ruleAs r = record { place = placeAs (r .place); width = r .width .0; thickness = r .thickness .0 }
 
-abbrev pub lineAs : Line → Option RuleOf
-lineAs Unruled = none
-lineAs (Ruled r) = some (ruleAs r)
+abbrev pub rulingAs : Ruling → List RuleOf
+rulingAs Unruled = []
+rulingAs (Ruled r) = ruleAs r ∷ []
+
+abbrev pub ownAs : Own → OwnOf
+ownAs o = record { before = rulingAs (o .before); behind = rulingAs (o .behind) }
 
 abbrev pub nucleusAs : Nucleus → NucleusOf
 nucleusAs n =
@@ -77,7 +84,7 @@ nucleusAs n =
       raise = n .raise .0;
       δ = n .delta .0;
       isPlain = n .plain;
-      line = lineAs (n .line);
+      own = ownAs (n .own);
     }
 
 abbrev pub arrangedAs : Arranged → ArrangedOf
@@ -87,11 +94,21 @@ arrangedAs a =
       first = placeAs (a .first);
       second = placeAs (a .second);
       third = placeAs (a .third);
-      rule = lineAs (a .rule);
+      own = ownAs (a .own);
     }
 
 abbrev pub distancesAs : Distances → Limit
 distancesAs d = record { shift = d .shift .0; reach = d .reach .0 }
+
+-- counts of own nodes, two at most
+pub record CountsAre (n : OwnCountsOf) (r : OwnCounts) : Type 0 where
+  pub before-is : r .before ≡ n .before
+  pub behind-is : r .behind ≡ n .behind
+  pub few : r .before + r .behind ≤ 2
+
+-- those of an item
+abbrev pub OwnCountsAre : Parameters → Style → Kind → OwnCounts → Type 0
+OwnCountsAre p s kind r = CountsAre (ownCounts p s kind) r
 
 -- the two digits of a number in the table of spaces: the units in the styles D to T', and in the script styles
 pub record Digits (x : ℕ) (e : Entry) : Type 0 where

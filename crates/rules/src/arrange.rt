@@ -1,4 +1,4 @@
-// An item, from the shapes of its fields: its size, where its fields stand, and its line or bar.
+// An item, from the shapes of its fields: its size, where its fields stand, and its own nodes.
 use crate::Style;
 use crate::boxes::Arranged;
 use crate::boxes::Script;
@@ -6,12 +6,13 @@ use crate::boxes::Shape;
 use crate::boxes::given;
 use crate::boxes::size_of;
 use crate::classes::is_op;
+use crate::fractions::bar_thickness;
 use crate::fractions::fraction;
+use crate::fractions::has_bar;
 use crate::limits::has_limits;
 use crate::limits::limited;
 use crate::nucleus::Nucleus;
 use crate::nucleus::atom_nucleus;
-use crate::nucleus::box_nucleus;
 use crate::nucleus::overline;
 use crate::nucleus::underline;
 use crate::parameters::AXIS_HEIGHT;
@@ -26,12 +27,13 @@ use crate::styles::is_display;
 use crate::styles::numerator_style;
 use crate::styles::subscript_style;
 use crate::styles::superscript_style;
+use formula::Base;
 use formula::Kind;
 ghost use mathlib.Core.Path.{_≡_};
-ghost use Rattle.rules.specs.Arrange.{firstStyle, secondStyle, thirdStyle, isGiven};
+ghost use Prim.Native.Nat.{_≤_};
+ghost use Rattle.rules.specs.Arrange.{baseStyle, firstStyle, secondStyle, thirdStyle, baseEnlarges, isGiven, setsLimits, nucleusOf, countsBehind, baseCounts, barCounts};
 ghost use Rattle.rules.specs.Arrange as rule;
-ghost use Rattle.rules.specs.NucleusFirst.{setsLimits, nucleusOf};
-ghost use Rattle.rules.specs.Values.{parametersIn, shapeAs, scriptAs, nucleusAs, arrangedAs};
+ghost use Rattle.rules.specs.Values.{parametersIn, shapeAs, scriptAs, nucleusAs, arrangedAs, CountsAre, OwnCountsAre};
 ghost use Rattle.rules.specs.Bounds.{ModerateShape, ModerateNucleus, Bounded};
 
 // The style of the first field of an item in a style.
@@ -39,10 +41,18 @@ pub fn first_style(kind: Kind, style: Style) -> Style
     ensures { λ r. ⌜ r ≡ firstStyle kind style ⌝ }
 {
     match kind {
-        Kind::Atom(_, _) => style,
-        Kind::Over => cramped_style(style),
-        Kind::Under => style,
+        Kind::Scripted(base) => base_style(base, style),
         Kind::Fraction(_) => numerator_style(style),
+    }
+}
+
+fn base_style(base: Base, style: Style) -> Style
+    ensures { λ r. ⌜ r ≡ baseStyle base style ⌝ }
+{
+    match base {
+        Base::Atom(_, _) => style,
+        Base::Over => cramped_style(style),
+        Base::Under => style,
     }
 }
 
@@ -50,9 +60,7 @@ pub fn second_style(kind: Kind, style: Style) -> Style
     ensures { λ r. ⌜ r ≡ secondStyle kind style ⌝ }
 {
     match kind {
-        Kind::Atom(_, _) => superscript_style(style),
-        Kind::Over => superscript_style(style),
-        Kind::Under => superscript_style(style),
+        Kind::Scripted(_) => superscript_style(style),
         Kind::Fraction(_) => denominator_style(style),
     }
 }
@@ -68,70 +76,70 @@ pub fn enlarges(kind: Kind, style: Style) -> bool
     ensures { λ r. ⌜ r ≡ rule.enlarges kind style ⌝ }
 {
     match kind {
-        Kind::Atom(class, _) => {
+        Kind::Scripted(base) => base_enlarges(base, style),
+        Kind::Fraction(_) => false,
+    }
+}
+
+fn base_enlarges(base: Base, style: Style) -> bool
+    ensures { λ r. ⌜ r ≡ baseEnlarges base style ⌝ }
+{
+    match base {
+        Base::Atom(class, _) => {
             if is_op(class) {
                 is_display(style)
             } else {
                 false
             }
         }
-        Kind::Over => false,
-        Kind::Under => false,
-        Kind::Fraction(_) => false,
+        Base::Over => false,
+        Base::Under => false,
     }
 }
 
-pub fn arrange(p: Parameters, style: Style, kind: Kind, x: Shape, y: Shape, z: Shape) -> Arranged
+pub fn arrange(p: &Parameters, style: Style, kind: Kind, x: Shape, y: Shape, z: Shape) -> Arranged
     requires { ⌜ ModerateShape x × ModerateShape y × ModerateShape z ⌝ }
-    ensures { λ r. ⌜ (arrangedAs r ≡ rule.arrange (parametersIn p) style kind (shapeAs x) (shapeAs y) (shapeAs z)) × Bounded r ⌝ }
+    ensures { λ r. ⌜ (arrangedAs r ≡ rule.arrange (parametersIn (now (p .entry))) style kind (shapeAs x) (shapeAs y) (shapeAs z)) × Bounded r ⌝ }
 {
-    if let Kind::Fraction(bar) = kind {
-        return fraction(p, style, bar, size_of(x), size_of(y));
-    }
-    let superscript = given(y);
-    let subscript = given(z);
-    let limits = sets_limits(style, kind);
-    let n = nucleus_of(p, style, kind, limits, is_given(subscript), x);
-    if limits {
-        limited(p, font_size(style), n, superscript, subscript)
-    } else {
-        scripted(p, style, n, superscript, subscript)
+    match kind {
+        Kind::Scripted(base) => {
+            let superscript = given(y);
+            let subscript = given(z);
+            let n = nucleus_of(p, style, base, is_given(subscript), x);
+            if sets_limits(style, base) {
+                limited(p, font_size(style), n, superscript, subscript)
+            } else {
+                scripted(p, style, n, superscript, subscript)
+            }
+        }
+        Kind::Fraction(bar) => fraction(p, style, bar, size_of(x), size_of(y)),
     }
 }
 
 // Whether the scripts are set as limits.
-fn sets_limits(style: Style, kind: Kind) -> bool
-    ensures { λ r. ⌜ r ≡ setsLimits style kind ⌝ }
+fn sets_limits(style: Style, base: Base) -> bool
+    ensures { λ r. ⌜ r ≡ setsLimits style base ⌝ }
 {
-    match kind {
-        Kind::Atom(class, limits) => has_limits(style, class, limits),
-        Kind::Over => false,
-        Kind::Under => false,
-        Kind::Fraction(_) => false,
+    match base {
+        Base::Atom(class, limits) => has_limits(style, class, limits),
+        Base::Over => false,
+        Base::Under => false,
     }
 }
 
-// What the scripts are set to; the tests are whether it has limits set, and has a subscript. A fraction has no scripts:
-// its numerator stands in.
-fn nucleus_of(
-    p: Parameters,
-    style: Style,
-    kind: Kind,
-    limits: bool,
-    subscript: bool,
-    x: Shape,
-) -> Nucleus
+// What the scripts are set to; the test is whether there is a subscript.
+fn nucleus_of(p: &Parameters, style: Style, base: Base, subscript: bool, x: Shape) -> Nucleus
     requires { ⌜ ModerateShape x ⌝ }
-    ensures { λ r. ⌜ (nucleusAs r ≡ nucleusOf (parametersIn p) style kind limits subscript (shapeAs x)) × ModerateNucleus r ⌝ }
+    ensures { λ r. ⌜ (nucleusAs r ≡ nucleusOf (parametersIn (now (p .entry))) style base subscript (shapeAs x)) × ModerateNucleus r ⌝ }
 {
-    match kind {
-        Kind::Atom(class, _) => {
+    match base {
+        Base::Atom(class, limits) => {
             let axis = parameter(p, font_size(style), AXIS_HEIGHT);
-            atom_nucleus(axis, is_op(class), limits, subscript, x)
+            let as_limits = has_limits(style, class, limits);
+            atom_nucleus(axis, is_op(class), as_limits, subscript, x)
         }
-        Kind::Over => overline(rule_thickness(p, style), size_of(x)),
-        Kind::Under => underline(rule_thickness(p, style), size_of(x)),
-        Kind::Fraction(_) => box_nucleus(size_of(x)),
+        Base::Over => overline(rule_thickness(p, style), size_of(x)),
+        Base::Under => underline(rule_thickness(p, style), size_of(x)),
     }
 }
 
@@ -141,5 +149,52 @@ fn is_given(script: Script) -> bool
     match script {
         Script::Absent => false,
         Script::Given(_) => true,
+    }
+}
+
+// How many own nodes an item has before its first field, and behind it. Its fields do not change that.
+pub struct OwnCounts {
+    pub before: usize,
+    pub behind: usize,
+}
+
+pub fn own_counts(p: &Parameters, style: Style, kind: Kind) -> OwnCounts
+    ensures { λ r. ⌜ OwnCountsAre (parametersIn (now (p .entry))) style kind r ⌝ }
+{
+    match kind {
+        Kind::Scripted(base) => base_counts(base),
+        Kind::Fraction(bar) => bar_counts(has_bar(bar_thickness(p, font_size(style), bar))),
+    }
+}
+
+// A line always.
+fn base_counts(base: Base) -> OwnCounts
+    ensures { λ r. ⌜ CountsAre (baseCounts base) r ⌝ }
+{
+    match base {
+        Base::Atom(_, _) => counts_behind(0),
+        Base::Over => counts_behind(1),
+        Base::Under => counts_behind(1),
+    }
+}
+
+// A bar where it has a thickness.
+fn bar_counts(thick: bool) -> OwnCounts
+    ensures { λ r. ⌜ CountsAre (barCounts thick) r ⌝ }
+{
+    if thick {
+        counts_behind(1)
+    } else {
+        counts_behind(0)
+    }
+}
+
+fn counts_behind(n: usize) -> OwnCounts
+    requires { ⌜ n ≤ 2 ⌝ }
+    ensures { λ r. ⌜ CountsAre (countsBehind n) r ⌝ }
+{
+    OwnCounts {
+        before: 0,
+        behind: n,
     }
 }

@@ -5,8 +5,8 @@ ghost use mathlib.Core.Path.{_≡_};
 ghost use Rattle.scaled.specs.Signed.{Within};
 ghost use Rattle.font.specs.Answers.{metricsAs};
 ghost use Rattle.rules.specs.Boxes as boxes;
-ghost use Rattle.rules.specs.Values.{sizeAs, shapeAs, scriptAs, placeAs};
-ghost use Rattle.rules.specs.Bounds.{words, Moderate, ModerateShape, ModerateScript, PlaceWithin};
+ghost use Rattle.rules.specs.Values.{sizeAs, shapeAs, scriptAs, placeAs, ruleAs, ownAs};
+ghost use Rattle.rules.specs.Bounds.{words, itemWords, Moderate, ModerateShape, ModerateScript, PlaceWithin, RuleWithin, OwnWithin};
 
 pub struct Size {
     pub width: Sp,
@@ -46,18 +46,25 @@ pub struct Rule {
     pub thickness: Sp,
 }
 
-pub enum Line {
+// Own nodes that stand together: none, or a rule.
+pub enum Ruling {
     Unruled,
     Ruled(Rule),
 }
 
-// An item: its size, where its three fields stand, and its line or bar if it has one.
+// An item's own nodes: before its first field, and behind it.
+pub struct Own {
+    pub before: Ruling,
+    pub behind: Ruling,
+}
+
+// An item: its size, where its three fields stand, and its own nodes.
 pub struct Arranged {
     pub size: Size,
     pub first: Place,
     pub second: Place,
     pub third: Place,
-    pub rule: Line,
+    pub own: Own,
 }
 
 pub fn size_of(x: Shape) -> Size
@@ -110,6 +117,25 @@ pub fn origin() -> Place
     Place {
         across: Sp(0),
         up: Sp(0),
+    }
+}
+
+pub fn unruled() -> Own
+    ensures { λ r. ⌜ (ownAs r ≡ boxes.noOwn) × OwnWithin itemWords r ⌝ }
+{
+    Own {
+        before: Ruling::Unruled,
+        behind: Ruling::Unruled,
+    }
+}
+
+pub fn ruled_behind(rule: Rule) -> Own
+    requires { ⌜ RuleWithin itemWords rule ⌝ }
+    ensures { λ r. ⌜ (ownAs r ≡ boxes.ruledBehind (ruleAs rule)) × OwnWithin itemWords r ⌝ }
+{
+    Own {
+        before: Ruling::Unruled,
+        behind: Ruling::Ruled(rule),
     }
 }
 

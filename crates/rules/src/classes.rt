@@ -1,10 +1,11 @@
 // The class of an item and its change.
+use formula::Base;
 use formula::Class;
 use formula::Kind;
 ghost use mathlib.Core.Path.{_≡_};
 ghost use mathlib.Core.Bool.{_||_};
 ghost use Rattle.formula.specs.Heads.{isOp};
-ghost use Rattle.rules.specs.Classes.{classOf, opensOperand, closesOperand, binChanged, changedClass};
+ghost use Rattle.rules.specs.Classes.{baseClass, classOf, opensOperand, closesOperand, binChanged, changedClass};
 ghost use Rattle.rules.specs.Values.{neighbourAs};
 
 // The class of the nearest atom to one side, or the end of the list.
@@ -28,15 +29,24 @@ pub fn is_op(class: Class) -> bool
     }
 }
 
-// Lines count as Ord (rule 16), fractions as Inner (rule 15e).
+// Fractions count as Inner (rule 15e).
 pub fn class_of(kind: Kind) -> Class
     ensures { λ r. ⌜ r ≡ classOf kind ⌝ }
 {
     match kind {
-        Kind::Atom(class, _) => class,
-        Kind::Over => Class::Ord,
-        Kind::Under => Class::Ord,
+        Kind::Scripted(base) => base_class(base),
         Kind::Fraction(_) => Class::Inner,
+    }
+}
+
+// Lines count as Ord (rule 16).
+fn base_class(base: Base) -> Class
+    ensures { λ r. ⌜ r ≡ baseClass base ⌝ }
+{
+    match base {
+        Base::Atom(class, _) => class,
+        Base::Over => Class::Ord,
+        Base::Under => Class::Ord,
     }
 }
 

@@ -1,13 +1,15 @@
 // Fractions (rules 15 to 15d): numerator x, denominator z, bar thickness θ.
 use crate::Style;
 use crate::boxes::Arranged;
-use crate::boxes::Line;
+use crate::boxes::Own;
 use crate::boxes::Place;
 use crate::boxes::Rule;
 use crate::boxes::Shifts;
 use crate::boxes::Size;
 use crate::boxes::centred;
 use crate::boxes::origin;
+use crate::boxes::ruled_behind;
+use crate::boxes::unruled;
 use crate::parameters::AXIS_HEIGHT;
 use crate::parameters::DENOM1;
 use crate::parameters::DENOM2;
@@ -30,12 +32,12 @@ ghost use Rattle.scaled.specs.Length.{pick};
 ghost use Rattle.rules.specs.Styles.{isDisplay};
 ghost use Rattle.rules.specs.Fractions.{barThickness, hasBar, numeratorUp, denominatorDown, fractionShifts, leastClearance, shiftsWithoutBar, leastFromBar, freeAbove, freeBelow, shiftsWithBar, finalShifts, barOf};
 ghost use Rattle.rules.specs.Fractions as rule;
-ghost use Rattle.rules.specs.Values.{parametersIn, sizeAs, shiftsAs, lineAs, arrangedAs};
-ghost use Rattle.rules.specs.Bounds.{words, itemWords, Moderate, ShiftsWithin, LineWithin, Bounded};
+ghost use Rattle.rules.specs.Values.{parametersIn, sizeAs, shiftsAs, ownAs, arrangedAs};
+ghost use Rattle.rules.specs.Bounds.{words, itemWords, Moderate, ShiftsWithin, OwnWithin, Bounded};
 
-pub fn fraction(p: Parameters, style: Style, bar: Bar, x: Size, z: Size) -> Arranged
+pub fn fraction(p: &Parameters, style: Style, bar: Bar, x: Size, z: Size) -> Arranged
     requires { ⌜ Moderate x × Moderate z ⌝ }
-    ensures { λ r. ⌜ (arrangedAs r ≡ rule.fraction (parametersIn p) style bar (sizeAs x) (sizeAs z)) × Bounded r ⌝ }
+    ensures { λ r. ⌜ (arrangedAs r ≡ rule.fraction (parametersIn (now (p .entry))) style bar (sizeAs x) (sizeAs z)) × Bounded r ⌝ }
 {
     let size = font_size(style);
     let theta = bar_thickness(p, size, bar);
@@ -51,9 +53,9 @@ pub fn fraction(p: Parameters, style: Style, bar: Bar, x: Size, z: Size) -> Arra
 }
 
 // 15: with thickness 0 there is no bar.
-fn bar_thickness(p: Parameters, size: usize, bar: Bar) -> Sp
+pub fn bar_thickness(p: &Parameters, size: usize, bar: Bar) -> Sp
     requires { ⌜ size < 3 ⌝ }
-    ensures { λ r. ⌜ (r .0 ≡ barThickness (parametersIn p) size bar) × Within (words 1) (r .0) ⌝ }
+    ensures { λ r. ⌜ (r .0 ≡ barThickness (parametersIn (now (p .entry))) size bar) × Within (words 1) (r .0) ⌝ }
 {
     match bar {
         Bar::Default => parameter(p, size, RULE_THICKNESS),
@@ -61,15 +63,15 @@ fn bar_thickness(p: Parameters, size: usize, bar: Bar) -> Sp
     }
 }
 
-fn has_bar(theta: Sp) -> bool
+pub fn has_bar(theta: Sp) -> bool
     ensures { λ r. ⌜ r ≡ hasBar (theta .0) ⌝ }
 {
     Sp(0).less(theta)
 }
 
-fn final_shifts(p: Parameters, style: Style, theta: Sp, x: Size, z: Size) -> Shifts
+fn final_shifts(p: &Parameters, style: Style, theta: Sp, x: Size, z: Size) -> Shifts
     requires { ⌜ Within (words 1) (theta .0) × Moderate x × Moderate z ⌝ }
-    ensures { λ r. ⌜ (shiftsAs r ≡ finalShifts (parametersIn p) style (theta .0) (sizeAs x) (sizeAs z)) × ShiftsWithin 12 r ⌝ }
+    ensures { λ r. ⌜ (shiftsAs r ≡ finalShifts (parametersIn (now (p .entry))) style (theta .0) (sizeAs x) (sizeAs z)) × ShiftsWithin 12 r ⌝ }
 {
     let t = fraction_shifts(p, style, theta);
     if has_bar(theta) {
@@ -81,8 +83,8 @@ fn final_shifts(p: Parameters, style: Style, theta: Sp, x: Size, z: Size) -> Shi
 }
 
 // 15b: the shifts at first.
-fn fraction_shifts(p: Parameters, style: Style, theta: Sp) -> Shifts
-    ensures { λ r. ⌜ (shiftsAs r ≡ fractionShifts (parametersIn p) style (theta .0)) × ShiftsWithin 1 r ⌝ }
+fn fraction_shifts(p: &Parameters, style: Style, theta: Sp) -> Shifts
+    ensures { λ r. ⌜ (shiftsAs r ≡ fractionShifts (parametersIn (now (p .entry))) style (theta .0)) × ShiftsWithin 1 r ⌝ }
 {
     Shifts {
         up: numerator_up(p, style, theta),
@@ -90,8 +92,8 @@ fn fraction_shifts(p: Parameters, style: Style, theta: Sp) -> Shifts
     }
 }
 
-fn numerator_up(p: Parameters, style: Style, theta: Sp) -> Sp
-    ensures { λ r. ⌜ (r .0 ≡ numeratorUp (parametersIn p) style (theta .0)) × Within (words 1) (r .0) ⌝ }
+fn numerator_up(p: &Parameters, style: Style, theta: Sp) -> Sp
+    ensures { λ r. ⌜ (r .0 ≡ numeratorUp (parametersIn (now (p .entry))) style (theta .0)) × Within (words 1) (r .0) ⌝ }
 {
     let size = font_size(style);
     if is_display(style) {
@@ -103,8 +105,8 @@ fn numerator_up(p: Parameters, style: Style, theta: Sp) -> Sp
     parameter(p, size, NUM3)
 }
 
-fn denominator_down(p: Parameters, style: Style) -> Sp
-    ensures { λ r. ⌜ (r .0 ≡ denominatorDown (parametersIn p) style) × Within (words 1) (r .0) ⌝ }
+fn denominator_down(p: &Parameters, style: Style) -> Sp
+    ensures { λ r. ⌜ (r .0 ≡ denominatorDown (parametersIn (now (p .entry))) style) × Within (words 1) (r .0) ⌝ }
 {
     let size = font_size(style);
     if is_display(style) {
@@ -114,16 +116,16 @@ fn denominator_down(p: Parameters, style: Style) -> Sp
 }
 
 // 15c: without a bar, both gain half of what the clearance lacks.
-fn shifts_without_bar(p: Parameters, style: Style, x: Size, z: Size, t: Shifts) -> Shifts
+fn shifts_without_bar(p: &Parameters, style: Style, x: Size, z: Size, t: Shifts) -> Shifts
     requires { ⌜ Moderate x × Moderate z × ShiftsWithin 1 t ⌝ }
-    ensures { λ r. ⌜ (shiftsAs r ≡ shiftsWithoutBar (parametersIn p) style (sizeAs x) (sizeAs z) (shiftsAs t)) × ShiftsWithin 12 r ⌝ }
+    ensures { λ r. ⌜ (shiftsAs r ≡ shiftsWithoutBar (parametersIn (now (p .entry))) style (sizeAs x) (sizeAs z) (shiftsAs t)) × ShiftsWithin 12 r ⌝ }
 {
     parted(least_clearance(p, style), clearance(x, z, t), t)
 }
 
 // 15c: seven rules in display styles, three in others.
-fn least_clearance(p: Parameters, style: Style) -> Sp
-    ensures { λ r. ⌜ (r .0 ≡ leastClearance (parametersIn p) style) × Within (words 7) (r .0) ⌝ }
+fn least_clearance(p: &Parameters, style: Style) -> Sp
+    ensures { λ r. ⌜ (r .0 ≡ leastClearance (parametersIn (now (p .entry))) style) × Within (words 7) (r .0) ⌝ }
 {
     rules_clear(style, rule_thickness(p, style), 7, 3)
 }
@@ -212,9 +214,9 @@ fn rules_clear(style: Style, theta: Sp, display: u8, other: u8) -> Sp
 }
 
 // The bar's top is half of its thickness above the axis.
-fn bar_of(axis: Sp, theta: Sp, w: Sp) -> Line
+fn bar_of(axis: Sp, theta: Sp, w: Sp) -> Own
     requires { ⌜ Within (words 1) (axis .0) × Within (words 1) (theta .0) × Within (words 2) (w .0) ⌝ }
-    ensures { λ r. ⌜ (lineAs r ≡ barOf (axis .0) (theta .0) (w .0)) × LineWithin itemWords r ⌝ }
+    ensures { λ r. ⌜ (ownAs r ≡ barOf (axis .0) (theta .0) (w .0)) × OwnWithin itemWords r ⌝ }
 {
     if has_bar(theta) {
         let rule = Rule {
@@ -225,16 +227,16 @@ fn bar_of(axis: Sp, theta: Sp, w: Sp) -> Line
             width: w,
             thickness: theta,
         };
-        Line::Ruled(rule)
+        ruled_behind(rule)
     } else {
-        Line::Unruled
+        unruled()
     }
 }
 
 // Both parts in the middle of the width w.
-fn stacked(x: Size, z: Size, w: Sp, t: Shifts, bar: Line) -> Arranged
-    requires { ⌜ Moderate x × Moderate z × Within (words 2) (w .0) × ShiftsWithin 12 t × LineWithin itemWords bar ⌝ }
-    ensures { λ r. ⌜ (arrangedAs r ≡ rule.stacked (sizeAs x) (sizeAs z) (w .0) (shiftsAs t) (lineAs bar)) × Bounded r ⌝ }
+fn stacked(x: Size, z: Size, w: Sp, t: Shifts, bar: Own) -> Arranged
+    requires { ⌜ Moderate x × Moderate z × Within (words 2) (w .0) × ShiftsWithin 12 t × OwnWithin itemWords bar ⌝ }
+    ensures { λ r. ⌜ (arrangedAs r ≡ rule.stacked (sizeAs x) (sizeAs z) (w .0) (shiftsAs t) (ownAs bar)) × Bounded r ⌝ }
 {
     let up = t.up;
     Arranged {
@@ -252,6 +254,6 @@ fn stacked(x: Size, z: Size, w: Sp, t: Shifts, bar: Line) -> Arranged
             up: t.down.negated(),
         },
         third: origin(),
-        rule: bar,
+        own: bar,
     }
 }

@@ -49,14 +49,14 @@ fn limits_in(style: Style, limits: Limits) -> bool
 
 // Rule 13a: all three boxes stand in the middle of the greatest width.
 pub fn limited(
-    p: Parameters,
+    p: &Parameters,
     size: usize,
     n: Nucleus,
     superscript: Script,
     subscript: Script,
 ) -> Arranged
     requires { ⌜ (size < 3) × ModerateNucleus n × ModerateScript superscript × ModerateScript subscript ⌝ }
-    ensures { λ r. ⌜ (arrangedAs r ≡ rule.limited (parametersIn p) size (nucleusAs n) (scriptAs superscript) (scriptAs subscript)) × Bounded r ⌝ }
+    ensures { λ r. ⌜ (arrangedAs r ≡ rule.limited (parametersIn (now (p .entry))) size (nucleusAs n) (scriptAs superscript) (scriptAs subscript)) × Bounded r ⌝ }
 {
     let width = n.size
         .width
@@ -69,7 +69,7 @@ pub fn limited(
     let raise = n.raise;
     let second = over.place;
     let third = under.place;
-    let rule = n.line;
+    let own = n.own;
     Arranged {
         size: Size {
             width,
@@ -82,7 +82,7 @@ pub fn limited(
         },
         second,
         third,
-        rule,
+        own,
     }
 }
 
@@ -104,9 +104,9 @@ struct Side {
 }
 
 // Half of δ to the right; an empty superscript adds no height.
-fn above(p: Parameters, size: usize, n: Nucleus, w: Sp, superscript: Script) -> Side
+fn above(p: &Parameters, size: usize, n: Nucleus, w: Sp, superscript: Script) -> Side
     requires { ⌜ (size < 3) × ModerateNucleus n × Within (words 2) (w .0) × ModerateScript superscript ⌝ }
-    ensures { λ r. ⌜ (r .reach .0 ≡ heightAbove (parametersIn p) size (nucleusAs n) (scriptAs superscript)) × (placeAs (r .place) ≡ placeAbove (parametersIn p) size (nucleusAs n) (w .0) (scriptAs superscript)) × Within (words itemWords) (r .reach .0) × PlaceWithin itemWords (r .place) ⌝ }
+    ensures { λ r. ⌜ (r .reach .0 ≡ heightAbove (parametersIn (now (p .entry))) size (nucleusAs n) (scriptAs superscript)) × (placeAs (r .place) ≡ placeAbove (parametersIn (now (p .entry))) size (nucleusAs n) (w .0) (scriptAs superscript)) × Within (words itemWords) (r .reach .0) × PlaceWithin itemWords (r .place) ⌝ }
 {
     match superscript {
         Script::Absent => {
@@ -130,9 +130,9 @@ fn above(p: Parameters, size: usize, n: Nucleus, w: Sp, superscript: Script) -> 
 }
 
 // The same below, half of δ to the left.
-fn below(p: Parameters, size: usize, n: Nucleus, w: Sp, subscript: Script) -> Side
+fn below(p: &Parameters, size: usize, n: Nucleus, w: Sp, subscript: Script) -> Side
     requires { ⌜ (size < 3) × ModerateNucleus n × Within (words 2) (w .0) × ModerateScript subscript ⌝ }
-    ensures { λ r. ⌜ (r .reach .0 ≡ depthBelow (parametersIn p) size (nucleusAs n) (scriptAs subscript)) × (placeAs (r .place) ≡ placeBelow (parametersIn p) size (nucleusAs n) (w .0) (scriptAs subscript)) × Within (words itemWords) (r .reach .0) × PlaceWithin itemWords (r .place) ⌝ }
+    ensures { λ r. ⌜ (r .reach .0 ≡ depthBelow (parametersIn (now (p .entry))) size (nucleusAs n) (scriptAs subscript)) × (placeAs (r .place) ≡ placeBelow (parametersIn (now (p .entry))) size (nucleusAs n) (w .0) (scriptAs subscript)) × Within (words itemWords) (r .reach .0) × PlaceWithin itemWords (r .place) ⌝ }
 {
     match subscript {
         Script::Absent => {
@@ -160,9 +160,9 @@ struct Distances {
     reach: Sp,
 }
 
-fn limit_above(p: Parameters, size: usize, n: Nucleus, x: Size) -> Distances
+fn limit_above(p: &Parameters, size: usize, n: Nucleus, x: Size) -> Distances
     requires { ⌜ (size < 3) × ModerateNucleus n × Moderate x ⌝ }
-    ensures { λ r. ⌜ (distancesAs r ≡ limitAbove (parametersIn p) size (nucleusAs n) (sizeAs x)) × DistancesWithin 12 r ⌝ }
+    ensures { λ r. ⌜ (distancesAs r ≡ limitAbove (parametersIn (now (p .entry))) size (nucleusAs n) (sizeAs x)) × DistancesWithin 12 r ⌝ }
 {
     let gap = parameter(p, size, BIG_OP_SPACING1);
     let distance = parameter(p, size, BIG_OP_SPACING3);
@@ -170,9 +170,9 @@ fn limit_above(p: Parameters, size: usize, n: Nucleus, x: Size) -> Distances
     limit(gap, distance, blank, n.size.height, x.depth, x.height)
 }
 
-fn limit_below(p: Parameters, size: usize, n: Nucleus, y: Size) -> Distances
+fn limit_below(p: &Parameters, size: usize, n: Nucleus, y: Size) -> Distances
     requires { ⌜ (size < 3) × ModerateNucleus n × Moderate y ⌝ }
-    ensures { λ r. ⌜ (distancesAs r ≡ limitBelow (parametersIn p) size (nucleusAs n) (sizeAs y)) × DistancesWithin 12 r ⌝ }
+    ensures { λ r. ⌜ (distancesAs r ≡ limitBelow (parametersIn (now (p .entry))) size (nucleusAs n) (sizeAs y)) × DistancesWithin 12 r ⌝ }
 {
     let gap = parameter(p, size, BIG_OP_SPACING2);
     let distance = parameter(p, size, BIG_OP_SPACING4);

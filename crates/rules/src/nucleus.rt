@@ -1,10 +1,12 @@
 // The nucleus of an atom, an operator, an overline or an underline.
-use crate::boxes::Line;
+use crate::boxes::Own;
 use crate::boxes::Place;
 use crate::boxes::Rule;
 use crate::boxes::Shape;
 use crate::boxes::Size;
 use crate::boxes::char_size;
+use crate::boxes::ruled_behind;
+use crate::boxes::unruled;
 use crate::boxes::zero_size;
 use font::Metrics;
 use scaled::Sp;
@@ -26,7 +28,8 @@ pub struct Nucleus {
     pub delta: Sp,
     // Whether the drops of rule 18a are 0.
     pub plain: bool,
-    pub line: Line,
+    // Its line, if it has one.
+    pub own: Own,
 }
 
 // An atom's nucleus; the tests are whether it is an Op, has limits set, and has a subscript.
@@ -47,7 +50,7 @@ pub fn atom_nucleus(axis: Sp, operator: bool, limits: bool, subscript: bool, x: 
     }
 }
 
-pub fn box_nucleus(size: Size) -> Nucleus
+fn box_nucleus(size: Size) -> Nucleus
     requires { ⌜ Moderate size ⌝ }
     ensures { λ r. ⌜ (nucleusAs r ≡ boxNucleus (sizeAs size)) × ModerateNucleus r ⌝ }
 {
@@ -56,7 +59,7 @@ pub fn box_nucleus(size: Size) -> Nucleus
         raise: Sp(0),
         delta: Sp(0),
         plain: false,
-        line: Line::Unruled,
+        own: unruled(),
     }
 }
 
@@ -75,7 +78,7 @@ fn symbol_nucleus(m: Metrics, subscript: bool) -> Nucleus
             raise: Sp(0),
             delta: Sp::of_word(m.italic),
             plain: true,
-            line: Line::Unruled,
+            own: unruled(),
         }
     } else {
         Nucleus {
@@ -83,7 +86,7 @@ fn symbol_nucleus(m: Metrics, subscript: bool) -> Nucleus
             raise: Sp(0),
             delta: Sp(0),
             plain: true,
-            line: Line::Unruled,
+            own: unruled(),
         }
     }
 }
@@ -99,7 +102,7 @@ fn operator_nucleus(axis: Sp, m: Metrics, beside: bool) -> Nucleus
         raise: down.negated(),
         delta: Sp::of_word(m.italic),
         plain: false,
-        line: Line::Unruled,
+        own: unruled(),
     }
 }
 
@@ -192,6 +195,6 @@ fn lined(size: Size, theta: Sp, up: Sp) -> Nucleus
         raise: Sp(0),
         delta: Sp(0),
         plain: false,
-        line: Line::Ruled(rule),
+        own: ruled_behind(rule),
     }
 }

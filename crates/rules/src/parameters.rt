@@ -3,7 +3,6 @@ use crate::Style;
 use crate::styles::font_size;
 use scaled::Sp;
 ghost use mathlib.Core.Path.{_≡_};
-ghost use mathlib.Core.Bool.{true, false};
 ghost use Prim.Native.Nat.{_<_};
 ghost use Rattle.scaled.specs.Made.{FromWord};
 ghost use Rattle.scaled.specs.Signed.{Within};
@@ -56,30 +55,16 @@ pub const BIG_OP_SPACING4: usize = 33; // ξ12
 
 pub const BIG_OP_SPACING5: usize = 34; // ξ13
 
-// Every row is read, so that each read is at a known row and the compiler copies none; the two words not asked for count 0.
-pub fn parameter(p: Parameters, size: usize, number: usize) -> Sp
+pub fn parameter(p: &Parameters, size: usize, number: usize) -> Sp
     requires { ⌜ (size < 3) × (number < 35) ⌝ }
-    ensures { λ r. ⌜ FromWord (parametersIn p size number) (r .0) ⌝ }
+    ensures { λ r. ⌜ FromWord (parametersIn (now (p .entry)) size number) (r .0) ⌝ }
 {
-    let text = p[0][number];
-    let script = p[1][number];
-    let scriptscript = p[2][number];
-    let at_text = chosen(size == 0, text);
-    let at_script = chosen(size == 1, script);
-    let at_scriptscript = chosen(size == 2, scriptscript);
-    Sp::of_word(at_text + at_script + at_scriptscript)
-}
-
-// The word if it is the one, else 0.
-fn chosen(is: bool, word: u32) -> u32
-    ensures { λ r. ⌜ r ≡ elim is [ true ↦ word | false ↦ 0 ] ⌝ }
-{
-    if is { word } else { 0 }
+    Sp::of_word(p[size][number])
 }
 
 // ξ8 at the size of a style.
-pub fn rule_thickness(p: Parameters, style: Style) -> Sp
-    ensures { λ r. ⌜ (r .0 ≡ ruleThickness (parametersIn p) (fontSize style)) × Within (words 1) (r .0) ⌝ }
+pub fn rule_thickness(p: &Parameters, style: Style) -> Sp
+    ensures { λ r. ⌜ (r .0 ≡ ruleThickness (parametersIn (now (p .entry))) (fontSize style)) × Within (words 1) (r .0) ⌝ }
 {
     parameter(p, font_size(style), RULE_THICKNESS)
 }

@@ -34,14 +34,14 @@ ghost use Rattle.rules.specs.Bounds.{words, itemWords, Moderate, Moderat
 const SCRIPT_SPACE: i64 = 32768;
 
 pub fn scripted(
-    p: Parameters,
+    p: &Parameters,
     style: Style,
     n: Nucleus,
     superscript: Script,
     subscript: Script,
 ) -> Arranged
     requires { ⌜ ModerateNucleus n × ModerateScript superscript × ModerateScript subscript ⌝ }
-    ensures { λ r. ⌜ (arrangedAs r ≡ rule.scripted (parametersIn p) style (nucleusAs n) (scriptAs superscript) (scriptAs subscript)) × Bounded r ⌝ }
+    ensures { λ r. ⌜ (arrangedAs r ≡ rule.scripted (parametersIn (now (p .entry))) style (nucleusAs n) (scriptAs superscript) (scriptAs subscript)) × Bounded r ⌝ }
 {
     match superscript {
         Script::Absent => match subscript {
@@ -56,9 +56,9 @@ pub fn scripted(
 }
 
 // 18a: what a nucleus that is no plain symbol drops a superscript by, at the size of the superscript's style.
-fn drop_up(p: Parameters, style: Style, n: Nucleus) -> Sp
+fn drop_up(p: &Parameters, style: Style, n: Nucleus) -> Sp
     requires { ⌜ ModerateNucleus n ⌝ }
-    ensures { λ r. ⌜ (r .0 ≡ dropUp (parametersIn p) style (nucleusAs n)) × Within (words 8) (r .0) ⌝ }
+    ensures { λ r. ⌜ (r .0 ≡ dropUp (parametersIn (now (p .entry))) style (nucleusAs n)) × Within (words 8) (r .0) ⌝ }
 {
     if n.plain {
         return Sp(0);
@@ -68,9 +68,9 @@ fn drop_up(p: Parameters, style: Style, n: Nucleus) -> Sp
 }
 
 // 18a: the same for a subscript.
-fn drop_down(p: Parameters, style: Style, n: Nucleus) -> Sp
+fn drop_down(p: &Parameters, style: Style, n: Nucleus) -> Sp
     requires { ⌜ ModerateNucleus n ⌝ }
-    ensures { λ r. ⌜ (r .0 ≡ dropDown (parametersIn p) style (nucleusAs n)) × Within (words 8) (r .0) ⌝ }
+    ensures { λ r. ⌜ (r .0 ≡ dropDown (parametersIn (now (p .entry))) style (nucleusAs n)) × Within (words 8) (r .0) ⌝ }
 {
     if n.plain {
         return Sp(0);
@@ -80,9 +80,9 @@ fn drop_down(p: Parameters, style: Style, n: Nucleus) -> Sp
 }
 
 // 18b: a subscript y alone.
-fn subscript_down(p: Parameters, style: Style, n: Nucleus, y: Size) -> Sp
+fn subscript_down(p: &Parameters, style: Style, n: Nucleus, y: Size) -> Sp
     requires { ⌜ ModerateNucleus n × Moderate y ⌝ }
-    ensures { λ r. ⌜ (r .0 ≡ subscriptDown (parametersIn p) style (nucleusAs n) (sizeAs y)) × Within (words 8) (r .0) ⌝ }
+    ensures { λ r. ⌜ (r .0 ≡ subscriptDown (parametersIn (now (p .entry))) style (nucleusAs n) (sizeAs y)) × Within (words 8) (r .0) ⌝ }
 {
     let size = font_size(style);
     let dropped = drop_down(p, style, n);
@@ -92,9 +92,9 @@ fn subscript_down(p: Parameters, style: Style, n: Nucleus, y: Size) -> Sp
 }
 
 // 18c: a superscript x.
-fn superscript_up(p: Parameters, style: Style, n: Nucleus, x: Size) -> Sp
+fn superscript_up(p: &Parameters, style: Style, n: Nucleus, x: Size) -> Sp
     requires { ⌜ ModerateNucleus n × Moderate x ⌝ }
-    ensures { λ r. ⌜ (r .0 ≡ superscriptUp (parametersIn p) style (nucleusAs n) (sizeAs x)) × Within (words 8) (r .0) ⌝ }
+    ensures { λ r. ⌜ (r .0 ≡ superscriptUp (parametersIn (now (p .entry))) style (nucleusAs n) (sizeAs x)) × Within (words 8) (r .0) ⌝ }
 {
     let dropped = drop_up(p, style, n);
     let least = least_up(p, style);
@@ -103,8 +103,8 @@ fn superscript_up(p: Parameters, style: Style, n: Nucleus, x: Size) -> Sp
 }
 
 // 18c: σ15 in cramped styles, σ13 in D, else σ14.
-fn least_up(p: Parameters, style: Style) -> Sp
-    ensures { λ r. ⌜ (r .0 ≡ leastUp (parametersIn p) style) × Within (words 1) (r .0) ⌝ }
+fn least_up(p: &Parameters, style: Style) -> Sp
+    ensures { λ r. ⌜ (r .0 ≡ leastUp (parametersIn (now (p .entry))) style) × Within (words 1) (r .0) ⌝ }
 {
     let size = font_size(style);
     if style.cramped {
@@ -117,9 +117,9 @@ fn least_up(p: Parameters, style: Style) -> Sp
 }
 
 // 18d: the subscript of a pair, at first.
-fn pair_down(p: Parameters, style: Style, n: Nucleus) -> Sp
+fn pair_down(p: &Parameters, style: Style, n: Nucleus) -> Sp
     requires { ⌜ ModerateNucleus n ⌝ }
-    ensures { λ r. ⌜ (r .0 ≡ pairDown (parametersIn p) style (nucleusAs n)) × Within (words 8) (r .0) ⌝ }
+    ensures { λ r. ⌜ (r .0 ≡ pairDown (parametersIn (now (p .entry))) style (nucleusAs n)) × Within (words 8) (r .0) ⌝ }
 {
     let dropped = drop_down(p, style, n);
     let least = parameter(p, font_size(style), SUB2);
@@ -127,9 +127,9 @@ fn pair_down(p: Parameters, style: Style, n: Nucleus) -> Sp
 }
 
 // 18c to 18e: superscript x and subscript y.
-fn pair_shifts(p: Parameters, style: Style, n: Nucleus, x: Size, y: Size) -> Shifts
+fn pair_shifts(p: &Parameters, style: Style, n: Nucleus, x: Size, y: Size) -> Shifts
     requires { ⌜ ModerateNucleus n × Moderate x × Moderate y ⌝ }
-    ensures { λ r. ⌜ (shiftsAs r ≡ pairShifts (parametersIn p) style (nucleusAs n) (sizeAs x) (sizeAs y)) × ShiftsWithin 24 r ⌝ }
+    ensures { λ r. ⌜ (shiftsAs r ≡ pairShifts (parametersIn (now (p .entry))) style (nucleusAs n) (sizeAs x) (sizeAs y)) × ShiftsWithin 24 r ⌝ }
 {
     let first = Shifts {
         up: superscript_up(p, style, n, x),
@@ -139,9 +139,9 @@ fn pair_shifts(p: Parameters, style: Style, n: Nucleus, x: Size, y: Size) -> Shi
 }
 
 // 18e: where the gap is too small, the subscript goes down until it is four rules, and then both go up by ψ.
-fn spread(p: Parameters, size: usize, x: Size, y: Size, t: Shifts) -> Shifts
+fn spread(p: &Parameters, size: usize, x: Size, y: Size, t: Shifts) -> Shifts
     requires { ⌜ (size < 3) × Moderate x × Moderate y × ShiftsWithin 8 t ⌝ }
-    ensures { λ r. ⌜ (shiftsAs r ≡ rule.spread (parametersIn p) size (sizeAs x) (sizeAs y) (shiftsAs t)) × ShiftsWithin 24 r ⌝ }
+    ensures { λ r. ⌜ (shiftsAs r ≡ rule.spread (parametersIn (now (p .entry))) size (sizeAs x) (sizeAs y) (shiftsAs t)) × ShiftsWithin 24 r ⌝ }
 {
     let least = four_rules(p, size);
     if gap(x, y, t).less(least) {
@@ -166,17 +166,17 @@ fn gap(x: Size, y: Size, t: Shifts) -> Sp
 }
 
 // 18e: the v with which the gap is four rules.
-fn gap_down(p: Parameters, size: usize, x: Size, y: Size, u: Sp) -> Sp
+fn gap_down(p: &Parameters, size: usize, x: Size, y: Size, u: Sp) -> Sp
     requires { ⌜ (size < 3) × Moderate x × Moderate y × Within (words 8) (u .0) ⌝ }
-    ensures { λ r. ⌜ (r .0 ≡ gapDown (parametersIn p) size (sizeAs x) (sizeAs y) (u .0)) × Within (words 14) (r .0) ⌝ }
+    ensures { λ r. ⌜ (r .0 ≡ gapDown (parametersIn (now (p .entry))) size (sizeAs x) (sizeAs y) (u .0)) × Within (words 14) (r .0) ⌝ }
 {
     four_rules(p, size).minus(u.minus(x.depth)).plus(y.height)
 }
 
 // 18e: how far the superscript's bottom lies below four fifths of the x-height.
-fn psi_of(p: Parameters, size: usize, x: Size, u: Sp) -> Sp
+fn psi_of(p: &Parameters, size: usize, x: Size, u: Sp) -> Sp
     requires { ⌜ (size < 3) × Moderate x × Within (words 8) (u .0) ⌝ }
-    ensures { λ r. ⌜ (r .0 ≡ ψOf (parametersIn p) size (sizeAs x) (u .0)) × Within (words 10) (r .0) ⌝ }
+    ensures { λ r. ⌜ (r .0 ≡ ψOf (parametersIn (now (p .entry))) size (sizeAs x) (u .0)) × Within (words 10) (r .0) ⌝ }
 {
     four_fifths_x_height(p, size).minus(u.minus(x.depth))
 }
@@ -196,23 +196,23 @@ fn lifted(psi: Sp, t: Shifts) -> Shifts
     }
 }
 
-fn quarter_x_height(p: Parameters, size: usize) -> Sp
+fn quarter_x_height(p: &Parameters, size: usize) -> Sp
     requires { ⌜ size < 3 ⌝ }
-    ensures { λ r. ⌜ (r .0 ≡ quarterXHeight (parametersIn p) size) × Within (words 1) (r .0) ⌝ }
+    ensures { λ r. ⌜ (r .0 ≡ quarterXHeight (parametersIn (now (p .entry))) size) × Within (words 1) (r .0) ⌝ }
 {
     parameter(p, size, X_HEIGHT).quarter()
 }
 
-fn four_fifths_x_height(p: Parameters, size: usize) -> Sp
+fn four_fifths_x_height(p: &Parameters, size: usize) -> Sp
     requires { ⌜ size < 3 ⌝ }
-    ensures { λ r. ⌜ (r .0 ≡ fourFifthsXHeight (parametersIn p) size) × Within (words 1) (r .0) ⌝ }
+    ensures { λ r. ⌜ (r .0 ≡ fourFifthsXHeight (parametersIn (now (p .entry))) size) × Within (words 1) (r .0) ⌝ }
 {
     parameter(p, size, X_HEIGHT).times(4).fifth()
 }
 
-fn four_rules(p: Parameters, size: usize) -> Sp
+fn four_rules(p: &Parameters, size: usize) -> Sp
     requires { ⌜ size < 3 ⌝ }
-    ensures { λ r. ⌜ (r .0 ≡ fourRules (parametersIn p) size) × Within (words 4) (r .0) ⌝ }
+    ensures { λ r. ⌜ (r .0 ≡ fourRules (parametersIn (now (p .entry))) size) × Within (words 4) (r .0) ⌝ }
 {
     parameter(p, size, RULE_THICKNESS).times(4)
 }
@@ -311,7 +311,7 @@ fn assembled(n: Nucleus, second: Place, third: Place, w: Sp, top: Sp, bottom: Sp
     ensures { λ r. ⌜ (arrangedAs r ≡ rule.assembled (nucleusAs n) (placeAs second) (placeAs third) (w .0) (top .0) (bottom .0)) × Bounded r ⌝ }
 {
     let raise = n.raise;
-    let rule = n.line;
+    let own = n.own;
     Arranged {
         size: Size {
             width: n.size.width.plus(w),
@@ -324,6 +324,6 @@ fn assembled(n: Nucleus, second: Place, third: Place, w: Sp, top: Sp, bottom: Sp
         },
         second,
         third,
-        rule,
+        own,
     }
 }

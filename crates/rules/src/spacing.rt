@@ -30,8 +30,8 @@ const CHART: [[u8; 8]; 8] = [
 ];
 
 // The space before an atom of class right, none before the first.
-pub fn space_before(p: Parameters, style: Style, left: Neighbour, right: Class) -> Sp
-    ensures { λ r. ⌜ (r .0 ≡ spaceBefore (parametersIn p) style (neighbourAs left) right) × Within (2 ^ 32) (r .0) ⌝ }
+pub fn space_before(p: &Parameters, style: Style, left: Neighbour, right: Class) -> Sp
+    ensures { λ r. ⌜ (r .0 ≡ spaceBefore (parametersIn (now (p .entry))) style (neighbourAs left) right) × Within (2 ^ 32) (r .0) ⌝ }
 {
     match left {
         Neighbour::End => Sp(0),

@@ -3,18 +3,21 @@
 use mathlib.Core.Path.{ap₂, _∙_}
 use borrow.Author.Needs.{needs}
 use Rattle.rules.specs.Nucleus.{overline, underline}
-use Rattle.rules.specs.NucleusFirst.{nucleusOf}
+use Rattle.rules.specs.Arrange.{nucleusOf}
 use Rattle.rules.proofs.arrange.nucleus_of.Statement.{statement}
 use Rattle.rules.proofs.arrange.nucleus_of.Tie as tie
 
-enum-known-kind : tie.Need-enum-known-kind
-enum-known-kind c = search needs
+enum-known-base : tie.Need-enum-known-base
+enum-known-base c = search needs
 
 font-size-requires : tie.Need-font-size-requires
 font-size-requires c κs = search needs
 
 parameter-requires : tie.Need-parameter-requires
 parameter-requires c κs = search needs
+
+has-limits-requires : tie.Need-has-limits-requires
+has-limits-requires c κs = search needs
 
 is-op-requires : tie.Need-is-op-requires
 is-op-requires c κs = search needs
@@ -46,22 +49,14 @@ size-of-requires-2 c κs = search needs
 underline-requires : tie.Need-underline-requires
 underline-requires c κs = search needs
 
-enum-told-3 : tie.Need-enum-told-3
-enum-told-3 c = search needs
-
-size-of-requires-3 : tie.Need-size-of-requires-3
-size-of-requires-3 c κs = search needs
-
-box-nucleus-requires : tie.Need-box-nucleus-requires
-box-nucleus-requires c κs = search needs
-
 returns : tie.Need-returns
 unfolding nucleusOf
 returns c =
     let op = c .before in
-    let axis = op .before in
+    let limits = op .before in
+    let axis = limits .before in
     let arm = axis .before .before .before in (
-      rw (arm .kind .given .1) (rw (op .is-op .ensures, axis .parameter .ensures .0 .is, axis .before .font-size .ensures .0) at (c .atom-nucleus .ensures .0)),
+      rw (arm .base .given .1) (rw (op .is-op .ensures, limits .has-limits .ensures, axis .parameter .ensures .0 .is, axis .before .font-size .ensures .0) at (c .atom-nucleus .ensures .0)),
       c .atom-nucleus .ensures .1,
     )
 
@@ -79,19 +74,14 @@ returns-3 c =
     let line = ap₂ underline (theta .rule-thickness2 .ensures .0) (c .before .size-of2 .ensures .0) in
     (rw (theta .before .enum-told2 .given .1) (c .underline .ensures .0 ∙ line), c .underline .ensures .1)
 
-returns-4 : tie.Need-returns-4
-unfolding nucleusOf
-returns-4 c =
-    let x = c .before in
-    (rw (x .before .enum-told3 .given .1) (rw (x .size-of3 .ensures .0) at (c .box-nucleus .ensures .0)), c .box-nucleus .ensures .1)
-
 pub nucleus-of-spec : {M : Type 1} → statement M
 nucleus-of-spec =
     tie.close
     (tie.spec
-    enum-known-kind
+    enum-known-base
     font-size-requires
     parameter-requires
+    has-limits-requires
     is-op-requires
     atom-nucleus-requires
     enum-told
@@ -102,10 +92,6 @@ nucleus-of-spec =
     rule-thickness-requires-2
     size-of-requires-2
     underline-requires
-    enum-told-3
-    size-of-requires-3
-    box-nucleus-requires
     returns
     returns-2
-    returns-3
-    returns-4)
+    returns-3)

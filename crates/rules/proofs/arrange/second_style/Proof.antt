@@ -13,18 +13,6 @@ superscript-style-requires c κs = search needs
 enum-told-2 : tie.Need-enum-told-2
 enum-told-2 c = search needs
 
-superscript-style-requires-2 : tie.Need-superscript-style-requires-2
-superscript-style-requires-2 c κs = search needs
-
-enum-told-3 : tie.Need-enum-told-3
-enum-told-3 c = search needs
-
-superscript-style-requires-3 : tie.Need-superscript-style-requires-3
-superscript-style-requires-3 c κs = search needs
-
-enum-told-4 : tie.Need-enum-told-4
-enum-told-4 c = search needs
-
 denominator-style-requires : tie.Need-denominator-style-requires
 denominator-style-requires c κs = search needs
 
@@ -32,13 +20,7 @@ returns : tie.Need-returns
 returns c = rw (c .before .enum-told .given .1) (c .superscript-style .ensures)
 
 returns-2 : tie.Need-returns-2
-returns-2 c = rw (c .before .enum-told2 .given .1) (c .superscript-style2 .ensures)
-
-returns-3 : tie.Need-returns-3
-returns-3 c = rw (c .before .enum-told3 .given .1) (c .superscript-style3 .ensures)
-
-returns-4 : tie.Need-returns-4
-returns-4 c = rw (c .before .enum-told4 .given .1) (c .denominator-style .ensures)
+returns-2 c = rw (c .before .enum-told2 .given .1) (c .denominator-style .ensures)
 
 pub second-style-spec : {M : Type 1} → statement M
 second-style-spec =
@@ -47,12 +29,6 @@ second-style-spec =
     enum-told
     superscript-style-requires
     enum-told-2
-    superscript-style-requires-2
-    enum-told-3
-    superscript-style-requires-3
-    enum-told-4
     denominator-style-requires
     returns
-    returns-2
-    returns-3
-    returns-4)
+    returns-2)

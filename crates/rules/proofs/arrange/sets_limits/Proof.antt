@@ -4,8 +4,8 @@ use borrow.Author.Needs.{needs}
 use Rattle.rules.proofs.arrange.sets_limits.Statement.{statement}
 use Rattle.rules.proofs.arrange.sets_limits.Tie as tie
 
-enum-known-kind : tie.Need-enum-known-kind
-enum-known-kind c = search needs
+enum-known-base : tie.Need-enum-known-base
+enum-known-base c = search needs
 
 has-limits-requires : tie.Need-has-limits-requires
 has-limits-requires c κs = search needs
@@ -16,11 +16,8 @@ enum-told c = search needs
 enum-told-2 : tie.Need-enum-told-2
 enum-told-2 c = search needs
 
-enum-told-3 : tie.Need-enum-told-3
-enum-told-3 c = search needs
-
 returns : tie.Need-returns
-returns c = rw (c .before .before .kind .given .1) (c .has-limits .ensures)
+returns c = rw (c .before .before .base .given .1) (c .has-limits .ensures)
 
 returns-2 : tie.Need-returns-2
 returns-2 c = search needs
@@ -28,19 +25,14 @@ returns-2 c = search needs
 returns-3 : tie.Need-returns-3
 returns-3 c = search needs
 
-returns-4 : tie.Need-returns-4
-returns-4 c = search needs
-
 pub sets-limits-spec : {M : Type 1} → statement M
 sets-limits-spec =
     tie.close
     (tie.spec
-    enum-known-kind
+    enum-known-base
     has-limits-requires
     enum-told
     enum-told-2
-    enum-told-3
     returns
     returns-2
-    returns-3
-    returns-4)
+    returns-3)

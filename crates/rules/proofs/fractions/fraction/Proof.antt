@@ -1,23 +1,22 @@
 -- `fraction` meets its contract: what it stacks is that of the definition, part by part.
 -- Assumes nothing.
 use mathlib.Core.Path.{_≡_, ap, _∙_}
-use mathlib.Core.Option.{Option}
 use Prim.Native.Nat.{ℕ}
 use lib.IntN.{ℤ}
 use borrow.Author.Needs.{needs}
 use Rattle.rules.specs.Parameters.{axisHeight}
-use Rattle.rules.specs.Boxes.{Size, Shifts, Rule}
+use Rattle.rules.specs.Boxes.{Size, Shifts, Own}
 use Rattle.rules.specs.Values.{parametersIn, sizeAs}
 use Rattle.rules.specs.Fractions.{barThickness, finalShifts, barOf, stacked, fraction}
 use Rattle.rules.proofs.fractions.fraction.Statement.{statement}
 use Rattle.rules.proofs.fractions.fraction.Tie as tie
 
-same-stack : (x z : Size) {w w′ : ℤ} {t t′ : Shifts} {l l′ : Option Rule} → w ≡ w′ → t ≡ t′ → l ≡ l′ →
+same-stack : (x z : Size) {w w′ : ℤ} {t t′ : Shifts} {l l′ : Own} → w ≡ w′ → t ≡ t′ → l ≡ l′ →
     stacked x z w t l ≡ stacked x z w′ t′ l′
 same-stack x z {w} {w′} {t} {t′} {l} {l′} p q r =
     ap (λ (w : ℤ). stacked x z w t l) p
     ∙ ap (λ (t : Shifts). stacked x z w′ t l) q
-    ∙ ap (λ (l : Option Rule). stacked x z w′ t′ l) r
+    ∙ ap (λ (l : Own). stacked x z w′ t′ l) r
 
 same-bar : {a a′ θ θ′ w w′ : ℤ} → a ≡ a′ → θ ≡ θ′ → w ≡ w′ → barOf a θ w ≡ barOf a′ θ′ w′
 same-bar {a} {a′} {θ} {θ′} {w} {w′} p q r =
@@ -53,7 +52,7 @@ returns c =
     let shifts = width .before in
     let theta = shifts .before in
     let start = theta .before .before in
-    let p = parametersIn (start .args .p) in
+    let p = parametersIn (start .args .p .now) in
     let style = start .args .style in
     let x = sizeAs (start .args .x) in
     let z = sizeAs (start .args .z) in

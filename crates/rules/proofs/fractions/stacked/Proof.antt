@@ -39,7 +39,7 @@ returns c =
         first = omega (arith, left .centred .ensures .1, pre);
         second = omega (arith, right .centred2 .ensures .1, lower .negated .ensures .parts, pre);
         third = omega (arith, c .origin .ensures .1);
-        rule = pre .4;
+        own = pre .4;
       },
     )
 

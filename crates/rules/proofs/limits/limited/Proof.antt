@@ -32,13 +32,13 @@ below-requires c κs = search needs
 
 centred-requires : tie.Need-centred-requires
 centred-requires c κs =
-    let w = c .before .before .before .before .before .before .before in
+    let w = c .before .before .before .before .before .before .before .before in
     (width-within w, w .before .before .before .before .pre .1 .size .width)
 
 returns : tie.Need-returns
 unfolding limited
 returns c =
-    let under = c .before .before .before .before .before .before in
+    let under = c .before .before .before .before .before .before .before in
     let over = under .before in
     let w = over .before in
     let inner = w .before .before in
@@ -51,7 +51,7 @@ returns c =
         first = omega (arith, c .centred .ensures .1, start .pre .1 .raise);
         second = over .above .ensures .3;
         third = under .below .ensures .3;
-        rule = start .pre .1 .line;
+        own = start .pre .1 .own;
       },
     )
 

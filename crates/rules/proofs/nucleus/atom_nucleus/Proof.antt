@@ -32,7 +32,11 @@ box-nucleus-requires-2 : tie.Need-box-nucleus-requires-2
 box-nucleus-requires-2 c κs = rw (c .before .x2 .given .1) at (c .before .before .before .pre .1)
 
 returns : tie.Need-returns
-returns c = (cc, search needs)
+returns c =
+    let zero = c .before in (
+      rw (zero .before .enum-told .given .1) (rw (zero .zero-size .ensures .0) at (c .box-nucleus .ensures .0)),
+      c .box-nucleus .ensures .1,
+    )
 
 returns-2 : tie.Need-returns-2
 returns-2 c =

@@ -18,15 +18,19 @@ negated-requires c κs = search needs
 of-word-requires : tie.Need-of-word-requires
 of-word-requires c κs = search needs
 
+unruled-requires : tie.Need-unruled-requires
+unruled-requires c κs = search needs
+
 returns : tie.Need-returns
 returns c =
-    let raised = c .before in
+    let italic = c .before in
+    let raised = italic .before in
     let sized = raised .before in
     let shift = sized .before in
     let width = ap (λ (z : Size). z .width) (sized .operator-size .ensures .0) in
     let height = ap (λ (z : Size). z .height) (sized .operator-size .ensures .0) in
     let depth = ap (λ (z : Size). z .depth) (sized .operator-size .ensures .0) in
-    (rw (c .of-word .ensures .0 .is, raised .negated .ensures .is, width, height, depth, shift .operator-shift .ensures .0), search needs)
+    (rw (c .unruled .ensures .0, italic .of-word .ensures .0 .is, raised .negated .ensures .is, width, height, depth, shift .operator-shift .ensures .0), search needs)
 
 pub operator-nucleus-spec : {M : Type 1} → statement M
 operator-nucleus-spec =
@@ -36,4 +40,5 @@ operator-nucleus-spec =
     operator-size-requires
     negated-requires
     of-word-requires
+    unruled-requires
     returns)

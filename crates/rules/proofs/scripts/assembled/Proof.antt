@@ -17,7 +17,7 @@ returns : tie.Need-returns
 returns c =
     let high = c .before in
     let wide = high .before in
-    let pre = wide .before .before .pre in (
+    let pre = wide .before .before .before .pre in (
       rw (c .max2 .ensures .is, high .max .ensures .is, wide .plus .ensures .is),
       record {
         width = search needs;
@@ -26,7 +26,7 @@ returns c =
         first = search needs;
         second = pre .1;
         third = pre .2;
-        rule = pre .0 .line;
+        own = pre .0 .own;
       },
     )
 
