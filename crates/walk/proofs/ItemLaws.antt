@@ -1,288 +1,255 @@
--- Laws of an item's nodes, for the walk over its fields.
---     few-rules, rule-nodes             how many rules an arrangement draws
---     other-way, zero-place             sums of places
---     placed-is, item-nodes-at          a field's nodes, and an item's, at their place in the list
---     moved-run, moved-drawn, both-is   what moved parts and joined runs stand for, and their nodes in the buffer
---     sum-within, moved-within-run, front-within, both-within, run-reach, front-reach     how far runs reach
---     drawn-around, drawn-take, drawn-kept     nodes set in the two parts of a buffer
---     rest-lent, rest-back, drawn-behind       the part of a buffer from j on, lent and given back
+-- An item whose fields stand in the buffer, and its own nodes and the fields' at their places.
+--     item-moved                  its nodes in the list, part by part
+--     item-count, item-hull       how many they are, and how far they reach
+--     item-bytes                  what becomes of the buffer: a part that was set is moved, and a gap is filled
+--     item-reach, item-grows      how far the nodes of an item, and the line with it, lie from zero
 -- Assumes nothing.
-use mathlib.Core.Path.{_≡_, refl, sym, _∙_}
-use mathlib.Core.Bool.{Bool, true, false}
-use mathlib.Core.List.{List, [], _++_, append-assoc, append-nil}
-use mathlib.Core.Option.{Option, none, some}
-use Prim.Native.Nat.{ℕ, _+_, _-_, _*_, _≤_}
+use mathlib.Core.Path.{_≡_, refl, sym, ap, ap₂, _∙_}
+use mathlib.Core.List.{List, [], _∷_, _++_, append-nil, append-assoc}
+use Prim.Native.Nat.{ℕ, suc, _+_, _*_, _≤_}
 use native.Mathlib.Omega.{arith}
 use lib.IntN.{ℤ, pos, _+ℤ_}
-use lib.ListN.{length, take, drop, length-append, length-take, length-drop, drop-of-length-le}
-use lib.Seq.{length-take-le, take-all, drop-at, take-add, take-append-add, drop-append-add, drop-drop}
-use borrow.Rule.Slice.PartMut.{putMid}
+use lib.ListN.{length, take, drop, length-append, length-take, length-drop, take-append-drop}
+use lib.Seq.{length-take-le}
+use Rattle.scaled.specs.Length.{maxℤ}
 use Rattle.scaled.specs.Signed.{Within}
-use Rattle.scaled.specs.Linear.{#, _⊕_, eq-by, within-by}
-use Rattle.scaled.specs.Made.{Sum}
-use Rattle.formula.specs.declared.Class.{Class}
-use Rattle.formula.specs.declared.Limits.{Limits}
-use Rattle.formula.specs.declared.Kind.{Kind}
-use Rattle.formula.specs.declared.Kind.the-variants.{Atom, Over, Under, Fraction}
-use Rattle.formula.specs.Heads.{isOp}
-use Rattle.rules.specs.declared.Style.{Style}
+use Rattle.scaled.specs.Linear.{#, _⊕_, greatest, eq-by, within-by}
 use Rattle.rules.specs.declared.boxes.Place.{Place as CodePlace}
-use Rattle.rules.specs.declared.boxes.Line.{Line as Ruling}
-use Rattle.rules.specs.declared.boxes.Line.the-variants.{Unruled, Ruled}
-use Rattle.rules.specs.Styles.{fontSize}
-use Rattle.rules.specs.Parameters.{Parameters, axisHeight, ruleThickness}
-use Rattle.rules.specs.Boxes.{Size, Shape, nothing, char, box, sizeOf, given, Place, Rule, Arranged}
-use Rattle.rules.specs.Nucleus.{Nucleus, atomNucleus, overline, underline}
-use Rattle.rules.specs.Limits.{hasLimits, limited}
-use Rattle.rules.specs.Scripts.{scripted}
-use Rattle.rules.specs.Fractions.{fraction, hasBar, barThickness}
-use Rattle.rules.specs.Arrange.{isGiven, atom, arrange}
-use Rattle.rules.specs.Values.{placeAs, lineAs}
-use Rattle.rules.specs.Bounds.{words, itemWords, PlaceWithin, LineWithin, Bounded}
-use Rattle.nodes.specs.Nodes.{Node, moved, bytesInNode, bytesOf}
-use Rattle.nodes.specs.NodeLaws.{length-bytes, bytes-append, length-moved, moved-append, moved-moved}
+use Rattle.rules.specs.declared.boxes.Ruling.{Ruling}
+use Rattle.rules.specs.declared.boxes.Ruling.the-variants.{Unruled, Ruled}
+use Rattle.rules.specs.declared.boxes.Arranged.{Arranged as CodeArranged}
+use Rattle.rules.specs.Boxes.{Size, Place, Rule, Arranged}
+use Rattle.rules.specs.Values.{sizeAs, placeAs, rulingAs, arrangedAs}
+use Rattle.rules.specs.Bounds.{words, itemWords, PlaceWithin, RulingWithin, Bounded}
+use Rattle.nodes.specs.Nodes.{Node, rule, moved, movedNode, bytesInNode, nodeBytes, bytesOf}
+use Rattle.nodes.specs.NodeLaws.{length-node-bytes, length-bytes, bytes-append, length-moved, moved-append, moved-twice}
 use Rattle.nodes.specs.Bounds.{greatestLength}
-use Rattle.nodes.specs.Hull.{Hull, hull, hullAs, joined, movedHull, HullWithin}
+use Rattle.nodes.specs.Buffer.{put, movedFront, behindNodes}
+use Rattle.nodes.specs.BufferLaws.{behind-at, moved-run-at, put-at}
+use Rattle.nodes.specs.Hull.{Hull, none, hull, joined, movedHull, HullWithin}
 use Rattle.nodes.specs.HullLaws.{hull-append, hull-moved, join-within, moved-within, within-more}
-use Rattle.nodes.specs.Drawn.{Drawn, drawn-moved, drawn-append}
-use Rattle.walk.specs.declared.parts.Part as parts
-use Rattle.walk.specs.declared.items.Setting as items
-use Rattle.walk.specs.declared.items.Run.{Run}
-use Rattle.walk.specs.Setting.{Part, ruleNodes, itemNodes}
-use Rattle.walk.specs.Walked.{RunIs, MovedPart, BothRuns, stride, nodeReach, SettingWithin, barCount, ruleCount, placedNodes, frontNodes, FrontRun}
+use Rattle.nodes.specs.Runs.{hullOf}
+use Rattle.walk.specs.declared.lines.Line as lines
+use Rattle.walk.specs.Setting.{Part, ruleNode, ruleNodes, itemNodes}
+use Rattle.walk.specs.Bounds.{stride, LineWithin}
+use Rattle.walk.specs.Walked.{besideSize, rulesPut, itemCount, itemBuffer, itemHull}
 
--- ---- how many rules
+-- ---- the nodes of an item in its list, where the item stands at x
 
-module _ (P : Parameters) where
-  limited-line : (size : ℕ) (n : Nucleus) (y z : Option Size) → limited P size n y z .rule ≡ n .line
-  unfolding limited
-  limited-line size n y z = refl
-
-  scripted-line : (s : Style) (n : Nucleus) (y z : Option Size) → scripted P s n y z .rule ≡ n .line
-  unfolding scripted
-  scripted-line s n none none = refl
-  scripted-line s n (some x) none = refl
-  scripted-line s n none (some y) = refl
-  scripted-line s n (some x) (some y) = refl
-
-atom-line : (axis : ℤ) (operator limits subscript : Bool) (x : Shape) → atomNucleus axis operator limits subscript x .line ≡ none
-atom-line axis operator limits subscript nothing = refl
-atom-line axis true limits subscript (char m) = refl
-atom-line axis false limits true (char m) = refl
-atom-line axis false limits false (char m) = refl
-atom-line axis operator limits subscript (box z) = refl
-
-abbrev either : Bool → Arranged → Arranged → Arranged
-either t a b = elim t [ true ↦ a | false ↦ b ]
-
-either-rule : (t : Bool) (a b : Arranged) → a .rule ≡ none → b .rule ≡ none → either t a b .rule ≡ none
-either-rule true a b e f = e
-either-rule false a b e f = f
-
-atom-rule : (P : Parameters) (s : Style) (class : Class) (limits : Limits) (x : Shape) (y z : Option Size) →
-    atom P s class limits x y z .rule ≡ none
-atom-rule P s class limits x y z =
-    let set = hasLimits (s .level) class limits in
-    let n = atomNucleus (axisHeight P (fontSize s)) (isOp class) set (isGiven z) x in
-    let line : n .line ≡ none = atom-line (axisHeight P (fontSize s)) (isOp class) set (isGiven z) x in
-    either-rule set (limited P (fontSize s) n y z) (scripted P s n y z)
-    (limited-line P (fontSize s) n y z ∙ line) (scripted-line P s n y z ∙ line)
-
-no-rule : (r : Option Rule) → r ≡ none → length (ruleNodes r) ≡ 0
-unfolding ruleNodes
-no-rule r e = rw e
-
-one-rule : (r : Option Rule) (l : Rule) → r ≡ some l → length (ruleNodes r) ≡ 1
-unfolding ruleNodes
-one-rule r l e = rw e
-
-bar-rule : (t : Bool) (r : Rule) → length (ruleNodes (elim t [ true ↦ some r | false ↦ none ])) ≡ barCount t
-unfolding ruleNodes
-bar-rule true r = refl
-bar-rule false r = refl
-
-pub few-rules : (r : Option Rule) → length (ruleNodes r) ≤ 1
-unfolding ruleNodes
-few-rules none = omega arith
-few-rules (some r) = omega arith
-
-pub rule-nodes : (P : Parameters) (s : Style) (kind : Kind) (x y z : Shape) →
-    length (ruleNodes (arrange P s kind x y z .rule)) ≡ ruleCount P s kind
-unfolding arrange ruleCount fraction
-rule-nodes P s (Atom class limits) x y z = no-rule _ (atom-rule P s class limits x (given y) (given z))
-rule-nodes P s Over x y z =
-    one-rule _ _ (scripted-line P s (overline (ruleThickness P (fontSize s)) (sizeOf x)) (given y) (given z))
-rule-nodes P s Under x y z =
-    one-rule _ _ (scripted-line P s (underline (ruleThickness P (fontSize s)) (sizeOf x)) (given y) (given z))
-rule-nodes P s (Fraction bar) x y z = bar-rule (hasBar (barThickness P (fontSize s) bar)) _
-
--- ---- nodes at their place
-
-pub other-way : (a b : ℤ) → a +ℤ b ≡ b +ℤ a
+other-way : (a b : ℤ) → a +ℤ b ≡ b +ℤ a
 other-way a b = eq-by (# a ⊕ # b) (# b ⊕ # a) (omega arith)
 
-pub zero-place : (z : ℤ) → z +ℤ pos 0 ≡ z
+zero-place : (z : ℤ) → z +ℤ pos 0 ≡ z
 zero-place z = eq-by (# z ⊕ # (pos 0)) (# z) (omega arith)
 
-pub placed-is : (x : ℤ) (p : Place) (ns : List Node) → placedNodes x p ns ≡ moved (x +ℤ p .across) (p .up) ns
-placed-is x p ns = rw (moved-moved x (pos 0) (p .across) (p .up) ns, other-way (p .across) x, zero-place (p .up))
+-- a field's nodes at a place of the item
+abbrev placedAt : ℤ → Place → List Node → List Node
+placedAt x p ns = moved (x +ℤ p .across) (p .up) ns
 
-pub item-nodes-at : (x : ℤ) (A : Arranged) (X Y Z : Part) →
-    moved x (pos 0) (itemNodes A X Y Z)
-    ≡ frontNodes x A (X .nodes) ++ (placedNodes x (A .second) (Y .nodes) ++ placedNodes x (A .third) (Z .nodes))
-unfolding itemNodes
-item-nodes-at x A X Y Z = simp (moved-append, append-assoc)
+placed-is : (x : ℤ) (p : Place) (ns : List Node) → moved x (pos 0) (moved (p .across) (p .up) ns) ≡ placedAt x p ns
+placed-is x p ns = rw (moved-twice x (pos 0) (p .across) (p .up) ns, other-way (p .across) x, zero-place (p .up))
 
--- ---- moved parts and runs
+-- a rule of the item, as the code places it
+pub rule-moved : (x : ℤ) (r : Rule) →
+    movedNode x (pos 0) (ruleNode r) ≡ rule (x +ℤ r .place .across) (r .place .up) (r .width) (r .thickness)
+rule-moved x r = rw (other-way (r .place .across) x, zero-place (r .place .up))
 
-module _ (c : parts.Part) (x : ℤ) (p : Place) (r : Run) (b b′ : List ℕ) (ns : List Node) where
-  pub moved-run : MovedPart c x p r b b′ → c .count ≡ length ns → hullAs (c .hull) ≡ hull ns → RunIs (placedNodes x p ns) r
-  moved-run m count hulls =
-      let at = placed-is x p ns in
-      let size = length-moved (x +ℤ p .across) (p .up) ns in
-      let reach = hull-moved (x +ℤ p .across) (p .up) ns in
-      record { count-is = cc; hull-is = cc }
+pub length-rules : (rs : List Rule) → length (ruleNodes rs) ≡ length rs
+unfolding ruleNodes
+length-rules [] = refl
+length-rules (r ∷ rs) = ap suc (length-rules rs)
 
-  pub moved-drawn : (b₀ : List ℕ) → MovedPart c x p r b b′ → c .count ≡ length ns → Drawn ns b₀ b →
-      Drawn (placedNodes x p ns) b₀ b′
-  moved-drawn b₀ m count drawn =
-      rw (placed-is x p ns, m .buffer-is) (drawn-moved (x +ℤ p .across) (p .up) ns b₀ b count drawn)
+-- ---- a buffer, part by part: w stands before
 
-pub both-is : (a b r : Run) (ms ns : List Node) → BothRuns a b r → RunIs ms a → RunIs ns b → RunIs (ms ++ ns) r
-both-is a b r ms ns both first second =
-    let size = length-append ms ns in
-    let reach = hull-append ms ns in
-    record { count-is = cc; hull-is = cc }
+-- nodes that have been set are moved
+moved-behind : (dx dy : ℤ) (ns : List Node) (n : ℕ) (w r : List ℕ) → length w ≡ bytesInNode * n →
+    behindNodes n (movedFront dx dy (length ns)) (w ++ (bytesOf ns ++ r)) ≡ (w ++ bytesOf (moved dx dy ns)) ++ r
+moved-behind dx dy ns n w r long =
+    behind-at n (movedFront dx dy (length ns)) w (bytesOf ns ++ r) long
+    ∙ ap (λ (l : List ℕ). w ++ l) (moved-run-at dx dy ns r refl)
+    ∙ sym (append-assoc w (bytesOf (moved dx dy ns)) r)
 
--- ---- how far runs reach
+-- a gap g is filled with rules
+rules-behind : (x : ℤ) (rs : List Rule) (n : ℕ) (w g r : List ℕ) → length w ≡ bytesInNode * n →
+    length g ≡ bytesInNode * length rs →
+    rulesPut x n rs (w ++ (g ++ r)) ≡ (w ++ bytesOf (moved x (pos 0) (ruleNodes rs))) ++ r
+unfolding rulesPut ruleNodes moved bytesOf
+rules-behind x [] n w [] r long gap = ap (λ (l : List ℕ). l ++ r) (sym (append-nil w))
+rules-behind x [] n w (a ∷ g) r long gap = absurd (omega arith)
+rules-behind x (q ∷ rs) n w g r long gap =
+    let node = movedNode x (pos 0) (ruleNode q) in
+    let a = nodeBytes node in
+    let g₁ = take bytesInNode g in
+    let g₂ = drop bytesInNode g in
+    let own : length g₁ ≡ bytesInNode = length-take-le bytesInNode g (omega arith) in
+    let left : length g₂ ≡ bytesInNode * length rs = omega (arith, length-drop bytesInNode g) in
+    let more : length (w ++ a) ≡ bytesInNode * (n + 1) = omega (arith, length-append w a, length-node-bytes node) in
+    let others = bytesOf (moved x (pos 0) (ruleNodes rs)) in
+    let step : behindNodes n (put node) (w ++ (g ++ r)) ≡ (w ++ a) ++ (g₂ ++ r) =
+    ap (λ (l : List ℕ). behindNodes n (put node) (w ++ (l ++ r))) (sym (take-append-drop bytesInNode g))
+    ∙ ap (λ (l : List ℕ). behindNodes n (put node) (w ++ l)) (append-assoc g₁ g₂ r)
+    ∙ behind-at n (put node) w (g₁ ++ (g₂ ++ r)) long
+    ∙ ap (λ (l : List ℕ). w ++ l) (put-at node g₁ (g₂ ++ r) own)
+    ∙ sym (append-assoc w a (g₂ ++ r)) in
+    ap (rulesPut x (n + 1) rs) step
+    ∙ rules-behind x rs (n + 1) (w ++ a) g₂ r more left
+    ∙ ap (λ (l : List ℕ). l ++ r) (append-assoc w a others)
 
-pub sum-within : {j k : ℕ} {a b r : ℤ} → Sum a b r → Within j a → Within k b → Within (j + k) r
-sum-within sum first second = omega arith
+-- ---- an item arranged as A at x
 
--- nodes within the greatest length, moved
-moved-reach : {k : ℕ} {x : ℤ} (h : Hull) (p : Place) → HullWithin greatestLength h → Within k x →
-    Within (words itemWords) (p .across) → Within (words itemWords) (p .up) →
-    HullWithin (k + words itemWords + greatestLength) (movedHull (x +ℤ p .across) (p .up) h)
-moved-reach {k} {x} h p small at across up =
-    let right : Within (k + words itemWords) (x +ℤ p .across) = within-by (# x ⊕ # (p .across)) (k + words itemWords) (omega arith) in
-    let above : Within (k + words itemWords) (p .up) = omega arith in
-    let m = movedHull (x +ℤ p .across) (p .up) h in
-    within-more (greatestLength + (k + words itemWords)) (k + words itemWords + greatestLength) m (omega arith)
-    (moved-within greatestLength (k + words itemWords) (x +ℤ p .across) (p .up) h small right above)
+module _ (x : ℤ) (A : Arranged) where
+  abbrev ahead : List Node
+  ahead = moved x (pos 0) (ruleNodes (A .own .before))
 
-rule-reach : {k : ℕ} {x : ℤ} (l : Ruling) → Within k x → LineWithin itemWords l →
-    HullWithin (k + words itemWords + greatestLength) (hull (moved x (pos 0) (ruleNodes (lineAs l))))
-unfolding moved ruleNodes hull joined
-rule-reach Unruled at small = tt
-rule-reach {k} {x} (Ruled r) at small =
-    let n = k + words itemWords + greatestLength in
-    let right = # (r .place .across .0) ⊕ # x in
-    let above = # (r .place .up .0) ⊕ # (pos 0) in
-    (within-by right n (omega arith), within-by right n (omega arith), within-by above n (omega arith), within-by above n (omega arith))
+  abbrev owned : List Node
+  owned = moved x (pos 0) (ruleNodes (A .own .behind))
 
-module _ {k : ℕ} {c : parts.Part} where
-  pub moved-within-run : {x : ℤ} {p : Place} {r : Run} {b b′ : List ℕ} → MovedPart c x p r b b′ →
-      HullWithin greatestLength (hullAs (c .hull)) → Within k x → Within (words itemWords) (p .across) →
-      Within (words itemWords) (p .up) → HullWithin (k + words itemWords + greatestLength) (hullAs (r .hull))
-  moved-within-run {p} m small at across up = rw (m .hull-is) (moved-reach (hullAs (c .hull)) p small at across up)
+  length-ahead : length ahead ≡ length (A .own .before)
+  length-ahead = length-moved x (pos 0) (ruleNodes (A .own .before)) ∙ length-rules (A .own .before)
 
-  pub front-within : {g : items.Setting} {r : Run} {b b′ : List ℕ} → FrontRun c g r b b′ →
-      HullWithin greatestLength (hullAs (c .hull)) → Within k (g .x .0) → Bounded (g .arranged) →
-      HullWithin (k + words itemWords + greatestLength) (hullAs (r .hull))
-  front-within {g} f small at bounded =
-      let p = placeAs (g .arranged .first) in
-      let place = bounded .first in
-      rw (f .hull-is)
-      (join-within (k + words itemWords + greatestLength) (movedHull (g .x .0 +ℤ p .across) (p .up) (hullAs (c .hull)))
-      (hull (moved (g .x .0) (pos 0) (ruleNodes (lineAs (g .arranged .rule)))))
-      (moved-reach (hullAs (c .hull)) p small at (place .across) (place .up))
-      (rule-reach (g .arranged .rule) at (bounded .rule)))
+  length-owned : length owned ≡ length (A .own .behind)
+  length-owned = length-moved x (pos 0) (ruleNodes (A .own .behind)) ∙ length-rules (A .own .behind)
 
-pub both-within : (k : ℕ) {a b r : Run} → BothRuns a b r → HullWithin k (hullAs (a .hull)) → HullWithin k (hullAs (b .hull)) →
-    HullWithin k (hullAs (r .hull))
-both-within k {a} {b} both first second = rw (both .hull-is) (join-within k (hullAs (a .hull)) (hullAs (b .hull)) first second)
+  module _ (X Y Z : Part) where
+    abbrev first : List Node
+    first = placedAt x (A .first) (X .nodes)
 
--- the same behind so many bytes of a list
-module _ {bytes : ℕ} {g : items.Setting} {c : parts.Part} where
-  pub run-reach : {p : CodePlace} {r : Run} {b b′ : List ℕ} → SettingWithin bytes g →
-      HullWithin greatestLength (hullAs (c .hull)) → PlaceWithin itemWords p → MovedPart c (g .x .0) (placeAs p) r b b′ →
-      HullWithin (nodeReach bytes) (hullAs (r .hull))
-  run-reach {r} s small place m =
-      within-more (stride bytes + words 1 + words itemWords + greatestLength) (nodeReach bytes) (hullAs (r .hull)) (omega arith)
-      (moved-within-run m small (s .x) (place .across) (place .up))
+    abbrev second : List Node
+    second = placedAt x (A .second) (Y .nodes)
 
-  pub front-reach : {r : Run} {b b′ : List ℕ} → SettingWithin bytes g → HullWithin greatestLength (hullAs (c .hull)) →
-      FrontRun c g r b b′ → HullWithin (nodeReach bytes) (hullAs (r .hull))
-  front-reach {r} s small f =
-      within-more (stride bytes + words 1 + words itemWords + greatestLength) (nodeReach bytes) (hullAs (r .hull)) (omega arith)
-      (front-within f small (s .x) (s .arranged))
+    abbrev third : List Node
+    third = placedAt x (A .third) (Z .nodes)
 
--- ---- nodes in parts of a buffer
+    item-moved : moved x (pos 0) (itemNodes A X Y Z) ≡ ahead ++ first ++ owned ++ second ++ third
+    unfolding itemNodes
+    item-moved =
+        rw (← placed-is x (A .first) (X .nodes), ← placed-is x (A .second) (Y .nodes), ← placed-is x (A .third) (Z .nodes))
+        (simp moved-append)
 
--- ms is set in the first j bytes, and ns in the rest
-pub drawn-around : {j : ℕ} (ms ns : List Node) (b b₁ c r : List ℕ) → length b₁ ≡ length b → j ≤ length b →
-    (bytesInNode * length ms ≤ length b → j ≡ bytesInNode * length ms) →
-    (bytesInNode * length ms ≤ length b → drop j b₁ ≡ drop j b) →
-    Drawn ms (take j b) c → Drawn ns (drop j b₁) r → Drawn (ms ++ ns) b (c ++ r)
-drawn-around {j} ms ns b b₁ c r same inside place kept first second room =
-    let both = length-append ms ns in
-    let size = length-take-le j b inside in
-    let at : j ≡ bytesInNode * length ms = place (omega arith) in
-    let behind : drop j b₁ ≡ drop j b = kept (omega arith) in
-    let none-left : drop (bytesInNode * length ms) (take j b) ≡ [] = drop-of-length-le (take j b) {i = bytesInNode * length ms} (omega arith) in
-    let front : c ≡ bytesOf ms = first (omega arith) ∙ rw none-left (append-nil (bytesOf ms)) in
-    let rest : r ≡ bytesOf ns ++ drop (bytesInNode * length ns) (drop j b₁) = second (omega (arith, length-drop j b₁)) in
-    let whole : bytesInNode * length (ms ++ ns) ≡ j + bytesInNode * length ns = omega arith in
-    rw (front, rest, behind, whole, ← drop-drop (bytesInNode * length ns) j b, bytes-append)
-    (sym (append-assoc (bytesOf ms) (bytesOf ns) (drop (bytesInNode * length ns) (drop j b))))
+    pub item-count : length (moved x (pos 0) (itemNodes A X Y Z))
+        ≡ itemCount x A (length (X .nodes)) (length (Y .nodes)) (length (Z .nodes))
+    item-count =
+        ap length item-moved
+        ∙ simp (length-append, length-ahead, length-owned, length-moved)
 
--- b from k on behind a front p of k bytes
-module _ (j k m : ℕ) (p b : List ℕ) (size : length p ≡ k) (sum : j ≡ k + m) where
-  take-over : k ≤ length b → take j (p ++ drop k b) ≡ p ++ drop k (take j b)
-  take-over inside =
-      let own : length (take k b) ≡ k = length-take-le k b inside in
-      let right : drop k (take (k + m) b) ≡ take m (drop k b) =
-      rw (take-add k m b) (drop-at (take k b) (take m (drop k b)) k own) in
-      let left : take (length p + m) (p ++ drop k b) ≡ p ++ take m (drop k b) = take-append-add p (drop k b) m in
-      cc
+    pub item-hull : hull (moved x (pos 0) (itemNodes A X Y Z)) ≡ itemHull x A (hull (X .nodes)) (hull (Y .nodes)) (hull (Z .nodes))
+    unfolding joined
+    item-hull = ap hull item-moved ∙ simp (hull-append, hull-moved)
 
-  drop-over : drop j (p ++ drop k b) ≡ drop j b
-  drop-over =
-      let left : drop (length p + m) (p ++ drop k b) ≡ drop m (drop k b) = drop-append-add p (drop k b) m in
-      let right : drop m (drop k b) ≡ drop (k + m) b = drop-drop m k b in
-      cc
+    -- the fields stand in the buffer, with gaps g₁ and g₂ for the item's own nodes
+    pub item-bytes : (g₁ g₂ rest : List ℕ) → length g₁ ≡ bytesInNode * length (A .own .before) →
+        length g₂ ≡ bytesInNode * length (A .own .behind) →
+        itemBuffer x A (length (X .nodes)) (length (Y .nodes)) (length (Z .nodes))
+        (g₁ ++ (bytesOf (X .nodes) ++ (g₂ ++ (bytesOf (Y .nodes) ++ (bytesOf (Z .nodes) ++ rest)))))
+        ≡ bytesOf (moved x (pos 0) (itemNodes A X Y Z)) ++ rest
+    item-bytes g₁ g₂ rest long₁ long₂ =
+        let w₁ = bytesOf ahead in
+        let w₂ = w₁ ++ bytesOf first in
+        let w₃ = w₂ ++ bytesOf owned in
+        let w₄ = w₃ ++ bytesOf second in
+        let r₄ = bytesOf (Z .nodes) ++ rest in
+        let r₃ = bytesOf (Y .nodes) ++ r₄ in
+        let r₂ = g₂ ++ r₃ in
+        let r₁ = bytesOf (X .nodes) ++ r₂ in
+        let l₁ : length w₁ ≡ bytesInNode * length (A .own .before) = omega (arith, length-bytes ahead, length-ahead) in
+        let l₂ : length w₂ ≡ bytesInNode * (length (A .own .before) + length (X .nodes)) =
+        omega (
+          arith,
+          length-append w₁ (bytesOf first),
+          length-bytes first,
+          length-moved (x +ℤ A .first .across) (A .first .up) (X .nodes),
+        ) in
+        let l₃ : length w₃ ≡ bytesInNode * (length (A .own .before) + length (X .nodes) + length (A .own .behind)) =
+        omega (arith, length-append w₂ (bytesOf owned), length-bytes owned, length-owned) in
+        let l₄ : length w₄ ≡ bytesInNode * (length (A .own .before) + length (X .nodes) + length (A .own .behind) + length (Y .nodes)) =
+        omega (
+          arith,
+          length-append w₃ (bytesOf second),
+          length-bytes second,
+          length-moved (x +ℤ A .second .across) (A .second .up) (Y .nodes),
+        ) in
+        rw (
+          rules-behind x (A .own .before) 0 [] g₁ r₁ (omega arith) long₁,
+          moved-behind (x +ℤ A .first .across) (A .first .up) (X .nodes) (length (A .own .before)) w₁ r₂ l₁,
+          rules-behind x (A .own .behind) (length (A .own .before) + length (X .nodes)) w₂ g₂ r₃ l₂ long₂,
+          moved-behind (x +ℤ A .second .across) (A .second .up) (Y .nodes) _ w₃ r₄ l₃,
+          moved-behind (x +ℤ A .third .across) (A .third .up) (Z .nodes) _ w₄ rest l₄,
+          item-moved,
+        )
+        (simp bytes-append)
 
--- a run that stands in the whole stands in its first j bytes, if these have room for it
-pub drawn-take : (j : ℕ) (ms : List Node) (b b₁ : List ℕ) → Drawn ms b b₁ → Drawn ms (take j b) (take j b₁)
-drawn-take j ms b b₁ drawn room =
-    let n = bytesInNode * length ms in
-    let size = length-take j b in
-    let front : b₁ ≡ bytesOf ms ++ drop n b = drawn (omega arith) in
-    rw front (take-over j n (j - n) (bytesOf ms) b (length-bytes ms) (omega arith) (omega arith))
+-- an item has one rule before its first field at most, and one behind it
+pub few-rules : (r : Ruling) → length (rulingAs r) ≤ 1
+few-rules Unruled = omega arith
+few-rules (Ruled r) = omega arith
 
--- behind the first k nodes nothing changes
-pub drawn-kept : (k : ℕ) (ms : List Node) (b b₁ : List ℕ) → Drawn ms b b₁ → length ms ≤ k → bytesInNode * k ≤ length b →
-    drop (bytesInNode * k) b₁ ≡ drop (bytesInNode * k) b
-drawn-kept k ms b b₁ drawn few room =
-    let n = bytesInNode * length ms in
-    let front : b₁ ≡ bytesOf ms ++ drop n b = drawn (omega arith) in
-    rw front (drop-over (bytesInNode * k) n (bytesInNode * k - n) (bytesOf ms) b (length-bytes ms) (omega arith))
+-- ---- how far the nodes of an item reach, whose x lies within m
 
--- ---- a part of the buffer that is lent, from j on, and comes back
+module _ {m : ℕ} {x : ℤ} (near : Within m x) where
+  -- nodes within the greatest length, moved
+  moved-reach : (h : Hull) (p : CodePlace) → HullWithin greatestLength h → PlaceWithin itemWords p →
+      HullWithin (m + words itemWords + greatestLength) (movedHull (x +ℤ p .across .0) (p .up .0) h)
+  moved-reach h p small place =
+      let dx = x +ℤ p .across .0 in
+      let right : Within (m + words itemWords) dx = within-by (# x ⊕ # (p .across .0)) (m + words itemWords) (omega arith) in
+      let above : Within (m + words itemWords) (p .up .0) = omega arith in
+      within-more (greatestLength + (m + words itemWords)) (m + words itemWords + greatestLength) (movedHull dx (p .up .0) h) (omega arith)
+      (moved-within greatestLength (m + words itemWords) dx (p .up .0) h small right above)
 
-module _ (j : ℕ) (b : List ℕ) where
-  pub rest-lent : take (length b - j) (drop j b) ≡ drop j b
-  rest-lent = take-all (length b - j) (drop j b) (omega (arith, length-drop j b))
+  rules-reach : (l : Ruling) → RulingWithin itemWords l →
+      HullWithin (m + words itemWords + greatestLength) (hull (moved x (pos 0) (ruleNodes (rulingAs l))))
+  unfolding moved ruleNodes hull joined
+  rules-reach Unruled small = tt
+  rules-reach (Ruled r) small =
+      let n = m + words itemWords + greatestLength in
+      let right = # (r .place .across .0) ⊕ # x in
+      let above = # (r .place .up .0) ⊕ # (pos 0) in
+      (within-by right n (omega arith), within-by right n (omega arith), within-by above n (omega arith), within-by above n (omega arith))
 
-  pub rest-back : (r : List ℕ) → putMid j (length b - j) b r ≡ take j b ++ r
-  rest-back r =
-      let none-left : drop (length b - j) (drop j b) ≡ [] =
-      drop-of-length-le (drop j b) {i = length b - j} (omega (arith, length-drop j b)) in
-      rw (none-left, append-nil)
+  item-reach : (A : CodeArranged) (f g h : Hull) → Bounded A → HullWithin greatestLength f → HullWithin greatestLength g →
+      HullWithin greatestLength h → HullWithin (m + words itemWords + greatestLength) (itemHull x (arrangedAs A) f g h)
+  unfolding joined
+  item-reach A f g h bounded one two three =
+      let n = m + words itemWords + greatestLength in
+      let h₁ = hull (moved x (pos 0) (ruleNodes (rulingAs (A .own .before)))) in
+      let h₂ = movedHull (x +ℤ A .first .across .0) (A .first .up .0) f in
+      let h₃ = hull (moved x (pos 0) (ruleNodes (rulingAs (A .own .behind)))) in
+      let h₄ = movedHull (x +ℤ A .second .across .0) (A .second .up .0) g in
+      let h₅ = movedHull (x +ℤ A .third .across .0) (A .third .up .0) h in
+      let w₂ : HullWithin n (joined h₁ h₂) =
+      join-within n h₁ h₂ (rules-reach (A .own .before) (bounded .own .before)) (moved-reach f (A .first) one (bounded .first)) in
+      let w₃ : HullWithin n (joined (joined h₁ h₂) h₃) =
+      join-within n (joined h₁ h₂) h₃ w₂ (rules-reach (A .own .behind) (bounded .own .behind)) in
+      let w₄ = join-within n (joined (joined h₁ h₂) h₃) h₄ w₃ (moved-reach g (A .second) two (bounded .second)) in
+      join-within n (joined (joined (joined h₁ h₂) h₃) h₄) h₅ w₄ (moved-reach h (A .third) three (bounded .third))
 
--- `drawn-append` for a part that was lent
-pub drawn-behind : {j : ℕ} (ms ns : List Node) (b b₁ r : List ℕ) → length b₁ ≡ length b →
-    (bytesInNode * length ms ≤ length b → j ≡ bytesInNode * length ms) → Drawn ms b b₁ →
-    Drawn ns (take (length b₁ - j) (drop j b₁)) r → Drawn (ms ++ ns) b (putMid j (length b₁ - j) b₁ r)
-drawn-behind {j} ms ns b b₁ r same place first second =
-    rw (rest-back j b₁ r) (drawn-append ms ns b b₁ r same place first (rw (rest-lent j b₁) at second))
+-- ---- the line with an item of so many bytes
+
+greater : {k : ℕ} {a b : ℤ} → Within k a → Within k b → Within k (maxℤ a b)
+greater {k} {a} {b} v w = within-by (greatest (# a) (# b)) k (omega arith)
+
+module _ (l r : lines.Line) (A : CodeArranged) (x space : ℤ) (count : ℕ) (f g h : Hull) where
+  pub item-grows : x ≡ l .size .width .0 +ℤ space → Within (words 1) space → Bounded A → HullWithin greatestLength f →
+      HullWithin greatestLength g → HullWithin greatestLength h → sizeAs (r .size) ≡ besideSize x (sizeAs (l .size)) (sizeAs (A .size)) →
+      r .run .count ≡ l .run .count + count → hullOf (r .run) ≡ joined (hullOf (l .run)) (itemHull x (arrangedAs A) f g h) →
+      (k n : ℕ) → LineWithin k l → 5 ≤ n → count ≤ n → LineWithin (k + n) r
+  item-grows at small bounded one two three sizes counts hulls k n line five few =
+      let near : Within (stride k + words 1) x =
+      rw at (let w = line .width in within-by (# (l .size .width .0) ⊕ # space) (stride k + words 1) (omega arith)) in
+      let width : r .size .width .0 ≡ x +ℤ A .size .width .0 = ap (λ (z : Size). z .width) sizes in
+      let height : r .size .height .0 ≡ maxℤ (l .size .height .0) (A .size .height .0) = ap (λ (z : Size). z .height) sizes in
+      let depth : r .size .depth .0 ≡ maxℤ (l .size .depth .0) (A .size .depth .0) = ap (λ (z : Size). z .depth) sizes in
+      let own = bounded .width in
+      let before = line .count in
+      record {
+        width = rw width (within-by (# x ⊕ # (A .size .width .0)) (stride (k + n)) (omega arith));
+        height = rw height (greater (line .height) (bounded .height));
+        depth = rw depth (greater (line .depth) (bounded .depth));
+        count = omega arith;
+        hull =
+            rw hulls
+            (join-within (stride (k + n)) (hullOf (l .run)) (itemHull x (arrangedAs A) f g h)
+            (within-more (stride k) (stride (k + n)) (hullOf (l .run)) (omega arith) (line .hull))
+            (within-more (stride k + words 1 + words itemWords + greatestLength) (stride (k + n)) (itemHull x (arrangedAs A) f g h) (omega arith)
+            (item-reach near A f g h bounded one two three)));
+      }

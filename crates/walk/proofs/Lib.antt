@@ -1,9 +1,9 @@
 -- What the proofs of several functions use. Assumes nothing.
-mod ItemLaws
-mod LineLaws
+mod Tests
 mod PartLaws
+mod FieldLaws
 mod PlaceLaws
-mod MissingIn
-mod WalkLaws
-mod AlongLaws
-mod CycleLaws
+mod ItemLaws
+mod Laid
+mod NoadLaws
+mod ListLaws

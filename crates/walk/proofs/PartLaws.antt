@@ -1,65 +1,121 @@
--- What a symbol's field comes to, over plain values: `symbol-whole`, its glyph at the reference point; `symbol-missing`, its place.
+-- What a field comes to, over plain values.
+--     field-empty                      no symbol and no list
+--     symbol-whole, symbol-missing     a symbol: its glyph at the reference point, or its place
+--     list-whole, list-missing         a list, from what the list comes to
 -- Assumes nothing.
 use mathlib.Core.Path.{_≡_, refl, sym, ap, subst, _∙_}
-use mathlib.Core.Bool.{Bool, false}
+use mathlib.Core.Bool.{Bool, true, false}
 use mathlib.Core.List.{List, [], _∷_}
-use mathlib.Core.Option.{none, some}
-use Prim.Native.Nat.{ℕ}
+use mathlib.Core.Option.{Option, none, some}
+use Prim.Native.Nat.{ℕ, _+_, _≤_, _<_}
 use native.Mathlib.Omega.{arith}
 use lib.IntN.{pos}
-use lib.ListN.{length}
 use Rattle.font.specs.Font.{Font}
 use Rattle.font.specs.Answers.{metricsAs}
-use Rattle.formula.specs.Tree.{symbol}
+use Rattle.formula.specs.Tree.{Items, empty, symbol, list, listOpeningBytes}
 use Rattle.rules.specs.declared.Style.{Style}
+use Rattle.rules.specs.declared.boxes.Shape.{Shape}
 use Rattle.rules.specs.declared.boxes.Shape.the-variants.{Char}
 use Rattle.rules.specs.Styles.{fontSize}
-use Rattle.rules.specs.Boxes.{char}
-use Rattle.nodes.specs.declared.hull.Hull.{Hull}
+use Rattle.rules.specs.Boxes.{char, box}
+use Rattle.rules.specs.Values.{shapeAs}
+use Rattle.nodes.specs.declared.run.Run.{Run}
 use Rattle.nodes.specs.Nodes.{Node, glyph}
 use Rattle.nodes.specs.Bounds.{greatestLength}
 use Rattle.nodes.specs.Buffer.{put}
-use Rattle.nodes.specs.Drawn.{Drawn, drawn-put}
-use Rattle.nodes.specs.Hull.{around, hull, hullAs, HullWithin}
-use Rattle.nodes.specs.HullLaws.{hull-node}
+use Rattle.nodes.specs.Drawn.{Drawn, drawn-none, drawn-put}
+use Rattle.nodes.specs.Hull.{around, HullWithin}
+use Rattle.nodes.specs.Runs.{RunIs, PointRun}
+use Rattle.nodes.specs.RunLaws.{run-none, run-node}
 use Rattle.walk.specs.declared.symbols.Symbol as symbols
+use Rattle.walk.specs.declared.parts.Part as parts
 use Rattle.walk.specs.declared.parts.FieldSet.the-variants.{Whole, Missing}
-use Rattle.walk.specs.Setting.{Symbol, Part, symbolIn, symbolPart, setField}
-use Rattle.walk.specs.Missing.{absentAt, missingField}
-use Rattle.walk.specs.Fitting.{fieldFits}
-use Rattle.walk.specs.Walked.{symbolAs, FieldDone}
+use Rattle.walk.specs.declared.lines.Line as lines
+use Rattle.walk.specs.declared.lists.ItemsSet.the-variants as items
+use Rattle.walk.specs.Setting.{Part, symbolIn, symbolPart, setField, setList}
+use Rattle.walk.specs.Missing.{later, absentAt, missingField, missingItems}
+use Rattle.walk.specs.Fitting.{fieldFits, itemsFit, boxFits}
+use Rattle.walk.specs.Values.{symbolAs, lineFits}
+use Rattle.walk.specs.Walked.{EmptyPart, FieldDone, ListDone, ListPart}
+use Rattle.walk.specs.WalkedLaws.{line-fits}
+use Rattle.walk.proofs.Tests.{and-right}
 
-module _ (F : Font) (s : Style) (enlarge : Bool) (family code : ℕ) (b : List ℕ) where
-  pub symbol-whole : (m : symbols.Symbol) (h : Hull) (b′ : List ℕ) →
-      symbolIn F (fontSize s) enlarge family code ≡ some (symbolAs m) →
-      hullAs h ≡ around (pos 0) (pos 0) (pos 0) (pos 0) →
-      b′ ≡ put (glyph (pos 0) (pos 0) (fontSize s) family (m .code)) b →
-      FieldDone F s enlarge (symbol family code) 3 b
-      (Whole (record { shape = Char (m .metrics); count = 1; hull = h; large = false })) b′
-  unfolding setField symbolPart missingField absentAt fieldFits
-  symbol-whole m h b′ found reaches written =
-      let n = glyph (pos 0) (pos 0) (fontSize s) family (m .code) in
-      let part : Part = record { shape = char (metricsAs (m .metrics)); nodes = n ∷ [] } in
-      let is : setField F s enlarge (symbol family code) ≡ part = ap (symbolPart (fontSize s) family) found in
-      let nodes : setField F s enlarge (symbol family code) .nodes ≡ n ∷ [] = ap (λ (p : Part). p .nodes) is in
-      let zero : HullWithin greatestLength (around (pos 0) (pos 0) (pos 0) (pos 0)) =
-      (omega arith, omega arith, omega arith, omega arith) in (
+module _ (F : Font) (s : Style) (enlarge : Bool) (at end : ℕ) (b : List ℕ) where
+  pub field-empty : (c : parts.Part) → at ≤ end → EmptyPart end c → FieldDone F s enlarge empty at end b (Whole c) b
+  unfolding missingField fieldFits setField
+  field-empty c inside e =
+      let none-there = e .run-is .count-is in
+      let ends = e .end-is in (
         record {
-          present = ap (absentAt 0) found;
-          large-is = refl;
-          small = record { shape = tt; count = omega arith; hull = rw reaches zero };
-          is =
-              λ q.
-              record {
-                shape-is = sym (ap (λ (p : Part). p .shape) is);
-                count-is = sym (ap (λ (l : List Node). length l) nodes);
-                hull-is = reaches ∙ sym (ap hull nodes ∙ hull-node n);
-              };
+          present = refl;
+          end-is = e .end-is;
+          large-is = e .run-is .large-is;
+          small = record { shape = rw (e .shape-is) tt; count = omega arith; hull = rw (e .run-is .hull-is) tt };
+          is = λ h. record { shape-is = ap shapeAs (e .shape-is); run-is = run-none (e .run-is) };
         },
-        λ q. subst (λ (l : List Node). Drawn l b b′) (sym nodes) (subst (λ (t : List ℕ). Drawn (n ∷ []) b t) (sym written) (drawn-put n b)),
+        λ h. drawn-none b,
       )
 
-  pub symbol-missing : (b′ : List ℕ) → symbolIn F (fontSize s) enlarge family code ≡ none →
-      FieldDone F s enlarge (symbol family code) 3 b (Missing 0) b′
-  unfolding missingField absentAt
-  symbol-missing b′ lacks = ap (absentAt 0) lacks
+  module _ (family code : ℕ) (inside : at < end) where
+    pub symbol-whole : (m : symbols.Symbol) (r : Run) (b′ : List ℕ) →
+        symbolIn F (fontSize s) enlarge family code ≡ some (symbolAs m) → PointRun (pos 0) (pos 0) r →
+        b′ ≡ put (glyph (pos 0) (pos 0) (fontSize s) family (m .code)) b →
+        FieldDone F s enlarge (symbol family code) at end b (Whole (record { end = end; shape = Char (m .metrics); run = r })) b′
+    unfolding setField symbolPart missingField absentAt fieldFits
+    symbol-whole m r b′ found point written =
+        let n = glyph (pos 0) (pos 0) (fontSize s) family (m .code) in
+        let part : Part = record { shape = char (metricsAs (m .metrics)); nodes = n ∷ [] } in
+        let is : setField F s enlarge (symbol family code) ≡ part = ap (symbolPart (fontSize s) family) found in
+        let nodes : setField F s enlarge (symbol family code) .nodes ≡ n ∷ [] = ap (λ (p : Part). p .nodes) is in
+        let zero : HullWithin greatestLength (around (pos 0) (pos 0) (pos 0) (pos 0)) =
+        (omega arith, omega arith, omega arith, omega arith) in
+        let one = point .count-is in (
+          record {
+            present = ap (absentAt at) found;
+            end-is = refl;
+            large-is = point .large-is;
+            small = record { shape = tt; count = omega arith; hull = rw (point .hull-is) zero };
+            is = λ q.
+                record {
+                  shape-is = sym (ap (λ (p : Part). p .shape) is);
+                  run-is = subst (λ (ns : List Node). RunIs ns r) (sym nodes) (run-node point refl);
+                };
+          },
+          λ q. subst (λ (ns : List Node). Drawn ns b b′) (sym nodes) (subst (λ (t : List ℕ). Drawn (n ∷ []) b t) (sym written) (drawn-put n b)),
+        )
+
+    pub symbol-missing : (b′ : List ℕ) → symbolIn F (fontSize s) enlarge family code ≡ none →
+        FieldDone F s enlarge (symbol family code) at end b (Missing at) b′
+    unfolding missingField absentAt
+    symbol-missing b′ lacks = (ap (absentAt at) lacks, omega arith)
+
+  -- the list's n bytes stand behind its opening
+  module _ (l : Items) (n : ℕ) (goes : end ≡ at + listOpeningBytes + n) (b′ : List ℕ) where
+    pub list-whole : (line : lines.Line) (c : parts.Part) → ListDone F s l n b (items.Whole line) b′ → ListPart end line c →
+        FieldDone F s enlarge (list l) at end b (Whole c) b′
+    unfolding missingField fieldFits setField setList later
+    list-whole line c (w, drawn) p =
+        let fits : lineFits line ≡ fieldFits F s (list l) = line-fits w in
+        let inner : fieldFits F s (list l) ≡ true → itemsFit F s l ≡ true = λ h. and-right (boxFits (setList F s l)) (itemsFit F s l) h in
+        let few = p .count in
+        let many = w .count in
+        let ends = p .end-is in (
+          record {
+            present = ap (later (at + listOpeningBytes)) (w .present);
+            end-is = p .end-is;
+            large-is = p .large-is ∙ rw fits;
+            small = record { shape = p .shape; count = omega arith; hull = p .hull };
+            is = λ h.
+                let own = p .is (fits ∙ h) in
+                record {
+                  shape-is = ap shapeAs (own .0) ∙ ap box (w .size-is (inner h));
+                  run-is = subst (RunIs (setList F s l .nodes)) (sym (own .1)) (w .run-is (inner h));
+                };
+          },
+          λ h. drawn (inner h),
+        )
+
+    pub list-missing : (place : ℕ) → ListDone F s l n b (items.Missing place) b′ →
+        FieldDone F s enlarge (list l) at end b (Missing (at + listOpeningBytes + place)) b′
+    unfolding missingField later
+    list-missing place d = (ap (later (at + listOpeningBytes)) (d .0), let low = d .1 in omega arith)

@@ -10,12 +10,11 @@ use Prim.Native.Nat.{ℕ, _+_}
 use native.Mathlib.Omega.{arith}
 use Rattle.font.specs.Font.{Font}
 use Rattle.formula.specs.declared.Kind.{Kind}
-use Rattle.formula.specs.Tree.{Items, Item, Field, nil, cons, noad, kern, empty, symbol, list, openingBytes, listOpeningBytes, itemBytes, fieldBytes}
+use Rattle.formula.specs.Tree.{Items, Field, nil, cons, noad, list, openingBytes, itemBytes, fieldBytes}
 use Rattle.rules.specs.declared.Style.{Style}
-use Rattle.rules.specs.Styles.{fontSize}
 use Rattle.rules.specs.Arrange.{firstStyle, secondStyle, thirdStyle, enlarges}
-use Rattle.walk.specs.Setting.{Symbol, symbolIn, setList}
-use Rattle.walk.specs.Missing.{_orElse_, absentAt, missingItems, missingItem, missingField}
+use Rattle.walk.specs.Setting.{setList}
+use Rattle.walk.specs.Missing.{_orElse_, later, missingItems, missingItem, missingField}
 use Rattle.walk.specs.Fitting.{boxFits, itemsFit, itemFits, fieldFits, listFits}
 use Rattle.walk.specs.Paths.{Arm, inFirst, inSecond, inThird, holding, fieldStyle, join, listWith, Path, whole, into, fill, styleAt}
 
@@ -33,86 +32,50 @@ none-of-three-missing x y z e =
     let k = neither-missing y z (h .1) in
     (h .0, k .0, k .1)
 
-both-there : {x y : Option ℕ} → x ≡ none → y ≡ none → x orElse y ≡ none
-both-there e f = rw e f
-
--- whether something is missing does not depend on the place from which places are counted
-
-absent-anywhere : (a b : ℕ) (x : Option Symbol) → absentAt a x ≡ none → absentAt b x ≡ none
-unfolding absentAt
-absent-anywhere a b none e = let z : _≡_ {A = ℕ} 0 1 = cc in absurd (omega arith)
-absent-anywhere a b (some s) e = refl
+-- whether something is missing does not depend on where places are counted from
+not-later : (at : ℕ) (m : Option ℕ) → later at m ≡ none → m ≡ none
+unfolding later
+not-later at none e = refl
+not-later at (some place) e = let z : _≡_ {A = ℕ} 0 1 = cc in absurd (omega arith)
 
 module _ (F : Font) where
-  -- the three fields of an item from the place a on
-  abbrev FieldsThere : Style → ℕ → Kind → Field → Field → Field → Type 0
-  FieldsThere s a kind x y z =
-      let a₁ = a + openingBytes kind in
-      let a₂ = a₁ + fieldBytes x in
-      let a₃ = a₂ + fieldBytes y in
-      (missingField F (firstStyle kind s) (enlarges kind s) a₁ x ≡ none)
-      × (missingField F (secondStyle kind s) false a₂ y ≡ none)
-      × (missingField F (thirdStyle s) false a₃ z ≡ none)
+  -- the three fields of an item
+  abbrev FieldsThere : Style → Kind → Field → Field → Field → Type 0
+  FieldsThere s kind x y z =
+      let second = openingBytes kind + fieldBytes x in
+      (missingField F (firstStyle kind s) (enlarges kind s) (openingBytes kind) x ≡ none)
+      × (missingField F (secondStyle kind s) false second y ≡ none)
+      × (missingField F (thirdStyle s) false (second + fieldBytes y) z ≡ none)
 
-  fields-there : (s : Style) (a : ℕ) (kind : Kind) (x y z : Field) →
-      missingItem F s a (noad kind x y z) ≡ none → FieldsThere s a kind x y z
+  fields-there : (s : Style) (kind : Kind) (x y z : Field) → missingItem F s (noad kind x y z) ≡ none → FieldsThere s kind x y z
   unfolding missingItem
-  fields-there s a kind x y z e = none-of-three-missing _ _ _ e
-
-  mutual
-    unfolding missingItems
-
-    pub missingItems-anywhere : (l : Items) (s : Style) (a b : ℕ) → missingItems F s a l ≡ none → missingItems F s b l ≡ none
-    missingItems-anywhere nil s a b e = refl
-    missingItems-anywhere (cons i r) s a b e =
-        let h = neither-missing (missingItem F s a i) (missingItems F s (a + itemBytes i) r) e in
-        both-there (missingItem-anywhere i s a b (h .0)) (missingItems-anywhere r s (a + itemBytes i) (b + itemBytes i) (h .1))
-
-    missingItem-anywhere : (i : Item) (s : Style) (a b : ℕ) → missingItem F s a i ≡ none → missingItem F s b i ≡ none
-    missingItem-anywhere (noad kind x y z) s a b e =
-        let h = fields-there s a kind x y z e in
-        both-there (missingField-anywhere x _ _ _ _ (h .0))
-        (both-there (missingField-anywhere y _ _ _ _ (h .1)) (missingField-anywhere z _ _ _ _ (h .2)))
-    missingItem-anywhere (kern n) s a b e = refl
-
-    missingField-anywhere : (f : Field) (s : Style) (enlarge : Bool) (a b : ℕ) →
-        missingField F s enlarge a f ≡ none → missingField F s enlarge b f ≡ none
-    missingField-anywhere empty s enlarge a b e = refl
-    missingField-anywhere (symbol family code) s enlarge a b e =
-        absent-anywhere a b (symbolIn F (fontSize s) enlarge family code) e
-    missingField-anywhere (list l) s enlarge a b e = missingItems-anywhere l s (a + listOpeningBytes) (b + listOpeningBytes) e
+  fields-there s kind x y z e = none-of-three-missing _ _ _ e
 
   -- a field of an item
-  missing-in-item : (s : Style) (kind : Kind) (g : Arm) (l : Items) (a b : ℕ) →
-      missingItem F s a (holding kind g l) ≡ none → missingItems F (fieldStyle kind g s) b l ≡ none
+  missing-in-item : (s : Style) (kind : Kind) (g : Arm) (l : Items) →
+      missingItem F s (holding kind g l) ≡ none → missingItems F (fieldStyle kind g s) l ≡ none
   unfolding missingField
-  missing-in-item s kind (inFirst y z) l a b e =
-      missingItems-anywhere l (firstStyle kind s) _ b (fields-there s a kind (list l) y z e .0)
-  missing-in-item s kind (inSecond x z) l a b e =
-      missingItems-anywhere l (secondStyle kind s) _ b (fields-there s a kind x (list l) z e .1)
-  missing-in-item s kind (inThird x y) l a b e =
-      missingItems-anywhere l (thirdStyle s) _ b (fields-there s a kind x y (list l) e .2)
+  missing-in-item s kind (inFirst y z) l e = not-later _ _ (fields-there s kind (list l) y z e .0)
+  missing-in-item s kind (inSecond x z) l e = not-later _ _ (fields-there s kind x (list l) z e .1)
+  missing-in-item s kind (inThird x y) l e = not-later _ _ (fields-there s kind x y (list l) e .2)
 
   -- past the items before it
-  missing-in-list : (s : Style) (before : Items) (kind : Kind) (g : Arm) (l after : Items) (a b : ℕ) →
-      missingItems F s a (join before (cons (holding kind g l) after)) ≡ none
-      → missingItems F (fieldStyle kind g s) b l ≡ none
+  missing-in-list : (s : Style) (before : Items) (kind : Kind) (g : Arm) (l after : Items) →
+      missingItems F s (join before (cons (holding kind g l) after)) ≡ none → missingItems F (fieldStyle kind g s) l ≡ none
   unfolding missingItems
-  missing-in-list s nil kind g l after a b e =
+  missing-in-list s nil kind g l after e =
       let i = holding kind g l in
-      let h = neither-missing (missingItem F s a i) (missingItems F s (a + itemBytes i) after) e in
-      missing-in-item s kind g l a b (h .0)
-  missing-in-list s (cons i r) kind g l after a b e =
-      let rest = join r (cons (holding kind g l) after) in
-      let h = neither-missing (missingItem F s a i) (missingItems F s (a + itemBytes i) rest) e in
-      missing-in-list s r kind g l after (a + itemBytes i) b (h .1)
+      missing-in-item s kind g l (neither-missing (missingItem F s i) (later (itemBytes i) (missingItems F s after)) e .0)
+  missing-in-list s (cons i r) kind g l after e =
+      let rest = missingItems F s (join r (cons (holding kind g l) after)) in
+      missing-in-list s r kind g l after
+      (not-later (itemBytes i) rest (neither-missing (missingItem F s i) (later (itemBytes i) rest) e .1))
 
-  pub missing-alone : (s : Style) (p : Path) (l : Items) (a b : ℕ) →
-      missingItems F s a (fill p l) ≡ none → missingItems F (styleAt s p) b l ≡ none
-  missing-alone s whole l a b e = missingItems-anywhere l s a b e
-  missing-alone s (into p t) l a b e =
-      missing-in-list (styleAt s p) (t .before) (t .kind) (t .arm) l (t .after) a b
-      (missing-alone s p (listWith t l) a a e)
+  pub missing-alone : (s : Style) (p : Path) (l : Items) →
+      missingItems F s (fill p l) ≡ none → missingItems F (styleAt s p) l ≡ none
+  missing-alone s whole l e = e
+  missing-alone s (into p t) l e =
+      missing-in-list (styleAt s p) (t .before) (t .kind) (t .arm) l (t .after) (missing-alone s p (listWith t l) e)
 
 -- ---- answer 6
 

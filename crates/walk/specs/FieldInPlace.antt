@@ -57,21 +57,25 @@ module _ (F : Font) (s : Style) (kind : Kind) where
   itemFrame (inFirst y z) size =
       let a = arrangedAround (inFirst y z) size in
       record {
-        before = [];
+        before = ruleNodes (a .own .before);
         distance = a .first;
-        after = ruleNodes (a .rule) ++ movedTo (a .second) (secondPart y .nodes) ++ movedTo (a .third) (thirdPart z .nodes);
+        after = ruleNodes (a .own .behind) ++ movedTo (a .second) (secondPart y .nodes) ++ movedTo (a .third) (thirdPart z .nodes);
       }
   itemFrame (inSecond x z) size =
       let a = arrangedAround (inSecond x z) size in
       record {
-        before = movedTo (a .first) (firstPart x .nodes) ++ ruleNodes (a .rule);
+        before = ruleNodes (a .own .before) ++ movedTo (a .first) (firstPart x .nodes) ++ ruleNodes (a .own .behind);
         distance = a .second;
         after = movedTo (a .third) (thirdPart z .nodes);
       }
   itemFrame (inThird x y) size =
       let a = arrangedAround (inThird x y) size in
       record {
-        before = movedTo (a .first) (firstPart x .nodes) ++ ruleNodes (a .rule) ++ movedTo (a .second) (secondPart y .nodes);
+        before =
+            ruleNodes (a .own .before)
+            ++ movedTo (a .first) (firstPart x .nodes)
+            ++ ruleNodes (a .own .behind)
+            ++ movedTo (a .second) (secondPart y .nodes);
         distance = a .third;
         after = [];
       }
@@ -115,7 +119,7 @@ abbrev pub withoutNodes : Line → Line
 withoutNodes line = record { left = line .left; box = sized (line .box .size) [] }
 
 module _ (F : Font) (s : Style) where
-  setItem-behind : (right : Neighbour) (ns : List Node) (line : Line) (i : Item) →
+  pub setItem-behind : (right : Neighbour) (ns : List Node) (line : Line) (i : Item) →
       setItem F s right (behind ns line) i ≡ behind ns (setItem F s right line i)
   unfolding setItem placed
   setItem-behind right ns line (noad kind x y z) = simp append-assoc

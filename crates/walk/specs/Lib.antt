@@ -3,8 +3,10 @@
 pub mod Setting
 pub mod Missing
 pub mod Fitting
-pub mod MissingLaws
+pub mod Values
+pub mod Bounds
 pub mod Walked
+pub mod WalkedLaws
 pub mod Frames
 pub mod Paths
 pub mod FieldInPlace

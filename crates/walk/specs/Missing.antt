@@ -1,5 +1,6 @@
 -- The first symbol in reading order that the font lacks at the size it is set in (document 01, answer 5).
--- Its place is its field's kind byte. The fields of an item stand behind its opening bytes, one behind the other.
+-- Its place is its field's kind byte. As in the reading, a place within a list counts from the list's first byte, and a place
+-- within an item from the item's. The fields of an item stand behind its opening bytes, one behind the other.
 -- Assumes nothing.
 use mathlib.Core.Bool.{Bool, true, false}
 use mathlib.Core.Option.{Option, none, some}
@@ -17,26 +18,31 @@ _orElse_ (some place) later = some place
 _orElse_ none later = later
 
 infixr 20 _orElse_
+-- the same place counted from a byte that stands `at` bytes before
+unfoldable pub later : ℕ → Option ℕ → Option ℕ
+later at none = none
+later at (some place) = some (at + place)
+
 unfoldable pub absentAt : ℕ → Option Symbol → Option ℕ
 absentAt at none = some at
 absentAt at (some s) = none
 
 unfoldable mutual
-  pub missingItems : Font → Style → ℕ → Items → Option ℕ
-  missingItems F s at nil = none
-  missingItems F s at (cons i r) = missingItem F s at i orElse missingItems F s (at + itemBytes i) r
+  pub missingItems : Font → Style → Items → Option ℕ
+  missingItems F s nil = none
+  missingItems F s (cons i r) = missingItem F s i orElse later (itemBytes i) (missingItems F s r)
 
-  pub missingItem : Font → Style → ℕ → Item → Option ℕ
-  missingItem F s at (noad kind x y z) =
-      let at₁ = at + openingBytes kind in
-      let at₂ = at₁ + fieldBytes x in
-      let at₃ = at₂ + fieldBytes y in
-      missingField F (firstStyle kind s) (enlarges kind s) at₁ x
-      orElse missingField F (secondStyle kind s) false at₂ y
-      orElse missingField F (thirdStyle s) false at₃ z
-  missingItem F s at (kern n) = none
+  pub missingItem : Font → Style → Item → Option ℕ
+  missingItem F s (noad kind x y z) =
+      let second = openingBytes kind + fieldBytes x in
+      let third = second + fieldBytes y in
+      missingField F (firstStyle kind s) (enlarges kind s) (openingBytes kind) x
+      orElse missingField F (secondStyle kind s) false second y
+      orElse missingField F (thirdStyle s) false third z
+  missingItem F s (kern n) = none
 
+  -- a field whose kind byte stands at a place of its item
   pub missingField : Font → Style → Bool → ℕ → Field → Option ℕ
   missingField F s enlarge at empty = none
   missingField F s enlarge at (symbol family code) = absentAt at (symbolIn F (fontSize s) enlarge family code)
-  missingField F s enlarge at (list l) = missingItems F s (at + listOpeningBytes) l
+  missingField F s enlarge at (list l) = later (at + listOpeningBytes) (missingItems F s l)

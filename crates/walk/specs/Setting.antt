@@ -64,19 +64,23 @@ symbolPart size family none = emptyPart
 symbolPart size family (some s) =
     record { shape = char (s .metrics); nodes = glyph (pos 0) (pos 0) size family (s .code) ∷ [] }
 
--- ---- an item, at its own reference point: field 1, line or bar, field 2, field 3
+-- ---- an item, at its own reference point: its own nodes stand before and behind field 1, and fields 2 and 3 behind them
 
 abbrev pub movedTo : Place → List Node → List Node
 movedTo p ns = moved (p .across) (p .up) ns
 
-unfoldable pub ruleNodes : Option Rule → List Node
-ruleNodes none = []
-ruleNodes (some r) = rule (r .place .across) (r .place .up) (r .width) (r .thickness) ∷ []
+abbrev pub ruleNode : Rule → Node
+ruleNode r = rule (r .place .across) (r .place .up) (r .width) (r .thickness)
+
+unfoldable pub ruleNodes : List Rule → List Node
+ruleNodes [] = []
+ruleNodes (r ∷ rs) = ruleNode r ∷ ruleNodes rs
 
 unfoldable pub itemNodes : Arranged → Part → Part → Part → List Node
 itemNodes a x y z =
-    movedTo (a .first) (x .nodes)
-    ++ ruleNodes (a .rule)
+    ruleNodes (a .own .before)
+    ++ movedTo (a .first) (x .nodes)
+    ++ ruleNodes (a .own .behind)
     ++ movedTo (a .second) (y .nodes)
     ++ movedTo (a .third) (z .nodes)
 
@@ -87,7 +91,7 @@ itemBox F s kind x y z =
 
 -- ---- a list
 
--- what stands so far: the class of the last atom, and the box
+-- what stands so far: the class of the last atom, and the box. A list can go on from any line (`setItems`)
 pub record Line : Type 0 where
   pub left : Neighbour
   pub box : Box

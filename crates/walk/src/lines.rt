@@ -2,80 +2,57 @@
 
 ghost use mathlib.Core.Path.{_≡_};
 ghost use mathlib.Core.Bool.{_&&_, not};
-ghost use Prim.Native.Nat.{_+_, _≤_};
 ghost use Rattle.scaled.specs.Signed.{Within};
-ghost use Rattle.formula.specs.Tree.{kernBytes};
 ghost use Rattle.formula.specs.Heads.{greatestKern};
 ghost use Rattle.rules.specs.Values.{sizeAs};
-ghost use Rattle.nodes.specs.Hull.{hullAs, hullFits};
+ghost use Rattle.nodes.specs.Hull.{hullFits};
+ghost use Rattle.nodes.specs.Runs.{hullOf};
 ghost use Rattle.walk.specs.Fitting.{sizeFits};
-ghost use Rattle.walk.specs.Walked.{longest, LineWithin, StartLine, KernedLine, ItemGoes, ExtendedLine, ListPart, SizesGo, SizesBeside};
+ghost use Rattle.walk.specs.Bounds.{longest, LineWithin};
+ghost use Rattle.walk.specs.Walked.{StartLine, KernedLine, ItemGoes, ExtendedLine, ListPart, SizesGo, SizesBeside};
 use crate::parts::Part;
 use formula::Class;
-use nodes::hull::Hull;
-use nodes::hull::within;
+use nodes::run::Run;
+use nodes::run::within;
 use rules::boxes::Shape;
 use rules::boxes::Size;
 use rules::boxes::zero_size;
 use rules::classes::Neighbour;
 use scaled::Sp;
 
-// How many bytes of the list it takes, the class of the last atom, the box so far, and whether a list in it passes the
-// greatest length.
+// The class of the last atom, and the box so far.
 pub struct Line {
-    pub bytes: usize,
     pub left: Neighbour,
     pub size: Size,
-    pub count: usize,
-    pub hull: Hull,
-    pub large: bool,
+    pub run: Run,
 }
 
 pub fn start() -> Line
     ensures { λ r. ⌜ StartLine r ⌝ }
 {
     Line {
-        bytes: 0,
         left: Neighbour::End,
         size: zero_size(),
-        count: 0,
-        hull: Hull::empty(),
-        large: false,
+        run: Run::empty(),
     }
 }
 
-// A kern has six bytes.
+// The line with a kern behind it.
 pub fn kerned(line: Line, n: Sp) -> Line
-    requires { ⌜ LineWithin line × (line .bytes + kernBytes ≤ longest) × Within greatestKern (n .0) ⌝ }
+    requires { ⌜ LineWithin longest line × Within greatestKern (n .0) ⌝ }
     ensures { λ r. ⌜ KernedLine line (n .0) r ⌝ }
 {
     let left = line.left;
-    let hull = line.hull;
+    let run = line.run;
     let mut size = line.size;
     let width = size.width;
     size.width = width.plus(n);
-    Line {
-        bytes: line.bytes + 6,
-        left,
-        size,
-        count: line.count,
-        hull,
-        large: line.large,
-    }
-}
-
-// An item that has been set: its bytes, its size, its nodes as the list has them, and how far they reach.
-pub struct Item {
-    pub bytes: usize,
-    pub size: Size,
-    pub count: usize,
-    pub hull: Hull,
-    pub large: bool,
+    Line { left, size, run }
 }
 
 // A box of a list with another that stands at x.
 fn beside(a: Size, x: Sp, b: Size) -> Size
-    requires { ⌜ SizesGo a (x .0) b ⌝ }
+    requires { ⌜ SizesGo (x .0) b ⌝ }
     ensures { λ r. ⌜ SizesBeside a (x .0) b r ⌝ }
 {
     let width = b.width;
@@ -88,33 +65,25 @@ fn beside(a: Size, x: Sp, b: Size) -> Size
     }
 }
 
-// The line with an item of this class behind it, at x.
-pub fn extended(line: Line, class: Class, x: Sp, item: Item) -> Line
-    requires { ⌜ ItemGoes line (x .0) item ⌝ }
-    ensures { λ r. ⌜ ExtendedLine line class (x .0) item r ⌝ }
+// The line with an item of this class and size behind it, at x.
+pub fn extended(line: Line, class: Class, x: Sp, size: Size, run: Run) -> Line
+    requires { ⌜ ItemGoes line (x .0) size run ⌝ }
+    ensures { λ r. ⌜ ExtendedLine line class (x .0) size run r ⌝ }
 {
-    let size = beside(line.size, x, item.size);
-    let before = line.hull;
-    let own = item.hull;
+    let before = line.run;
     Line {
-        bytes: line.bytes + item.bytes,
         left: Neighbour::Atom(class),
-        size,
-        count: line.count + item.count,
-        hull: before.joined(own),
-        large: line.large || item.large,
+        size: beside(line.size, x, size),
+        run: before.joined(run),
     }
 }
 
 // Whether the list keeps within the greatest length, and so do all in it.
 pub fn list_fits(line: Line) -> bool
-    ensures { λ r. ⌜ r ≡ (not (line .large) && (hullFits (hullAs (line .hull)) && sizeFits (sizeAs (line .size)))) ⌝ }
+    ensures { λ r. ⌜ r ≡ ((not (line .run .large) && hullFits (hullOf (line .run))) && sizeFits (sizeAs (line .size))) ⌝ }
 {
-    if line.large {
-        return false;
-    }
-    let hull = line.hull;
-    if !hull.fits() {
+    let run = line.run;
+    if !run.fits() {
         return false;
     }
     size_fits(line.size)
@@ -132,26 +101,23 @@ fn size_fits(size: Size) -> bool
     within(size.depth)
 }
 
-// A whole list as a field. One that does not fit has no shape that matters.
-pub fn list_part(line: Line) -> Part
-    requires { ⌜ LineWithin line ⌝ }
-    ensures { λ r. ⌜ ListPart line r ⌝ }
+// A whole list as a field that ends at a place of its item. One that does not fit has no shape that matters.
+pub fn list_part(end: usize, line: Line) -> Part
+    ensures { λ r. ⌜ ListPart end line r ⌝ }
 {
     if list_fits(line) {
         let size = line.size;
-        let hull = line.hull;
+        let run = line.run;
         Part {
+            end,
             shape: Shape::Box(size),
-            count: line.count,
-            hull,
-            large: false,
+            run,
         }
     } else {
         Part {
+            end,
             shape: Shape::Nothing,
-            count: 0,
-            hull: Hull::empty(),
-            large: true,
+            run: Run::too_large(),
         }
     }
 }

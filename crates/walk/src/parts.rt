@@ -1,52 +1,55 @@
 // A field that has been set alone, at its own reference point.
 
+ghost use Prim.Native.Nat.{_<_};
 ghost use Rattle.font.specs.Font.{fontOf};
 ghost use Rattle.formula.specs.Tree.{symbol};
 ghost use Rattle.walk.specs.Walked.{EmptyPart, FieldDone};
 use crate::symbols::Sought;
 use crate::symbols::symbol_in;
-use nodes::hull::Hull;
 use nodes::put_glyph;
+use nodes::run::Run;
 use rules::Style;
 use rules::boxes::Shape;
 use rules::styles::font_size;
 use scaled::Sp;
 
-// Its shape, its nodes and how far they reach; large where a list in it passes the greatest length.
+// Where it ends in its item, its shape, and its nodes.
 pub struct Part {
+    pub end: usize,
     pub shape: Shape,
-    pub count: usize,
-    pub hull: Hull,
-    pub large: bool,
+    pub run: Run,
 }
 
-// A field, or the place of its first symbol that the font lacks.
+// A field, or the place in its item of its first symbol that the font lacks.
 pub enum FieldSet {
     Whole(Part),
     Missing(usize),
 }
 
-pub fn empty_part() -> Part
-    ensures { λ r. ⌜ EmptyPart r ⌝ }
+pub fn empty_part(end: usize) -> Part
+    ensures { λ r. ⌜ EmptyPart end r ⌝ }
 {
     Part {
+        end,
         shape: Shape::Nothing,
-        count: 0,
-        hull: Hull::empty(),
-        large: false,
+        run: Run::empty(),
     }
 }
 
-// A symbol's glyph stands at the reference point; a symbol that is missing is so at the field's kind byte.
+// A symbol's glyph stands at the reference point. The field goes from `at` to `end` of its item; a symbol that is missing
+// is so at the field's kind byte.
 pub fn symbol_part(
     table: &[u8],
     style: Style,
     enlarge: bool,
     family: u8,
     code: u8,
+    at: usize,
+    end: usize,
     buf: &mut [u8],
 ) -> FieldSet
-    ensures { λ r. ⌜ FieldDone (fontOf (now (table .entry))) style enlarge (symbol family code) 3 (now (buf .entry)) r (now (buf .exit)) ⌝ }
+    requires { ⌜ at < end ⌝ }
+    ensures { λ r. ⌜ FieldDone (fontOf (now (table .entry))) style enlarge (symbol family code) at end (now (buf .entry)) r (now (buf .exit)) ⌝ }
 {
     let size = font_size(style) as u8;
     let sought = symbol_in(table, size, enlarge, family, code);
@@ -55,12 +58,11 @@ pub fn symbol_part(
             let metrics = symbol.metrics;
             put_glyph(buf, Sp(0), Sp(0), size, family, symbol.code);
             FieldSet::Whole(Part {
+                end,
                 shape: Shape::Char(metrics),
-                count: 1,
-                hull: Hull::point(Sp(0), Sp(0)),
-                large: false,
+                run: Run::point(Sp(0), Sp(0)),
             })
         }
-        Sought::Absent => FieldSet::Missing(0),
+        Sought::Absent => FieldSet::Missing(at),
     }
 }

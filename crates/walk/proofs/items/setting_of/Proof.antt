@@ -1,6 +1,5 @@
 -- `setting_of` meets its contract: the class, x and the arrangement are those of the definition, by what the calls promise.
 -- Assumes nothing.
-use Rattle.walk.proofs.ItemLaws.{sum-within}
 use borrow.Author.Needs.{needs}
 use Rattle.walk.proofs.items.setting_of.Statement.{statement}
 use Rattle.walk.proofs.items.setting_of.Tie as tie
@@ -25,15 +24,13 @@ returns c =
     let sum = c .before in
     let space = sum .before in
     let changed = space .before in
-    let line = changed .before .before .before .before .pre .0 in
-    let far = sum-within (sum .plus .ensures) (line .width) (space .space-before .ensures .1) in (
-      record {
-        class-is = rw (changed .before .class-of .ensures) at (changed .changed-class .ensures);
-        x-is = rw (space .space-before .ensures .0) at (sum .plus .ensures .is);
-        arranged-is = c .arrange .ensures .0;
-      },
-      record { x = far; arranged = c .arrange .ensures .1 },
-    )
+    record {
+      class-is = rw (changed .before .class-of .ensures) at (changed .changed-class .ensures);
+      space = rw (space .space-before .ensures .0) at (space .space-before .ensures .1);
+      x-is = rw (space .space-before .ensures .0) at (sum .plus .ensures .is);
+      arranged-is = c .arrange .ensures .0;
+      bounded = c .arrange .ensures .1;
+    }
 
 pub setting-of-spec : {M : Type 1} → statement M
 setting-of-spec =

@@ -6,22 +6,17 @@ use borrow.Author.Needs.{needs}
 use Rattle.walk.proofs.lines.list_fits.Statement.{statement}
 use Rattle.walk.proofs.lines.list_fits.Tie as tie
 
-returns : tie.Need-returns
-returns c = search needs
-
 fits-requires : tie.Need-fits-requires
 fits-requires c κs = search needs
 
-returns-2 : tie.Need-returns-2
-returns-2 c = rw (c .before .before .before .if1 .left, sym (c .before .fits2 .ensures) ∙ not-true _ (c .if2 .taken))
+returns : tie.Need-returns
+returns c = rw (sym (c .before .fits2 .ensures) ∙ not-true _ (c .if1 .taken))
 
 size-fits-requires : tie.Need-size-fits-requires
 size-fits-requires c κs = search needs
 
-returns-3 : tie.Need-returns-3
-returns-3 c =
-    let reaches = sym (c .before .before .fits2 .ensures) ∙ not-false _ (c .before .if2 .left) in
-    rw (c .before .before .before .before .if1 .left, reaches) (c .size-fits .ensures)
+returns-2 : tie.Need-returns-2
+returns-2 c = rw (sym (c .before .before .fits2 .ensures) ∙ not-false _ (c .before .if1 .left)) (c .size-fits .ensures)
 
 pub list-fits-spec : {M : Type 1} → statement M
-list-fits-spec = tie.close (tie.spec returns fits-requires returns-2 size-fits-requires returns-3)
+list-fits-spec = tie.close (tie.spec fits-requires returns size-fits-requires returns-2)

@@ -1,28 +1,77 @@
--- `list_part` meets its contract, by the laws of `LineLaws`.
+-- `list_part` meets its contract: a list that fits is moderate, and its nodes are within the greatest length.
 -- Assumes nothing.
-use mathlib.Core.Path.{sym, _∙_}
+use mathlib.Core.Path.{_≡_, refl, sym, ap, _∙_}
+use mathlib.Core.Bool.{Bool, true, false, not, _&&_, and-eq-true-iff}
+use Prim.Native.Nat.{ℕ}
+use native.Mathlib.Omega.{arith}
+use Rattle.rules.specs.declared.boxes.Shape.the-variants.{Nothing, Box}
+use Rattle.rules.specs.Values.{sizeAs}
+use Rattle.nodes.specs.declared.run.Run.{Run}
+use Rattle.nodes.specs.Bounds.{within}
+use Rattle.nodes.specs.Hull.{hullFits}
+use Rattle.nodes.specs.HullLaws.{within-true, fits-within}
+use Rattle.nodes.specs.Runs.{hullOf, LargeRun}
+use Rattle.walk.specs.declared.lines.Line as lines
+use Rattle.walk.specs.Fitting.{sizeFits}
+use Rattle.walk.specs.Values.{lineFits}
+use Rattle.walk.specs.Walked.{ListPart}
 use borrow.Author.Needs.{needs}
-use Rattle.walk.proofs.LineLaws.{list-whole, list-large}
 use Rattle.walk.proofs.lines.list_part.Statement.{statement}
 use Rattle.walk.proofs.lines.list_part.Tie as tie
 
+module _ (end : ℕ) (l : lines.Line) where
+  list-whole : lineFits l ≡ true → ListPart end l (record { end = end; shape = Box (l .size); run = l .run })
+  list-whole e =
+      let z = l .size in
+      let both = and-eq-true-iff (not (l .run .large) && hullFits (hullOf (l .run))) (sizeFits (sizeAs z)) .0 e in
+      let reach = and-eq-true-iff (not (l .run .large)) (hullFits (hullOf (l .run))) .0 (both .0) in
+      let size = and-eq-true-iff (within (z .width .0) && within (z .height .0)) (within (z .depth .0)) .0 (both .1) in
+      let sides = and-eq-true-iff (within (z .width .0)) (within (z .height .0)) .0 (size .0) in
+      let width = within-true (z .width .0) (sides .0) in
+      let height = within-true (z .height .0) (sides .1) in
+      let depth = within-true (z .depth .0) (size .1) in
+      record {
+        end-is = refl;
+        large-is = not-large (l .run .large) (reach .0) ∙ ap not (sym e);
+        shape = record { width = omega arith; height = omega arith; depth = omega arith };
+        count = omega arith;
+        hull = fits-within (hullOf (l .run)) (reach .1);
+        is = λ h. (refl, refl);
+      }
+    where
+      not-large : (t : Bool) → not t ≡ true → t ≡ false
+      not-large true e = sym e
+      not-large false e = refl
+
+  list-large : {r : Run} → lineFits l ≡ false → LargeRun r → ListPart end l (record { end = end; shape = Nothing; run = r })
+  list-large e large =
+      let none-there = large .count-is in
+      record {
+        end-is = refl;
+        large-is = large .large-is ∙ ap not (sym e);
+        shape = tt;
+        count = omega arith;
+        hull = rw (large .hull-is) tt;
+        is = λ h. let never : _≡_ {A = ℕ} 0 1 = cc in absurd (omega arith);
+      }
+
 list-fits-requires : tie.Need-list-fits-requires
 list-fits-requires c κs = search needs
+
+too-large-requires : tie.Need-too-large-requires
+too-large-requires c κs = search needs
 
 returns : tie.Need-returns
 returns c =
     let branch = c .before .before in
     let start = branch .before .before in
-    list-whole (start .args .line) (start .pre) (sym (branch .before .list-fits .ensures) ∙ branch .if1 .taken)
-
-empty-requires : tie.Need-empty-requires
-empty-requires c κs = search needs
+    list-whole (start .args .end) (start .args .line) (sym (branch .before .list-fits .ensures) ∙ branch .if1 .taken)
 
 returns-2 : tie.Need-returns-2
 returns-2 c =
     let branch = c .before in
     let start = branch .before .before in
-    list-large (start .args .line) _ (sym (branch .before .list-fits .ensures) ∙ branch .if1 .left) (c .empty .ensures)
+    list-large (start .args .end) (start .args .line) (sym (branch .before .list-fits .ensures) ∙ branch .if1 .left) (c .too-large .ensures)
 
 pub list-part-spec : {M : Type 1} → statement M
-list-part-spec = tie.close (tie.spec list-fits-requires empty-requires returns returns-2)
+list-part-spec = tie.close (tie.spec list-fits-requires too-large-requires returns returns-2)

@@ -2,12 +2,12 @@
 -- Assumes nothing.
 use mathlib.Core.Path.{_≡_, sym, ap, _∙_}
 use mathlib.Core.Option.{none, some}
-use borrow.Author.Needs.{needs}
 use Rattle.font.specs.Font.{fontOf}
 use Rattle.rules.specs.Styles.{fontSize}
 use Rattle.walk.specs.Setting.{symbolIn}
-use Rattle.walk.specs.Walked.{symbolAs, soughtAs}
+use Rattle.walk.specs.Values.{symbolAs, soughtAs}
 use Rattle.walk.proofs.PartLaws.{symbol-whole, symbol-missing}
+use borrow.Author.Needs.{needs}
 use Rattle.walk.proofs.parts.symbol_part.Statement.{statement}
 use Rattle.walk.proofs.parts.symbol_part.Tie as tie
 
@@ -39,22 +39,24 @@ returns : tie.Need-returns
 returns c =
     let known = c .before .before .before .before .before .before .before in
     let looked = known .before .before in
-    let a = looked .before .before .before .before .args in
+    let start = looked .before .before .before .before in
+    let a = start .args in
     let size = looked .before .font-size .ensures .0 in
     let symbol = known .sought .given .0 .0 in
     let found : symbolIn (fontOf (a .table .now)) (fontSize (a .style)) (a .enlarge) (a .family) (a .code) ≡ some (symbolAs symbol) =
     rw (← size) (sym (looked .symbol-in .ensures) ∙ ap soughtAs (known .sought .given .1)) in
-    symbol-whole (fontOf (a .table .now)) (a .style) (a .enlarge) (a .family) (a .code) (a .buf .now) symbol _ _ found
+    symbol-whole (fontOf (a .table .now)) (a .style) (a .enlarge) (a .at) (a .end) (a .buf .now) (a .family) (a .code) (start .pre) symbol _ _ found
     (c .point .ensures) (rw (← size) (c .before .before .before .put-glyph .ensures))
 
 returns-2 : tie.Need-returns-2
 returns-2 c =
     let looked = c .before .before in
-    let a = looked .before .before .before .before .args in
+    let start = looked .before .before .before .before in
+    let a = start .args in
     let size = looked .before .font-size .ensures .0 in
     let lacks : symbolIn (fontOf (a .table .now)) (fontSize (a .style)) (a .enlarge) (a .family) (a .code) ≡ none =
     rw (← size) (sym (looked .symbol-in .ensures) ∙ ap soughtAs (c .enum-told .given .1)) in
-    symbol-missing (fontOf (a .table .now)) (a .style) (a .enlarge) (a .family) (a .code) (a .buf .now) (a .buf .now) lacks
+    symbol-missing (fontOf (a .table .now)) (a .style) (a .enlarge) (a .at) (a .end) (a .buf .now) (a .family) (a .code) (start .pre) (a .buf .now) lacks
 
 pub symbol-part-spec : {M : Type 1} → statement M
 symbol-part-spec =

@@ -5,19 +5,20 @@ use mathlib.Core.Option.{some}
 use Prim.Native.Nat.{_-_}
 use native.Mathlib.Omega.{arith}
 use lib.ListN.{length}
+use Rattle.rules.specs.Values.{neighbourAs}
 use borrow.Author.Needs.{needs}
 use Rattle.walk.proofs.PlaceLaws.{Passing, started, opens, passed, atom-next, finished}
 use Rattle.walk.proofs.places.next_class.Statement.{statement}
 use Rattle.walk.proofs.places.next_class.Tie as tie
 
 abbrev Inv-loop : tie.InvT-loop
-Inv-loop s at₀ at = Passing s at
+Inv-loop beyond s at₀ at = Passing (neighbourAs beyond) s at
 
 abbrev μ-loop : tie.MeasureT-loop
-μ-loop s at₀ at = length s - at
+μ-loop beyond s at₀ at = length s - at
 
 loop-holds : tie.Need-loop-holds Inv-loop μ-loop
-loop-holds c = started _ (c .before .pre .0)
+loop-holds c = started _ _ (c .before .pre .0)
 
 sub-opening : tie.Need-sub-opening Inv-loop μ-loop
 sub-opening c = search needs

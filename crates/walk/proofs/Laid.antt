@@ -1,0 +1,91 @@
+-- Parts that are set one behind another in a buffer, each into the rest of it: what was b₀ is b, and n nodes' bytes w stand at its
+-- front, if what was set is known and there is room.
+--     laid-start     room that is left free at the front
+--     laid-gap       room that is left free behind
+--     laid-field     nodes that were set in the part of the buffer that was lent
+--     laid-none      a part without nodes
+-- Assumes nothing.
+use mathlib.Core.Path.{_≡_, refl, sym, ap, _∙_}
+use mathlib.Core.Bool.{Bool, true, false, _&&_}
+use mathlib.Core.List.{List, [], _++_, append-nil, append-assoc}
+use Prim.Native.Nat.{ℕ, _+_, _-_, _*_, _≤_}
+use native.Mathlib.Omega.{arith}
+use lib.ListN.{length, take, drop, length-append, length-take, length-drop, take-append-drop}
+use lib.Seq.{length-take-le, take-at, drop-at, drop-drop}
+use borrow.Rule.Slice.PartMut.{putMid, same-len-mid}
+use Rattle.nodes.specs.Nodes.{Node, bytesInNode, bytesOf}
+use Rattle.nodes.specs.NodeLaws.{length-bytes}
+use Rattle.nodes.specs.Buffer.{roomFor}
+use Rattle.nodes.specs.Drawn.{Drawn}
+use Rattle.nodes.specs.Lent.{rest-lent, rest-back}
+use Rattle.walk.proofs.Tests.{and-left, and-right}
+
+pub record Laid (b₀ : List ℕ) (n : ℕ) (known : Bool) (w b : List ℕ) : Type 0 where
+  pub same : length b ≡ length b₀
+  pub laid : known ≡ true → bytesInNode * n ≤ length b₀ → (length w ≡ bytesInNode * n) × (b ≡ w ++ drop (bytesInNode * n) b₀)
+
+pub laid-start : (b₀ : List ℕ) (n : ℕ) → Laid b₀ n true (take (bytesInNode * n) b₀) b₀
+laid-start b₀ n =
+    record {
+      same = refl;
+      laid = λ h room. (length-take-le (bytesInNode * n) b₀ room, sym (take-append-drop (bytesInNode * n) b₀));
+    }
+
+module _ {b₀ : List ℕ} {n : ℕ} {known : Bool} {w b : List ℕ} (so : Laid b₀ n known w b) where
+  pub laid-gap : (m : ℕ) → Laid b₀ (n + m) known (w ++ take (bytesInNode * m) (drop (bytesInNode * n) b₀)) b
+  laid-gap m =
+      record {
+        same = so .same;
+        laid = λ h room.
+            let was = so .laid h (omega arith) in
+            let rest = drop (bytesInNode * n) b₀ in
+            let gap = take (bytesInNode * m) rest in
+            let long : length gap ≡ bytesInNode * m = length-take-le (bytesInNode * m) rest (omega (arith, length-drop (bytesInNode * n) b₀)) in
+            let whole : bytesInNode * n + bytesInNode * m ≡ bytesInNode * (n + m) = omega arith in
+            let front = was .0 in (
+              omega (arith, length-append w gap),
+              was .1 ∙ ap (λ (r : List ℕ). w ++ r) (sym (take-append-drop (bytesInNode * m) rest))
+                  ∙ sym (append-assoc w gap (drop (bytesInNode * m) rest))
+                  ∙ ap (λ (r : List ℕ). (w ++ gap) ++ r)
+                  (drop-drop (bytesInNode * m) (bytesInNode * n) b₀ ∙ ap (λ (k : ℕ). drop k b₀) whole),
+            );
+      }
+
+  pub laid-none : {k : ℕ} (fits : Bool) → k ≡ 0 → Laid b₀ (n + k) (known && fits) (w ++ []) b
+  laid-none {k} fits none-there =
+      let e : n ≡ n + k = omega arith in
+      record {
+        same = so .same;
+        laid = λ h room.
+            let was = so .laid (and-left known fits h) (omega arith) in
+            (rw (append-nil w, ← e) (was .0), rw (append-nil w, ← e) (was .1));
+      }
+
+  -- the nodes ns, k of them, were set in the part from j on, which is back as r
+  pub laid-field : {j k : ℕ} {fits : Bool} {r : List ℕ} (ns : List Node) → j ≡ roomFor n (length b) →
+      (fits ≡ true → k ≡ length ns) → (fits ≡ true → Drawn ns (take (length b - j) (drop j b)) r) →
+      length r ≡ length (take (length b - j) (drop j b)) →
+      Laid b₀ (n + k) (known && fits) (w ++ bytesOf ns) (putMid j (length b - j) b r)
+  laid-field {j} {k} {fits} {r} ns at count drawn kept =
+      let before = so .same in
+      record {
+        same = same-len-mid j (length b - j) b r kept ∙ before;
+        laid = λ h room.
+            let few = count (and-right known fits h) in
+            let was = so .laid (and-left known fits h) (omega arith) in
+            let front : length w ≡ bytesInNode * n = was .0 in
+            let rest = drop (bytesInNode * n) b₀ in
+            let place : length w ≡ j = omega arith in
+            let lent : take (length b - j) (drop j b) ≡ rest =
+            rest-lent j b ∙ ap (drop j) (was .1) ∙ drop-at w rest j place in
+            let size = length-bytes ns in
+            let set : r ≡ bytesOf ns ++ drop (bytesInNode * length ns) rest =
+            (rw lent at (drawn (and-right known fits h))) (omega (arith, length-drop (bytesInNode * n) b₀)) in
+            let whole : bytesInNode * n + bytesInNode * length ns ≡ bytesInNode * (n + k) = omega arith in
+            let head : take j b ≡ w = ap (take j) (was .1) ∙ take-at w rest j place in (
+              omega (arith, length-append w (bytesOf ns)),
+              rest-back j b r ∙ rw (head, set) (sym (append-assoc w (bytesOf ns) (drop (bytesInNode * length ns) rest)))
+                  ∙ ap (λ (l : List ℕ). (w ++ bytesOf ns) ++ l)
+                  (drop-drop (bytesInNode * length ns) (bytesInNode * n) b₀ ∙ ap (λ (i : ℕ). drop i b₀) whole),
+            );
+      }

@@ -1,0 +1,426 @@
+-- An item with fields, from its three fields.
+--     item-lacks                         the first missing symbol of an item is that of its fields, in their order
+--     One, Two, Three                    what stands so far in the buffer, field by field; `set-one`, `set-two`, `set-three` and
+--                                        `none-third` go on from one to the next
+--     noad-added                         all three stand there and the item is finished: it has gone behind the line
+--     noad-lacks, noad-done              what an item with fields comes to
+-- Assumes nothing.
+use mathlib.Core.Path.{_≡_, refl, sym, subst, ap, ap₂, _∙_}
+use mathlib.Core.Bool.{Bool, true, false, not, _&&_, _||_}
+use mathlib.Core.List.{List, [], _++_, append-assoc}
+use mathlib.Core.Option.{Option, none, some}
+use Prim.Native.Nat.{ℕ, _+_, _-_, _*_, _≤_}
+use native.Mathlib.Omega.{arith}
+use lib.IntN.{ℤ, pos, _+ℤ_}
+use lib.ListN.{length, take, drop, length-drop}
+use lib.Seq.{length-take-le}
+use borrow.Rule.Slice.PartMut.{putMid, same-len-mid}
+use Rattle.font.specs.Font.{Font}
+use Rattle.formula.specs.declared.Class.{Class}
+use Rattle.formula.specs.declared.Kind.{Kind}
+use Rattle.formula.specs.declared.Opening.{Opening}
+use Rattle.formula.specs.declared.Opening.the-variants.{Fields}
+use Rattle.formula.specs.Tree.{Field, openingBytes, fieldBytes}
+use Rattle.formula.specs.Heads.{openingOf}
+use Rattle.formula.specs.Places.{treeOf, hasThird, second, third, thirdEnd, end, itemSize, fieldIn, thirdIn, itemOf}
+use Rattle.formula.specs.PlacesLaws.{field-bytes, Noad}
+use Rattle.rules.specs.declared.Style.{Style}
+use Rattle.rules.specs.Parameters.{Parameters}
+use Rattle.rules.specs.Classes.{Neighbour, classOf, changedClass}
+use Rattle.rules.specs.Spacing.{spaceBefore}
+use Rattle.rules.specs.Boxes.{Arranged}
+use Rattle.rules.specs.Arrange.{arrange, ownCounts, firstStyle, secondStyle, thirdStyle, enlarges}
+use Rattle.rules.specs.ArrangeLaws.{own-before, own-behind, few-own}
+use Rattle.rules.specs.Values.{neighbourAs, sizeAs}
+use Rattle.nodes.specs.Nodes.{Node, bytesInNode, bytesOf, moved}
+use Rattle.nodes.specs.Buffer.{roomFor}
+use Rattle.nodes.specs.Drawn.{Drawn}
+use Rattle.walk.specs.declared.parts.Part as parts
+use Rattle.walk.specs.declared.parts.FieldSet.{FieldSet}
+use Rattle.walk.specs.declared.parts.FieldSet.the-variants as field
+use Rattle.walk.specs.declared.lines.Line as lines
+use Rattle.walk.specs.declared.lists.Step.{Step}
+use Rattle.walk.specs.declared.lists.Step.the-variants as step
+use Rattle.walk.specs.Setting.{Part, nextClass, itemNodes, itemBox, placed, setField, setItem}
+use Rattle.walk.specs.Missing.{_orElse_, missingField, missingItem}
+use Rattle.walk.specs.Fitting.{fieldFits, itemFits}
+use Rattle.walk.specs.Values.{bareLine}
+use Rattle.walk.specs.Bounds.{longest, LineWithin}
+use Rattle.walk.specs.Walked.{EmptyPart, PartWithin, FieldWhole, FieldDone, HeadDone, ChangesAlike, FinishGiven, Finished, Added, StepDone, ItemDone, besideSize, itemCount, itemBuffer}
+use Rattle.walk.proofs.Tests.{and-left, and-right, or-nots}
+use Rattle.walk.proofs.ItemLaws.{item-count, item-hull, item-bytes}
+use Rattle.walk.proofs.Laid.{Laid, laid-start, laid-gap, laid-field, laid-none}
+use Rattle.walk.proofs.PartLaws.{field-empty}
+
+-- a field that was set, by equal names
+pub head-as : (F : Font) (bytes b b′ : List ℕ) {st st′ : Style} {e e′ : Bool} {at at′ : ℕ} {r r′ : FieldSet} → st ≡ st′ → e ≡ e′ →
+    at ≡ at′ → r ≡ r′ → HeadDone F st e bytes at b r b′ → HeadDone F st′ e′ bytes at′ b r′ b′
+head-as F bytes b b′ {st} {st′} {e} {e′} {at} {at′} {r} {r′} style enlarge place is d =
+    subst (λ (r : FieldSet). HeadDone F st′ e′ bytes at′ b r b′) is
+    (subst (λ (at : ℕ). HeadDone F st′ e′ bytes at b r b′) place
+    (subst (λ (e : Bool). HeadDone F st′ e bytes at b r b′) enlarge (subst (λ (st : Style). HeadDone F st e bytes at b r b′) style d)))
+
+-- an item that was finished by the parameters P, where these are Q
+pub finished-by : {P Q : Parameters} {s : Style} {kind : Kind} {right : Neighbour} {l r : lines.Line} {a b c : parts.Part} {v v′ : List ℕ} →
+    P ≡ Q → Finished P s kind right l a b c r v v′ → Finished Q s kind right l a b c r v v′
+finished-by {s = s} {kind} {right} {l} {r} {a} {b} {c} {v} {v′} e d =
+    subst (λ (P : Parameters). Finished P s kind right l a b c r v v′) e d
+
+-- the fields of the item at the head of some bytes, each set alone
+module _ (F : Font) (s : Style) (kind : Kind) (bytes : List ℕ) where
+  abbrev pub fieldX : Field
+  fieldX = fieldIn bytes (openingBytes kind)
+
+  abbrev pub fieldY : Field
+  fieldY = fieldIn bytes (second bytes kind)
+
+  abbrev pub fieldZ : Field
+  fieldZ = thirdIn bytes (hasThird kind) (third bytes kind)
+
+  abbrev pub partX : Part
+  partX = setField F (firstStyle kind s) (enlarges kind s) fieldX
+
+  abbrev pub partY : Part
+  partY = setField F (secondStyle kind s) false fieldY
+
+  abbrev pub partZ : Part
+  partZ = setField F (thirdStyle s) false fieldZ
+
+  abbrev pub fitsX : Bool
+  fitsX = fieldFits F (firstStyle kind s) fieldX
+
+  abbrev pub fitsY : Bool
+  fitsY = fieldFits F (secondStyle kind s) fieldY
+
+  abbrev pub fitsZ : Bool
+  fitsZ = fieldFits F (thirdStyle s) fieldZ
+
+  abbrev pub lacksX : Option ℕ
+  lacksX = missingField F (firstStyle kind s) (enlarges kind s) (openingBytes kind) fieldX
+
+  abbrev pub lacksY : Option ℕ
+  lacksY = missingField F (secondStyle kind s) false (second bytes kind) fieldY
+
+  abbrev pub lacksZ : Option ℕ
+  lacksZ = missingField F (thirdStyle s) false (third bytes kind) fieldZ
+
+  abbrev pub WholeX : parts.Part → Type 0
+  WholeX a = FieldWhole F (firstStyle kind s) (enlarges kind s) fieldX (openingBytes kind) (second bytes kind) a
+
+  abbrev pub WholeY : parts.Part → Type 0
+  WholeY b = FieldWhole F (secondStyle kind s) false fieldY (second bytes kind) (third bytes kind) b
+
+  abbrev pub WholeZ : parts.Part → Type 0
+  WholeZ c = FieldWhole F (thirdStyle s) false fieldZ (third bytes kind) (end bytes kind) c
+
+  pub item-lacks : Noad bytes kind → missingItem F s (itemOf bytes (Fields kind)) ≡ (lacksX orElse lacksY orElse lacksZ)
+  unfolding missingItem
+  item-lacks n =
+      let x = field-bytes bytes (openingBytes kind) (n .x) in
+      let y = field-bytes bytes (second bytes kind) (n .y) in
+      let at₂ : openingBytes kind + fieldBytes fieldX ≡ second bytes kind = omega arith in
+      let at₃ : openingBytes kind + fieldBytes fieldX + fieldBytes fieldY ≡ third bytes kind = omega arith in
+      ap₂ (λ (y z : ℕ). lacksX orElse missingField F (secondStyle kind s) false y fieldY orElse missingField F (thirdStyle s) false z fieldZ)
+      at₂ at₃
+
+  pub first-lacks : {place : ℕ} → Noad bytes kind → lacksX ≡ some place → missingItem F s (itemOf bytes (Fields kind)) ≡ some place
+  first-lacks n x = item-lacks n ∙ rw x
+
+  pub second-lacks : {place : ℕ} → Noad bytes kind → lacksX ≡ none → lacksY ≡ some place →
+      missingItem F s (itemOf bytes (Fields kind)) ≡ some place
+  second-lacks n x y = item-lacks n ∙ rw (x, y)
+
+  pub third-lacks : {m : Option ℕ} → Noad bytes kind → lacksX ≡ none → lacksY ≡ none → lacksZ ≡ m →
+      missingItem F s (itemOf bytes (Fields kind)) ≡ m
+  third-lacks n x y z = item-lacks n ∙ rw (x, y, z)
+
+  -- the room for the own nodes, before the first field a and behind it
+  module _ (a : parts.Part) (o₁ o₂ : ℕ) (b₀ : List ℕ) where
+    abbrev gap₁ : List ℕ
+    gap₁ = take (bytesInNode * o₁) b₀
+
+    abbrev gap₂ : List ℕ
+    gap₂ = take (bytesInNode * o₂) (drop (bytesInNode * (o₁ + a .run .count)) b₀)
+
+  -- what stands so far in the buffer v, which was b₀, with room for the item's own nodes: the first field a
+  pub record One (o₁ o₂ : ℕ) (b₀ : List ℕ) (a : parts.Part) (v : List ℕ) : Type 0 where
+    pub noad : Noad bytes kind
+    pub own₁ : o₁ ≡ ownCounts (F .parameter) s kind .before
+    pub own₂ : o₂ ≡ ownCounts (F .parameter) s kind .behind
+    pub wx : WholeX a
+    pub so : Laid b₀ (o₁ + a .run .count + o₂) fitsX ((gap₁ a o₁ o₂ b₀ ++ bytesOf (partX .nodes)) ++ gap₂ a o₁ o₂ b₀) v
+
+  -- and the second, b
+  pub record Two (o₁ o₂ : ℕ) (b₀ : List ℕ) (a b : parts.Part) (v : List ℕ) : Type 0 where
+    pub noad : Noad bytes kind
+    pub own₁ : o₁ ≡ ownCounts (F .parameter) s kind .before
+    pub own₂ : o₂ ≡ ownCounts (F .parameter) s kind .behind
+    pub wx : WholeX a
+    pub wy : WholeY b
+    pub so : Laid b₀ (o₁ + a .run .count + o₂ + b .run .count) (fitsX && fitsY)
+        (((gap₁ a o₁ o₂ b₀ ++ bytesOf (partX .nodes)) ++ gap₂ a o₁ o₂ b₀) ++ bytesOf (partY .nodes)) v
+
+  -- and the third, c
+  pub record Three (o₁ o₂ : ℕ) (b₀ : List ℕ) (a b c : parts.Part) (v : List ℕ) : Type 0 where
+    pub noad : Noad bytes kind
+    pub own₁ : o₁ ≡ ownCounts (F .parameter) s kind .before
+    pub own₂ : o₂ ≡ ownCounts (F .parameter) s kind .behind
+    pub wx : WholeX a
+    pub wy : WholeY b
+    pub wz : WholeZ c
+    pub so : Laid b₀ (o₁ + a .run .count + o₂ + b .run .count + c .run .count) (fitsX && fitsY && fitsZ)
+        ((((gap₁ a o₁ o₂ b₀ ++ bytesOf (partX .nodes)) ++ gap₂ a o₁ o₂ b₀) ++ bytesOf (partY .nodes)) ++ bytesOf (partZ .nodes)) v
+
+  -- the third field, or its first missing symbol
+  abbrev pub ThirdDone : ℕ → ℕ → List ℕ → parts.Part → parts.Part → FieldSet → List ℕ → Type 0
+  ThirdDone o₁ o₂ b₀ a b (field.Whole c) v = Three o₁ o₂ b₀ a b c v
+  ThirdDone o₁ o₂ b₀ a b (field.Missing place) v = (length v ≡ length b₀) × (lacksZ ≡ some place) × (place ≤ end bytes kind)
+
+  module _ {o₁ o₂ j : ℕ} (b₀ r : List ℕ) where
+    pub set-one : {a : parts.Part} → Noad bytes kind → o₁ ≡ ownCounts (F .parameter) s kind .before →
+        o₂ ≡ ownCounts (F .parameter) s kind .behind → j ≡ roomFor o₁ (length b₀) →
+        (let lent = take (length b₀ - j) (drop j b₀) in
+        HeadDone F (firstStyle kind s) (enlarges kind s) bytes (openingBytes kind) lent (field.Whole a) r × (length r ≡ length lent)) →
+        One o₁ o₂ b₀ a (putMid j (length b₀ - j) b₀ r)
+    set-one n own₁ own₂ at ((wx, drawn), kept) =
+        record {
+          noad = n;
+          own₁ = own₁;
+          own₂ = own₂;
+          wx = wx;
+          so = laid-gap (laid-field (laid-start b₀ o₁) (partX .nodes) at (λ h. wx .is h .run-is .count-is) drawn kept) o₂;
+        }
+
+  module _ {o₁ o₂ : ℕ} {b₀ v : List ℕ} {a : parts.Part} (q : One o₁ o₂ b₀ a v) where
+    pub set-two : {j : ℕ} {b : parts.Part} (r : List ℕ) → j ≡ roomFor (o₁ + a .run .count + o₂) (length v) →
+        (let lent = take (length v - j) (drop j v) in
+        HeadDone F (secondStyle kind s) false bytes (second bytes kind) lent (field.Whole b) r × (length r ≡ length lent)) →
+        Two o₁ o₂ b₀ a b (putMid j (length v - j) v r)
+    set-two r at ((wy, drawn), kept) =
+        record {
+          noad = q .noad;
+          own₁ = q .own₁;
+          own₂ = q .own₂;
+          wx = q .wx;
+          wy = wy;
+          so = laid-field (q .so) (partY .nodes) at (λ h. wy .is h .run-is .count-is) drawn kept;
+        }
+
+  module _ {o₁ o₂ : ℕ} {b₀ v : List ℕ} {a b : parts.Part} (q : Two o₁ o₂ b₀ a b v) where
+    three : {c : parts.Part} {v′ : List ℕ} → WholeZ c →
+        Laid b₀ (o₁ + a .run .count + o₂ + b .run .count + c .run .count) (fitsX && fitsY && fitsZ)
+        ((((gap₁ a o₁ o₂ b₀ ++ bytesOf (partX .nodes)) ++ gap₂ a o₁ o₂ b₀) ++ bytesOf (partY .nodes)) ++ bytesOf (partZ .nodes)) v′ →
+        Three o₁ o₂ b₀ a b c v′
+    three wz so =
+        record { noad = q .noad; own₁ = q .own₁; own₂ = q .own₂; wx = q .wx; wy = q .wy; wz = wz; so = so }
+
+    pub set-three : {j : ℕ} (z : FieldSet) (r : List ℕ) → hasThird kind ≡ true →
+        j ≡ roomFor (o₁ + a .run .count + o₂ + b .run .count) (length v) →
+        (let lent = take (length v - j) (drop j v) in
+        HeadDone F (thirdStyle s) false bytes (third bytes kind) lent z r × (length r ≡ length lent)) →
+        ThirdDone o₁ o₂ b₀ a b z (putMid j (length v - j) v r)
+    set-three {j} z r has at (d, kept) =
+        let lent = take (length v - j) (drop j v) in
+        let here : FieldDone F (thirdStyle s) false fieldZ (third bytes kind) (end bytes kind) lent z r =
+        subst (λ (t : Bool). FieldDone F (thirdStyle s) false (thirdIn bytes t (third bytes kind)) (third bytes kind) (thirdEnd bytes t (third bytes kind)) lent z r)
+        (sym has) d in
+        go z here
+      where
+        go : (z : FieldSet) → FieldDone F (thirdStyle s) false fieldZ (third bytes kind) (end bytes kind) (take (length v - j) (drop j v)) z r →
+            ThirdDone o₁ o₂ b₀ a b z (putMid j (length v - j) v r)
+        go (field.Whole c) (wz, drawn) =
+            three wz (laid-field (q .so) (partZ .nodes) at (λ h. wz .is h .run-is .count-is) drawn kept)
+        go (field.Missing place) d = (same-len-mid j (length v - j) v r kept ∙ q .so .same, d .0, d .1)
+
+    pub none-third : (c : parts.Part) → hasThird kind ≡ false → EmptyPart (b .end) c → Three o₁ o₂ b₀ a b c v
+    unfolding setField bytesOf
+    none-third c has e =
+        let k = third bytes kind in
+        let ends : EmptyPart k c = subst (λ (n : ℕ). EmptyPart n c) (q .wy .end-is) e in
+        let d : FieldDone F (thirdStyle s) false (thirdIn bytes (hasThird kind) k) k (thirdEnd bytes (hasThird kind) k) v (field.Whole c) v =
+        subst (λ (t : Bool). FieldDone F (thirdStyle s) false (thirdIn bytes t k) k (thirdEnd bytes t k) v (field.Whole c) v) (sym has)
+        (field-empty F (thirdStyle s) false k k v c (omega arith) ends) in
+        let blank : partZ .nodes ≡ [] = ap (λ (t : Bool). setField F (thirdStyle s) false (thirdIn bytes t k) .nodes) has in
+        let n = o₁ + a .run .count + o₂ + b .run .count + c .run .count in
+        let w = ((gap₁ a o₁ o₂ b₀ ++ bytesOf (partX .nodes)) ++ gap₂ a o₁ o₂ b₀) ++ bytesOf (partY .nodes) in
+        three (d .0)
+        (subst (λ (ns : List Node). Laid b₀ n (fitsX && fitsY && fitsZ) (w ++ bytesOf ns) v) (sym blank)
+        (laid-none (q .so) fitsZ (e .run-is .count-is)))
+
+  -- the item is finished: the line l became r, and the buffer v′
+  pub record NoadSet (beyond right : Neighbour) (l r : lines.Line) (o₁ o₂ : ℕ) (b₀ : List ℕ) (a b c : parts.Part) (v v′ : List ℕ) : Type 0 where
+    pub fields : Three o₁ o₂ b₀ a b c v
+    pub alike : ChangesAlike kind right beyond
+    pub done : Finished (F .parameter) s kind right l a b c r v v′
+
+  module _ {beyond right : Neighbour} {l r : lines.Line} {a b c : parts.Part} {o₁ o₂ : ℕ} {b₀ v v′ : List ℕ}
+      (q : NoadSet beyond right l r o₁ o₂ b₀ a b c v v′) where
+    abbrev P : Parameters
+    P = F .parameter
+
+    abbrev left : Neighbour
+    left = neighbourAs (l .left)
+
+    abbrev class : Class
+    class = changedClass left (classOf kind) beyond
+
+    -- what the definition makes of it
+    abbrev at : ℤ
+    at = l .size .width .0 +ℤ spaceBefore P s left class
+
+    abbrev A : Arranged
+    A = arrange P s kind (partX .shape) (partY .shape) (partZ .shape)
+
+    abbrev nodes : List Node
+    nodes = moved at (pos 0) (itemNodes A partX partY partZ)
+
+    abbrev total : ℕ
+    total = o₁ + a .run .count + o₂ + b .run .count + c .run .count
+
+    class-is : q .done .class ≡ class
+    class-is = q .done .class-is ∙ q .alike left
+
+    at-is : q .done .x ≡ at
+    at-is = q .done .x-is ∙ ap (λ (k : Class). l .size .width .0 +ℤ spaceBefore P s left k) class-is
+
+    abbrev Fits : Type 0
+    Fits = fitsX && fitsY && fitsZ ≡ true
+
+    x-fits : Fits → fitsX ≡ true
+    x-fits h = and-left fitsX fitsY (and-left (fitsX && fitsY) fitsZ h)
+
+    y-fits : Fits → fitsY ≡ true
+    y-fits h = and-right fitsX fitsY (and-left (fitsX && fitsY) fitsZ h)
+
+    z-fits : Fits → fitsZ ≡ true
+    z-fits h = and-right (fitsX && fitsY) fitsZ h
+
+    arranged-is : Fits → q .done .arranged ≡ A
+    arranged-is h =
+        q .done .arranged-is
+        ∙ rw (q .fields .wx .is (x-fits h) .shape-is, q .fields .wy .is (y-fits h) .shape-is, q .fields .wz .is (z-fits h) .shape-is)
+
+    -- how many own nodes there are, whatever the fields hold
+    own-before-is : length (q .done .arranged .own .before) ≡ o₁
+    own-before-is = ap (λ (B : Arranged). length (B .own .before)) (q .done .arranged-is) ∙ own-before P s kind _ _ _ ∙ sym (q .fields .own₁)
+
+    own-behind-is : length (q .done .arranged .own .behind) ≡ o₂
+    own-behind-is = ap (λ (B : Arranged). length (B .own .behind)) (q .done .arranged-is) ∙ own-behind P s kind _ _ _ ∙ sym (q .fields .own₂)
+
+    few : itemCount (q .done .x) (q .done .arranged) (a .run .count) (b .run .count) (c .run .count) ≤ end bytes kind
+    few =
+        let x = q .fields .wx .small .count in
+        let y = q .fields .wy .small .count in
+        let z = q .fields .wz .small .count in
+        omega (arith, own-before-is, own-behind-is, few-own P s kind, q .fields .noad .opened, q .fields .wx .end-is, q .fields .wy .end-is, q .fields .wz .end-is)
+
+    count-is : Fits → length nodes ≡ total
+    count-is h =
+        let x = q .fields .wx .is (x-fits h) .run-is .count-is in
+        let y = q .fields .wy .is (y-fits h) .run-is .count-is in
+        let z = q .fields .wz .is (z-fits h) .run-is .count-is in
+        let A-is = arranged-is h in
+        let e₁ = ap (λ (B : Arranged). length (B .own .before)) A-is in
+        let e₂ = ap (λ (B : Arranged). length (B .own .behind)) A-is in
+        omega (arith, item-count at A partX partY partZ, own-before-is, own-behind-is)
+
+    drawn : Fits → Drawn nodes b₀ v′
+    drawn h room =
+        let x = q .fields .wx .is (x-fits h) .run-is .count-is in
+        let y = q .fields .wy .is (y-fits h) .run-is .count-is in
+        let z = q .fields .wz .is (z-fits h) .run-is .count-is in
+        let count = count-is h in
+        let A-is = arranged-is h in
+        let e₁ = ap (λ (B : Arranged). length (B .own .before)) A-is in
+        let e₂ = ap (λ (B : Arranged). length (B .own .behind)) A-is in
+        let rest = drop (bytesInNode * total) b₀ in
+        let g₁ = gap₁ a o₁ o₂ b₀ in
+        let g₂ = gap₂ a o₁ o₂ b₀ in
+        let long₁ : length g₁ ≡ bytesInNode * length (A .own .before) =
+        length-take-le (bytesInNode * o₁) b₀ (omega arith) ∙ omega (arith, own-before-is) in
+        let behind = drop (bytesInNode * (o₁ + a .run .count)) b₀ in
+        let long₂ : length g₂ ≡ bytesInNode * length (A .own .behind) =
+        length-take-le (bytesInNode * o₂) behind (omega (arith, length-drop (bytesInNode * (o₁ + a .run .count)) b₀))
+        ∙ omega (arith, own-behind-is) in
+        let stands : v ≡ g₁ ++ (bytesOf (partX .nodes) ++ (g₂ ++ (bytesOf (partY .nodes) ++ (bytesOf (partZ .nodes) ++ rest)))) =
+        q .fields .so .laid h (omega arith) .1 ∙ simp append-assoc in
+        q .done .buffer-is
+        ∙ ap (λ (z : ℤ). itemBuffer z (q .done .arranged) (a .run .count) (b .run .count) (c .run .count) v) at-is
+        ∙ ap (λ (B : Arranged). itemBuffer at B (a .run .count) (b .run .count) (c .run .count) v) A-is
+        ∙ ap (λ (k : ℕ). itemBuffer at A k (b .run .count) (c .run .count) v) x
+        ∙ ap (λ (k : ℕ). itemBuffer at A (length (partX .nodes)) k (c .run .count) v) y
+        ∙ ap (λ (k : ℕ). itemBuffer at A (length (partX .nodes)) (length (partY .nodes)) k v) z
+        ∙ ap (itemBuffer at A (length (partX .nodes)) (length (partY .nodes)) (length (partZ .nodes))) stands
+        ∙ item-bytes at A partX partY partZ g₁ g₂ rest long₁ long₂
+        ∙ ap (λ (k : ℕ). bytesOf nodes ++ drop (bytesInNode * k) b₀) (sym count)
+
+    pub noad-added : Added (itemFits F s (itemOf bytes (Fields kind))) (setItem F s beyond (bareLine l) (itemOf bytes (Fields kind)))
+        (end bytes kind) l b₀ r v′
+    unfolding itemFits setItem placed itemBox
+    noad-added =
+        record {
+          large-is =
+              q .done .large-is
+              ∙ ap (λ (t : Bool). l .run .large || t)
+              (rw (q .fields .wx .large-is, q .fields .wy .large-is, q .fields .wz .large-is, or-nots fitsX fitsY) (or-nots (fitsX && fitsY) fitsZ));
+          more = omega (arith, q .done .count-is);
+          grows = λ k w. q .done .grows k (end bytes kind) w (q .fields .noad .long) few;
+          left-is = λ h. ap neighbourAs (q .done .left-is) ∙ ap some class-is;
+          size-is = λ h.
+              q .done .size-is
+              ∙ ap₂ (λ (z : ℤ) (B : Arranged). besideSize z (sizeAs (l .size)) (B .size)) at-is (arranged-is h);
+          count-is = λ h. omega (arith, q .done .count-is, own-before-is, own-behind-is, count-is h);
+          hull-is = λ h.
+              q .done .hull-is
+              ∙ rw (
+                at-is,
+                arranged-is h,
+                q .fields .wx .is (x-fits h) .run-is .hull-is,
+                q .fields .wy .is (y-fits h) .run-is .hull-is,
+                q .fields .wz .is (z-fits h) .run-is .hull-is,
+                item-hull at A partX partY partZ,
+              );
+          drawn = drawn;
+        }
+
+  -- what is asked to finish an item, and what it comes to
+  pub finish-given : {l : lines.Line} {o₁ o₂ : ℕ} {b₀ v : List ℕ} {a b c : parts.Part} → Three o₁ o₂ b₀ a b c v → LineWithin longest l →
+      length bytes ≤ longest → FinishGiven l a b c
+  finish-given {b = b} {c = c} q line short =
+      let ends = q .wz .end-is in
+      let inside = q .noad .end-in in
+      record {
+        line = line;
+        short = omega arith;
+        from = openingBytes kind;
+        first = q .wx .small;
+        second = subst (λ (n : ℕ). PartWithin n b) (sym (q .wx .end-is)) (q .wy .small);
+        third = subst (λ (n : ℕ). PartWithin n c) (sym (q .wy .end-is)) (q .wz .small);
+      }
+
+  module _ (beyond : Neighbour) (l : lines.Line) (b b′ : List ℕ) (opens : openingOf bytes ≡ Fields kind) where
+    -- the item by its opening
+    item-is : (r : Step) →
+        StepDone F s (nextClass beyond (treeOf (drop (end bytes kind) bytes))) (itemOf bytes (Fields kind)) (end bytes kind) l b r b′ →
+        ItemDone F s beyond bytes l b r b′
+    item-is r d =
+        subst (λ (o : Opening).
+        StepDone F s (nextClass beyond (treeOf (drop (itemSize bytes o) bytes))) (itemOf bytes o) (itemSize bytes o) l b r b′) (sym opens) d
+
+    pub noad-lacks : {place : ℕ} → missingItem F s (itemOf bytes (Fields kind)) ≡ some place → place ≤ end bytes kind →
+        ItemDone F s beyond bytes l b (step.Missing place) b′
+    noad-lacks {place} lacks low = item-is (step.Missing place) (lacks, low)
+
+    pub noad-done : {right : Neighbour} {r : lines.Line} {o₁ o₂ : ℕ} {x y z : parts.Part} {v : List ℕ} →
+        NoadSet (nextClass beyond (treeOf (drop (end bytes kind) bytes))) right l r o₁ o₂ b x y z v b′ →
+        ItemDone F s beyond bytes l b (step.Next (z .end) r) b′
+    noad-done {r = r} {z = z} q =
+        let f = q .fields in
+        let i = itemOf bytes (Fields kind) in
+        let M = setItem F s (nextClass beyond (treeOf (drop (end bytes kind) bytes))) (bareLine l) i in
+        let ends : z .end ≡ end bytes kind = f .wz .end-is in
+        item-is (step.Next (z .end) r) (
+          third-lacks (f .noad) (f .wx .present) (f .wy .present) (f .wz .present),
+          ends,
+          subst (λ (n : ℕ). Added (itemFits F s i) M n l b r b′) (sym ends) (noad-added q),
+        )

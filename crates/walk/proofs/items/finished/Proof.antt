@@ -1,0 +1,107 @@
+-- `finished` meets its contract: the item is arranged, put at its place, and stands behind the line.
+-- Assumes nothing.
+use mathlib.Core.Path.{_≡_, refl, ap, _∙_}
+use mathlib.Core.Bool.{Bool, _||_}
+use Prim.Native.Nat.{ℕ, _+_, _^_, _≤_}
+use native.Mathlib.Omega.{arith}
+use lib.IntN.{ℤ, _+ℤ_}
+use Rattle.scaled.specs.Signed.{Within}
+use Rattle.scaled.specs.Linear.{#, _⊕_, within-by}
+use Rattle.rules.specs.Spacing.{spaceBefore}
+use Rattle.rules.specs.Values.{parametersIn, neighbourAs, arrangedAs}
+use Rattle.rules.specs.Bounds.{words}
+use Rattle.nodes.specs.Hull.{Hull, joined}
+use Rattle.nodes.specs.Runs.{hullOf}
+use Rattle.walk.specs.Bounds.{longest, stride}
+use Rattle.walk.specs.Walked.{itemCount}
+use Rattle.walk.proofs.ItemLaws.{few-rules, item-grows}
+use borrow.Author.Needs.{needs}
+use Rattle.walk.proofs.items.finished.Statement.{statement}
+use Rattle.walk.proofs.items.finished.Tie as tie
+
+-- x, which is the line's width and a space
+x-near : {x width space : ℤ} → Within (stride longest) width → Within (words 1) space → x ≡ width +ℤ space → Within (2 ^ 54) x
+x-near {width} {space} far near at = rw at (within-by (# width ⊕ # space) (2 ^ 54) (omega arith))
+
+setting-of-requires : tie.Need-setting-of-requires
+setting-of-requires c κs = search needs
+
+put-item-requires : tie.Need-put-item-requires
+put-item-requires c κs =
+    let start = c .before .before .before .before .before in
+    let g = start .pre in
+    let one = g .first .count in
+    let two = g .second .count in
+    let three = g .third .count in
+    let short = g .short in
+    record {
+      few = omega arith;
+      first = g .first .hull;
+      second = g .second .hull;
+      third = g .third .hull;
+      x-small = x-near (g .line .width) (c .before .before .before .setting-of .ensures .space) (c .before .before .before .setting-of .ensures .x-is);
+      bounded = c .before .before .before .setting-of .ensures .bounded;
+    }
+
+extended-requires : tie.Need-extended-requires
+extended-requires c κs =
+    let start = c .before .before .before .before .before .before .before .before in
+    let g = start .pre in
+    let s = c .before .before .before .before .before .before .setting-of in
+    let one = g .first .count in
+    let two = g .second .count in
+    let three = g .third .count in
+    let short = g .short in
+    let before = g .line .count in
+    record {
+      sizes =
+          record {
+            x-small = x-near (g .line .width) (s .ensures .space) (s .ensures .x-is);
+            width = s .ensures .bounded .width;
+          };
+      few =
+          omega (
+            arith,
+            c .before .before .put-item .ensures .count-is,
+            few-rules (s .result .arranged .own .before),
+            few-rules (s .result .arranged .own .behind),
+          );
+    }
+
+same-length : tie.Need-same-length
+same-length c = search needs
+
+returns : tie.Need-returns
+returns c =
+    let start = c .before .before .before .before .before .before .before .before .before in
+    let a = start .args in
+    let g = start .pre in
+    let s = c .before .before .before .before .before .before .before .setting-of .ensures in
+    let put = c .before .before .before .put-item .ensures in
+    let e = c .extended .ensures in
+    let setting = c .before .before .before .before .before .before .before .setting-of .result in
+    let space = spaceBefore (parametersIn (a .p .now)) (a .style) (neighbourAs (a .line .left)) (setting .class) in
+    let counts = e .run-is .count-is ∙ ap (λ (n : ℕ). a .line .run .count + n) (put .count-is) in
+    let hulls = e .run-is .hull-is ∙ ap (joined (hullOf (a .line .run))) (put .hull-is) in
+    record {
+      class = setting .class;
+      arranged = arrangedAs (setting .arranged);
+      x = setting .x .0;
+      class-is = s .class-is;
+      arranged-is = s .arranged-is;
+      x-is = s .x-is;
+      left-is = e .left-is;
+      size-is = e .size-is;
+      count-is = counts;
+      large-is = e .run-is .large-is ∙ ap (λ (t : Bool). a .line .run .large || t) (put .large-is);
+      hull-is = hulls;
+      buffer-is = put .buffer-is;
+      grows =
+          item-grows (a .line) (c .extended .result) (setting .arranged) (setting .x .0) space _ (hullOf (a .a .run)) (hullOf (a .b .run))
+          (hullOf (a .c .run)) (s .x-is) (s .space) (s .bounded) (g .first .hull) (g .second .hull) (g .third .hull) (e .size-is) counts hulls;
+    }
+
+pub finished-spec : {M : Type 1} → statement M
+finished-spec =
+    tie.close
+    (tie.spec setting-of-requires put-item-requires extended-requires same-length returns)

@@ -1,0 +1,132 @@
+-- `put_item` meets its contract: its five steps are those of `itemBuffer`, and each stands behind as many nodes as were there before.
+-- Assumes nothing.
+use mathlib.Core.Path.{_≡_, ap, ap₂, _∙_}
+use Prim.Native.Nat.{ℕ, _+_, _≤_}
+use mathlib.Core.List.{List}
+use mathlib.Core.Bool.{Bool, _||_}
+use native.Mathlib.Omega.{arith}
+use lib.IntN.{pos, _+ℤ_}
+use lib.ListN.{length}
+use Rattle.rules.specs.Values.{rulingAs, arrangedAs}
+use Rattle.nodes.specs.Nodes.{moved}
+use Rattle.nodes.specs.Buffer.{movedFront, behindNodes}
+use Rattle.nodes.specs.Hull.{Hull, joined, movedHull, hull}
+use Rattle.nodes.specs.Runs.{hullOf}
+use Rattle.walk.specs.Setting.{ruleNodes}
+use Rattle.walk.specs.Walked.{rulesPut}
+use Rattle.walk.proofs.ItemLaws.{few-rules}
+use borrow.Author.Needs.{needs}
+use Rattle.walk.proofs.items.put_item.Statement.{statement}
+use Rattle.walk.proofs.items.put_item.Tie as tie
+
+empty-requires : tie.Need-empty-requires
+empty-requires c κs = search needs
+
+put-own-requires : tie.Need-put-own-requires
+put-own-requires c κs = search needs
+
+move-field-requires : tie.Need-move-field-requires
+move-field-requires c κs =
+    let start = c .before .before .before .before .before .before .before .before in
+    let g = start .pre in
+    let few = few-rules (start .args .arranged .own .before) in
+    let n₀ = c .before .before .before .before .before .empty .ensures .count-is in
+    let n₁ = c .before .before .before .put-own .ensures .count-is in
+    record { few = omega arith; hull = g .first; x-small = g .x-small; place = g .bounded .first }
+
+put-own-requires-2 : tie.Need-put-own-requires-2
+put-own-requires-2 c κs =
+    let start = c .before .before .before .before .before .before .before .before .before .before .before .before in
+    let g = start .pre in
+    let few = few-rules (start .args .arranged .own .before) in
+    let n₀ = c .before .before .before .before .before .before .before .before .before .empty .ensures .count-is in
+    let n₁ = c .before .before .before .before .before .before .before .put-own .ensures .count-is in
+    let n₂ = c .before .before .before .move-field .ensures .count-is in
+    record { few = omega arith; rules = g .bounded .own .behind; x-small = g .x-small }
+
+move-field-requires-2 : tie.Need-move-field-requires-2
+move-field-requires-2 c κs =
+    let start = c .before .before .before .before .before .before .before .before .before .before .before .before .before .before .before .before in
+    let g = start .pre in
+    let few = few-rules (start .args .arranged .own .before) in
+    let few-2 = few-rules (start .args .arranged .own .behind) in
+    let n₀ = c .before .before .before .before .before .before .before .before .before .before .before .before .before .empty .ensures .count-is in
+    let n₁ = c .before .before .before .before .before .before .before .before .before .before .before .put-own .ensures .count-is in
+    let n₂ = c .before .before .before .before .before .before .before .move-field .ensures .count-is in
+    let n₃ = c .before .before .before .put-own2 .ensures .count-is in
+    record { few = omega arith; hull = g .second; x-small = g .x-small; place = g .bounded .second }
+
+move-field-requires-3 : tie.Need-move-field-requires-3
+move-field-requires-3 c κs =
+    let start = c .before .before .before .before .before .before .before .before .before .before .before .before .before .before .before .before .before .before .before .before in
+    let g = start .pre in
+    let few = few-rules (start .args .arranged .own .before) in
+    let few-2 = few-rules (start .args .arranged .own .behind) in
+    let n₀ = c .before .before .before .before .before .before .before .before .before .before .before .before .before .before .before .before .before .empty .ensures .count-is in
+    let n₁ = c .before .before .before .before .before .before .before .before .before .before .before .before .before .before .before .put-own .ensures .count-is in
+    let n₂ = c .before .before .before .before .before .before .before .before .before .before .before .move-field .ensures .count-is in
+    let n₃ = c .before .before .before .before .before .before .before .put-own2 .ensures .count-is in
+    let n₄ = c .before .before .before .move-field2 .ensures .count-is in
+    record { few = omega arith; hull = g .third; x-small = g .x-small; place = g .bounded .third }
+
+same-length : tie.Need-same-length
+same-length c =
+    c .before .before .move-field3 .kept .1 .1 .1 .1 .0
+    ∙ c .before .before .before .before .before .before .move-field2 .kept .1 .1 .1 .1 .0
+    ∙ c .before .before .before .before .before .before .before .before .before .before .put-own2 .kept .1 .1 .1 .0
+    ∙ c .before .before .before .before .before .before .before .before .before .before .before .before .before .before .move-field .kept .1 .1 .1 .1 .0
+    ∙ c .before .before .before .before .before .before .before .before .before .before .before .before .before .before .before .before .before .before .put-own .kept .1 .1 .1 .0
+
+returns : tie.Need-returns
+returns c =
+    let start = c .before .before .before .before .before .before .before .before .before .before .before .before .before .before .before .before .before .before .before .before .before .before .before in
+    let x = start .args .x .0 in
+    let A = arrangedAs (start .args .arranged) in
+    let i = start .args .a .count in
+    let j = start .args .b .count in
+    let k = start .args .c .count in
+    let none-there = c .before .before .before .before .before .before .before .before .before .before .before .before .before .before .before .before .before .before .before .before .empty .ensures in
+    let ahead = c .before .before .before .before .before .before .before .before .before .before .before .before .before .before .before .before .before .before .put-own .ensures in
+    let first = c .before .before .before .before .before .before .before .before .before .before .before .before .before .before .move-field .ensures in
+    let owned = c .before .before .before .before .before .before .before .before .before .before .put-own2 .ensures in
+    let second = c .before .before .before .before .before .before .move-field2 .ensures in
+    let third = c .before .before .move-field3 .ensures in
+    let zero = none-there .count-is in
+    let n₀ = ahead .count-is in
+    let n₁ = first .count-is in
+    let n₂ = owned .count-is in
+    let n₃ = second .count-is in
+    let n₄ = third .count-is in
+    let at₁ : c .before .before .before .before .before .before .before .before .before .before .before .before .before .before .before .before .before .before .put-own .result .count ≡ length (A .own .before) = omega arith in
+    let at₂ : c .before .before .before .before .before .before .before .before .before .before .before .before .before .before .move-field .result .count ≡ length (A .own .before) + i = omega arith in
+    let at₃ : c .before .before .before .before .before .before .before .before .before .before .put-own2 .result .count ≡ length (A .own .before) + i + length (A .own .behind) = omega arith in
+    let at₄ : c .before .before .before .before .before .before .move-field2 .result .count ≡ length (A .own .before) + i + length (A .own .behind) + j = omega arith in
+    let b₀ = ahead .buffer-is ∙ ap (λ (n : ℕ). rulesPut x n (A .own .before) (start .args .buf .now)) zero in
+    let b₁ = first .buffer-is ∙ ap₂ (λ (n : ℕ) (b : List ℕ). behindNodes n (movedFront (x +ℤ A .first .across) (A .first .up) i) b) at₁ b₀ in
+    let b₂ = owned .buffer-is ∙ ap₂ (λ (n : ℕ) (b : List ℕ). rulesPut x n (A .own .behind) b) at₂ b₁ in
+    let b₃ = second .buffer-is ∙ ap₂ (λ (n : ℕ) (b : List ℕ). behindNodes n (movedFront (x +ℤ A .second .across) (A .second .up) j) b) at₃ b₂ in
+    let h₀ = ahead .hull-is ∙ ap (λ (h : Hull). joined h (hull (moved x (pos 0) (ruleNodes (A .own .before))))) (none-there .hull-is) in
+    let h₁ = first .hull-is ∙ ap (λ (h : Hull). joined h (movedHull (x +ℤ A .first .across) (A .first .up) (hullOf (start .args .a)))) h₀ in
+    let h₂ = owned .hull-is ∙ ap (λ (h : Hull). joined h (hull (moved x (pos 0) (ruleNodes (A .own .behind))))) h₁ in
+    let h₃ = second .hull-is ∙ ap (λ (h : Hull). joined h (movedHull (x +ℤ A .second .across) (A .second .up) (hullOf (start .args .b)))) h₂ in
+    let l₁ = first .large-is ∙ ap (λ (t : Bool). t || start .args .a .large) (ahead .large-is ∙ none-there .large-is) in
+    let l₃ = second .large-is ∙ ap (λ (t : Bool). t || start .args .b .large) (owned .large-is ∙ l₁) in
+    record {
+      count-is = omega arith;
+      large-is = third .large-is ∙ ap (λ (t : Bool). t || start .args .c .large) l₃;
+      hull-is = third .hull-is ∙ ap (λ (h : Hull). joined h (movedHull (x +ℤ A .third .across) (A .third .up) (hullOf (start .args .c)))) h₃;
+      buffer-is = third .buffer-is ∙ ap₂ (λ (n : ℕ) (b : List ℕ). behindNodes n (movedFront (x +ℤ A .third .across) (A .third .up) k) b) at₄ b₃;
+    }
+
+pub put-item-spec : {M : Type 1} → statement M
+put-item-spec =
+    tie.close
+    (tie.spec
+    empty-requires
+    put-own-requires
+    move-field-requires
+    put-own-requires-2
+    move-field-requires-2
+    move-field-requires-3
+    same-length
+    returns)

@@ -1,0 +1,30 @@
+-- `set_list` meets its contract: a list is its items behind an empty line.
+-- Assumes nothing.
+use lib.ListN.{length}
+use Rattle.font.specs.Font.{fontOf}
+use Rattle.formula.specs.Places.{treeOf}
+use Rattle.walk.specs.WalkedLaws.{start-within, list-of-items}
+use borrow.Author.Needs.{needs}
+use Rattle.walk.proofs.lists.set_list.Statement.{statement}
+use Rattle.walk.proofs.lists.set_list.Tie as tie
+
+start-requires : tie.Need-start-requires
+start-requires c κs = search needs
+
+set-items-requires : tie.Need-set-items-requires
+set-items-requires c κs =
+    let start = c .before .before .before .before .before in
+    record { list = start .pre; small = start-within _ (c .before .start .ensures) }
+
+same-length : tie.Need-same-length
+same-length c = search needs
+
+returns : tie.Need-returns
+returns c =
+    let a = c .before .before .before .before .before .before .before .before .args in
+    let s = a .s .now in
+    list-of-items (fontOf (a .table .now)) (a .style) (treeOf s) (length s) (a .buf .now) (c .before .before .set-items .last .1 .1 .1 .1 .1 .1 .0) (c .before .before .set-items .result)
+    (c .before .before .before .before .start .ensures) (c .before .before .set-items .ensures)
+
+pub set-list-spec : {M : Type 1} → statement M
+set-list-spec = tie.close (tie.spec start-requires set-items-requires same-length returns)

@@ -1,0 +1,38 @@
+-- What the values of the walk's code stand for in the definition.
+--     symbolAs, soughtAs     a symbol that was looked for
+--     PartIs                 a field that has been set alone
+--     bareLine               a line, but for its nodes: the code knows how many there are and how far they reach
+--     lineFits               whether a line keeps within the greatest length, and so do all lists in it
+-- Assumes nothing.
+use mathlib.Core.Path.{_≡_}
+use mathlib.Core.Bool.{Bool, not, _&&_}
+use mathlib.Core.List.{[]}
+use mathlib.Core.Option.{Option, none, some}
+use Rattle.font.specs.Answers.{metricsAs}
+use Rattle.rules.specs.Values.{neighbourAs, sizeAs, shapeAs}
+use Rattle.nodes.specs.Hull.{hullFits}
+use Rattle.nodes.specs.Runs.{hullOf, RunIs}
+use Rattle.walk.specs.declared.symbols.Symbol as symbols
+use Rattle.walk.specs.declared.symbols.Sought.{Sought}
+use Rattle.walk.specs.declared.symbols.Sought.the-variants.{Present, Absent}
+use Rattle.walk.specs.declared.parts.Part as parts
+use Rattle.walk.specs.declared.lines.Line as lines
+use Rattle.walk.specs.Setting.{Symbol, Part, Line}
+use Rattle.walk.specs.Fitting.{sizeFits}
+
+abbrev pub symbolAs : symbols.Symbol → Symbol
+symbolAs s = record { code = s .code; metrics = metricsAs (s .metrics) }
+
+abbrev pub soughtAs : Sought → Option Symbol
+soughtAs (Present s) = some (symbolAs s)
+soughtAs Absent = none
+
+pub record PartIs (x : Part) (c : parts.Part) : Type 0 where
+  pub shape-is : shapeAs (c .shape) ≡ x .shape
+  pub run-is : RunIs (x .nodes) (c .run)
+
+abbrev pub bareLine : lines.Line → Line
+bareLine c = record { left = neighbourAs (c .left); box = record { size = sizeAs (c .size); nodes = [] } }
+
+abbrev pub lineFits : lines.Line → Bool
+lineFits c = (not (c .run .large) && hullFits (hullOf (c .run))) && sizeFits (sizeAs (c .size))
