@@ -15,6 +15,7 @@ use lib.ListN.{length, drop}
 use borrow.Author.Tests.{le-leb}
 use Rattle.font.specs.Table.{goodTable}
 use Rattle.font.specs.Font.{Font, fontOf}
+use Rattle.formula.specs.declared.Fault.the-variants.{Unreadable, TooDeep}
 use Rattle.formula.specs.Tree.{Items}
 use Rattle.formula.specs.Reading.{Read, good, fault, readFormula}
 use Rattle.rules.specs.declared.Style.{Style}
@@ -24,7 +25,6 @@ use Rattle.walk.specs.Setting.{Box, setList}
 use Rattle.walk.specs.Missing.{missingItems}
 use Rattle.walk.specs.Fitting.{listFits}
 use Rattle.layout.specs.Answers.{Result, boxed, acceptedNumber, ifFits, ifPresent, ifRead, ifGood, ifStyle, resultOf, accepted, measuredBy, measured, hasRoom, setBy, setting, bufferBy, bufferAfter}
-use Rattle.layout.proofs.FaultNumbers.{Faulted, readFormula-faults}
 
 pub record Accepted (style : ℕ) (table formula : List ℕ) (s : Style) (tree : Items) : Type 0 where
   pub style-is : styleOf style ≡ some s
@@ -34,7 +34,7 @@ pub record Accepted (style : ℕ) (table formula : List ℕ) (s : Style) (tree :
 
 pub record Passed (table : List ℕ) (s : Style) (tree : Items) : Type 0 where
   pub table-good : goodTable table ≡ true
-  pub none-missing : missingItems (fontOf table) s 0 tree ≡ none
+  pub none-missing : missingItems (fontOf table) s tree ≡ none
   pub fits : listFits (fontOf table) s tree ≡ true
 
 -- ---- each test that is not passed makes a number other than 0
@@ -46,11 +46,12 @@ module _ (room : ℕ) where
   table-passed F s r true e = refl
   table-passed F s r false e = absurd (omega arith)
 
-  reading-passed : (F : Font) (s : Style) (r : Read) → Faulted r →
+  reading-passed : (F : Font) (s : Style) (r : Read) →
       setBy room (ifRead F s r) .number ≡ acceptedNumber → (tree : Items) × (r ≡ good tree)
   unfolding ifRead setBy
-  reading-passed F s (good tree) h e = (tree, refl)
-  reading-passed F s (fault number place) h e = absurd (omega arith)
+  reading-passed F s (good tree) e = (tree, refl)
+  reading-passed F s (fault Unreadable place) e = absurd (omega arith)
+  reading-passed F s (fault TooDeep place) e = absurd (omega arith)
 
   symbols-passed : (F : Font) (s : Style) (l : Items) (m : Option ℕ) →
       setBy room (ifPresent F s l m) .number ≡ acceptedNumber → m ≡ none
@@ -80,7 +81,7 @@ accepted-reads style table formula room e = go (styleOf style) refl e
     go (some s) is q =
         let t = table-passed room F s (readFormula formula) (goodTable table) q in
         let read-on : setBy room (ifRead F s (readFormula formula)) .number ≡ acceptedNumber = rw t at q in
-        let r = reading-passed room F s (readFormula formula) (readFormula-faults formula) read-on in
+        let r = reading-passed room F s (readFormula formula) read-on in
         (s, r .0, record { style-is = is; reads = r .1; room = room; is-accepted = e })
 
 -- ---- from the answer to the tree, and back
@@ -113,10 +114,10 @@ passed {style} {table} {formula} {s} {tree} h =
     ap (λ (r : Result). setBy room r .number) (sym is) ∙ h .is-accepted
     in
     let table-good = table-passed room F s (good tree) (goodTable table) tested in
-    let tested-symbols : setBy room (ifPresent F s tree (missingItems F s 0 tree)) .number ≡ acceptedNumber =
+    let tested-symbols : setBy room (ifPresent F s tree (missingItems F s tree)) .number ≡ acceptedNumber =
     rw table-good at tested
     in
-    let none-missing = symbols-passed room F s tree (missingItems F s 0 tree) tested-symbols in
+    let none-missing = symbols-passed room F s tree (missingItems F s tree) tested-symbols in
     let tested-fit : setBy room (ifFits (listFits F s tree) (setList F s tree)) .number ≡ acceptedNumber =
     rw none-missing at tested-symbols
     in

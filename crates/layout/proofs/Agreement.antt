@@ -2,18 +2,64 @@
 -- is shorter than 18 bytes for each node counted, and answers as measuring does otherwise. For every style, table, formula
 -- and number of bytes in the buffer.
 -- Assumes nothing.
-use mathlib.Core.Path.{_≡_, refl, sym, subst, ap}
+use mathlib.Core.Path.{_≡_, refl}
 use mathlib.Core.Bool.{Bool, true, false}
 use mathlib.Core.List.{List}
-use Prim.Native.Nat.{ℕ, _*_, _≤_, _<_}
+use mathlib.Core.Option.{Option, none, some}
+use Prim.Native.Nat.{ℕ, _*_, _<_}
 use native.Mathlib.Omega.{arith}
-use lib.Dec.{leb}
 use lib.ListN.{length}
-use borrow.Author.Tests.{leb-true, leb-false, le-leb, lt-leb}
+use borrow.Author.Tests.{leb-true, leb-false}
+use Rattle.font.specs.Table.{goodTable}
+use Rattle.font.specs.Font.{Font, fontOf}
+use Rattle.formula.specs.declared.Fault.the-variants.{Unreadable, TooDeep}
+use Rattle.formula.specs.Tree.{Items}
+use Rattle.formula.specs.Reading.{Read, good, fault, readFormula}
+use Rattle.rules.specs.declared.Style.{Style}
+use Rattle.rules.specs.Styles.{styleOf}
 use Rattle.nodes.specs.Nodes.{bytesInNode}
-use Rattle.walk.specs.Setting.{Box}
-use Rattle.layout.specs.Answers.{Result, boxed, refused, resultOf, Answered, accepted, refusal, measuredBy, measured, hasRoom, setBy, setting, acceptedNumber, noRoomNumber}
-use Rattle.layout.proofs.FaultNumbers.{RefusalCommon, result-common}
+use Rattle.walk.specs.Setting.{Box, setList}
+use Rattle.walk.specs.Missing.{missingItems}
+use Rattle.walk.specs.Fitting.{listFits}
+use Rattle.layout.specs.Answers.{Result, boxed, refused, ifFits, ifPresent, ifRead, ifGood, ifStyle, resultOf, Answered, accepted, refusal, measuredBy, measured, hasRoom, setBy, setting, acceptedNumber, noRoomNumber}
+
+-- ---- a refusal before the test of room has neither the number of an acceptance nor that of this test
+
+abbrev RefusedBefore : Result → Type 0
+RefusedBefore (boxed b) = Unit {0}
+RefusedBefore (refused number place) = (acceptedNumber < number) × (number < noRoomNumber)
+
+fits-before : (t : Bool) (b : Box) → RefusedBefore (ifFits t b)
+unfolding ifFits
+fits-before true b = tt
+fits-before false b = omega arith
+
+present-before : (F : Font) (s : Style) (l : Items) (m : Option ℕ) → RefusedBefore (ifPresent F s l m)
+unfolding ifPresent
+present-before F s l none = fits-before (listFits F s l) (setList F s l)
+present-before F s l (some place) = omega arith
+
+read-before : (F : Font) (s : Style) (r : Read) → RefusedBefore (ifRead F s r)
+unfolding ifRead
+read-before F s (good l) = present-before F s l (missingItems F s l)
+read-before F s (fault Unreadable place) = omega arith
+read-before F s (fault TooDeep place) = omega arith
+
+good-before : (t : Bool) (F : Font) (s : Style) (r : Read) → RefusedBefore (ifGood t F s r)
+unfolding ifGood
+good-before true F s r = read-before F s r
+good-before false F s r = omega arith
+
+style-before : (table formula : List ℕ) (s : Option Style) → RefusedBefore (ifStyle table formula s)
+unfolding ifStyle
+style-before table formula none = omega arith
+style-before table formula (some s) = good-before (goodTable table) (fontOf table) s (readFormula formula)
+
+result-before : (style : ℕ) (table formula : List ℕ) → RefusedBefore (resultOf style table formula)
+unfolding resultOf
+result-before style table formula = style-before table formula (styleOf style)
+
+-- ---- measuring and setting
 
 -- measuring accepts, and the nodes it counts have no room
 abbrev NoRoom : Answered → ℕ → Type 0
@@ -41,7 +87,7 @@ by-room b room false e =
       same = λ h. absurd (h refl);
     }
 
-by-result : (r : Result) (room : ℕ) → RefusalCommon r → Agrees (measuredBy r) (setBy room r) room
+by-result : (r : Result) (room : ℕ) → RefusedBefore r → Agrees (measuredBy r) (setBy room r) room
 unfolding measuredBy setBy
 by-result (boxed b) room h = by-room b room (hasRoom room b) refl
 by-result (refused number place) room h =
@@ -56,4 +102,4 @@ measuring-and-setting-agree :
     Agrees (measured style table formula) (setting style table formula room) room
 unfolding measured setting
 measuring-and-setting-agree style table formula room =
-    by-result (resultOf style table formula) room (result-common style table formula)
+    by-result (resultOf style table formula) room (result-before style table formula)

@@ -1,173 +1,113 @@
--- From what the walk finds to the answers of the definition, a law for each way out of the code.
---     fits-is          the code's test of a line is the definition's of its list
---     given-list       what the walk asks
---     whole-done, missing-refused     a formula that reads
---     read-examined    the same of any style that there is
---     style-refused, table-refused, fault-refused     the tests before the walk
+-- From what the code finds to the answers of the definition, a law for each way out of it.
+--     style-refused, table-refused, fault-refused, formula-reads     the tests before the walk
+--     given-list                      what the walk asks
+--     whole-examined, missing-refused     what the walk without room comes to
 -- Assumes nothing.
-use mathlib.Core.Path.{_≡_, refl, sym, ap, ap₂, subst, _∙_}
-use mathlib.Core.Bool.{Bool, true, false, not, _&&_, and-true, and-false}
+use mathlib.Core.Path.{_≡_, refl, sym, ap, _∙_}
+use mathlib.Core.Bool.{Bool, true, false, and-eq-true-iff}
 use mathlib.Core.List.{List}
 use mathlib.Core.Option.{none, some}
 use Prim.Native.Nat.{ℕ}
 use native.Mathlib.Omega.{arith}
 use Rattle.font.specs.Table.{goodTable}
 use Rattle.font.specs.Font.{Font, fontOf}
+use Rattle.font.specs.Answers.{HoldsParameters}
+use Rattle.formula.specs.declared.Fault.{Fault}
 use Rattle.formula.specs.Tree.{Items}
-use Rattle.formula.specs.Reading.{Read, good, fault, readFormula}
+use Rattle.formula.specs.Reading.{Read, fault, readFormula}
 use Rattle.formula.specs.Places.{treeOf}
+use Rattle.formula.specs.PlacesLaws.{FormulaIs}
 use Rattle.rules.specs.declared.Style.{Style}
 use Rattle.rules.specs.Styles.{styleOf}
 use Rattle.rules.specs.Values.{sizeAs}
-use Rattle.nodes.specs.Bounds.{nodesFit}
-use Rattle.nodes.specs.Hull.{hull, hullAs, hullFits}
-use Rattle.nodes.specs.HullLaws.{fits-hull}
+use Rattle.rules.specs.ValueLaws.{taken-out}
 use Rattle.walk.specs.declared.lines.Line as lines
-use Rattle.walk.specs.Setting.{setItems, setList, start}
+use Rattle.walk.specs.Setting.{setList}
 use Rattle.walk.specs.Missing.{missingItems}
-use Rattle.walk.specs.Fitting.{sizeFits, boxFits, itemsFit, listFits}
+use Rattle.walk.specs.Fitting.{boxFits, itemsFit, listFits}
+use Rattle.walk.specs.Values.{lineFits}
 use Rattle.walk.specs.Walked.{ListWhole, ListGiven}
+use Rattle.walk.specs.WalkedLaws.{line-fits}
 use Rattle.layout.specs.declared.Answer.{Answer}
 use Rattle.layout.specs.declared.Answer.the-variants.{NoStyle, BadTable, Missing}
 use Rattle.layout.specs.declared.Finding.{Finding}
 use Rattle.layout.specs.declared.Finding.the-variants.{Boxed, Refused}
-use Rattle.layout.specs.Answers.{ifFits, ifPresent, ifRead, ifGood, ifStyle, resultOf}
-use Rattle.layout.specs.Answering.{answeredAs, FaultIs, Reads, Boxes, Examined, ReadDone, lineFits, Weighed}
-use Rattle.layout.proofs.FaultNumbers.{Faulted, readFormula-faults}
+use Rattle.layout.specs.Answers.{refusal, styleNumber, tableNumber, faultNumber, missingNumber, tooLargeNumber, ifFits, ifPresent, ifRead, ifGood, ifStyle, resultOf}
+use Rattle.layout.specs.Answering.{answeredAs, Refuses, readResult, Reads, Examined, Weighed}
 
--- ---- tests
-
-both-ways : (a b : Bool) → (a && b) ≡ (b && a)
-both-ways true true = refl
-both-ways true false = refl
-both-ways false true = refl
-both-ways false false = refl
-
-not-back : (t u : Bool) → t ≡ not u → u ≡ not t
-not-back true true e = e
-not-back true false e = refl
-not-back false true e = refl
-not-back false false e = e
-
--- ---- a list's line and its box
-
-module _ (F : Font) (s : Style) (l : Items) (bytes : ℕ) (c : lines.Line) (w : ListWhole F s l bytes c) where
-  items-fit : itemsFit F s l ≡ not (c .large)
-  items-fit = not-back (c .large) (itemsFit F s l) (w .large-is)
-
-  box-fits : c .large ≡ false → (hullFits (hullAs (c .hull)) && sizeFits (sizeAs (c .size))) ≡ boxFits (setList F s l)
-  unfolding boxFits setList
-  box-fits e =
-      let is = w .is e in
-      let b = setItems F s none start l .box in
-      let nodes : hullFits (hullAs (c .hull)) ≡ nodesFit (b .nodes) = ap hullFits (is .hull-is) ∙ sym (fits-hull (b .nodes)) in
-      let size : sizeFits (sizeAs (c .size)) ≡ sizeFits (b .size) = ap sizeFits (is .size-is) in
-      ap₂ _&&_ nodes size ∙ both-ways (nodesFit (b .nodes)) (sizeFits (b .size))
-
-  pub fits-is : lineFits c ≡ listFits F s l
-  unfolding listFits
-  fits-is = by-large (c .large) refl
-    where
-      by-large : (t : Bool) → c .large ≡ t → lineFits c ≡ (boxFits (setList F s l) && itemsFit F s l)
-      by-large true e =
-          ap (λ (t : Bool). not t && (hullFits (hullAs (c .hull)) && sizeFits (sizeAs (c .size)))) e
-          ∙ sym (ap (λ (t : Bool). boxFits (setList F s l) && t) (items-fit ∙ ap not e) ∙ and-false (boxFits (setList F s l)))
-      by-large false e =
-          ap (λ (t : Bool). not t && (hullFits (hullAs (c .hull)) && sizeFits (sizeAs (c .size)))) e
-          ∙ box-fits e
-          ∙ sym (ap (λ (t : Bool). boxFits (setList F s l) && t) (items-fit ∙ ap not e) ∙ and-true (boxFits (setList F s l)))
-
--- ---- what the walk asks of a formula that reads
-
-pub given-list : (table formula : List ℕ) → Reads table formula → ListGiven table formula
-given-list table formula h =
-    record { good = h .table-good; readable = h .readable; short = omega (arith, h .short) }
-
--- ---- a formula that reads
-
-not-large : (t x : Bool) → (not t && x) ≡ true → t ≡ false
-not-large true x e = sym e
-not-large false x e = refl
-
-module _ (table formula : List ℕ) (s : Style) (given : Reads table formula) where
-  pub missing-refused : (place : ℕ) → missingItems (fontOf table) s 0 (treeOf formula) ≡ some place →
-      ReadDone s table formula (Refused (Missing place))
-  unfolding ifPresent
-  missing-refused place e =
-      record { number = 5; place = place; result-is = ap (ifPresent (fontOf table) s (treeOf formula)) e; answer-is = refl }
-
-  pub whole-done : (bytes : ℕ) (c : lines.Line) (r : Finding) → ListWhole (fontOf table) s (treeOf formula) bytes c →
-      Weighed s c r → ReadDone s table formula r
-  unfolding ifPresent ifFits setList
-  whole-done bytes c (Boxed s′ z n) w h =
-      let fits : listFits (fontOf table) s (treeOf formula) ≡ true = sym (fits-is (fontOf table) s (treeOf formula) bytes c w) ∙ h .0 in
-      let e : c .large ≡ false = not-large (c .large) _ (h .0) in
-      let is = w .is e in (
-        h .1,
-        record {
-          given = given;
-          none-missing = w .present;
-          fits = items-fit (fontOf table) s (treeOf formula) bytes c w ∙ ap not e;
-          result-is =
-              ap (ifPresent (fontOf table) s (treeOf formula)) (w .present)
-              ∙ ap (λ (t : Bool). ifFits t (setList (fontOf table) s (treeOf formula))) fits;
-          size-is = ap sizeAs (h .2) ∙ is .size-is;
-          count-is = h .3 ∙ is .count-is;
-        },
-      )
-  whole-done bytes c (Refused a) w h =
-      let fits : listFits (fontOf table) s (treeOf formula) ≡ false = sym (fits-is (fontOf table) s (treeOf formula) bytes c w) ∙ h .0 in
-      record {
-        number = 6;
-        place = 0;
-        result-is =
-            ap (ifPresent (fontOf table) s (treeOf formula)) (w .present)
-            ∙ ap (λ (t : Bool). ifFits t (setList (fontOf table) s (treeOf formula))) fits;
-        answer-is = ap answeredAs (h .1);
-      }
-
--- ---- the tests before that
+-- ---- the tests before the walk
 
 module _ (style : ℕ) (table formula : List ℕ) where
-  pub style-refused : styleOf style ≡ none → Examined style table formula (Refused NoStyle)
+  pub style-refused : styleOf style ≡ none → Refuses NoStyle (resultOf style table formula)
   unfolding resultOf ifStyle
-  style-refused e = record { number = 1; place = 0; result-is = ap (ifStyle table formula) e; answer-is = refl }
+  style-refused e =
+      record { number = styleNumber; place = 0; result-is = ap (ifStyle table formula) e; answer-is = refl }
 
   module _ (s : Style) (is : styleOf style ≡ some s) where
     good-is : (t : Bool) → goodTable table ≡ t → resultOf style table formula ≡ ifGood t (fontOf table) s (readFormula formula)
     unfolding resultOf ifStyle
     good-is t e = ap (ifStyle table formula) is ∙ ap (λ (t : Bool). ifGood t (fontOf table) s (readFormula formula)) e
 
-    pub table-refused : goodTable table ≡ false → Examined style table formula (Refused BadTable)
+    pub table-refused : goodTable table ≡ false → Refuses BadTable (resultOf style table formula)
     unfolding ifGood
-    table-refused e = record { number = 2; place = 0; result-is = good-is false e; answer-is = refl }
+    table-refused e = record { number = tableNumber; place = 0; result-is = good-is false e; answer-is = refl }
 
-    read-is : goodTable table ≡ true → (r : Read) → readFormula formula ≡ r → resultOf style table formula ≡ ifRead (fontOf table) s r
-    unfolding ifGood
-    read-is e r q = good-is true e ∙ ap (ifRead (fontOf table) s) q
+    module _ (good : goodTable table ≡ true) where
+      read-is : (r : Read) → readFormula formula ≡ r → resultOf style table formula ≡ ifRead (fontOf table) s r
+      unfolding ifGood
+      read-is r e = good-is true good ∙ ap (ifRead (fontOf table) s) e
 
-    pub fault-refused : goodTable table ≡ true → (number place : ℕ) (a : Answer) → readFormula formula ≡ fault number place →
-        FaultIs number place a → Examined style table formula (Refused a)
-    unfolding ifRead
-    fault-refused e number place a q h =
-        let numbers : Faulted (fault number place) = subst Faulted q (readFormula-faults formula) in
-        record { number = number; place = place; result-is = read-is e (fault number place) q; answer-is = h (numbers .0) (numbers .1) }
+      pub fault-refused : (why : Fault) (place : ℕ) (a : Answer) → readFormula formula ≡ fault why place →
+          answeredAs a ≡ refusal (faultNumber why) place → Refuses a (resultOf style table formula)
+      unfolding ifRead
+      fault-refused why place a e answer-is =
+          record { number = faultNumber why; place = place; result-is = read-is (fault why place) e; answer-is = answer-is }
 
-    pub read-examined : goodTable table ≡ true → readFormula formula ≡ good (treeOf formula) → (r : Finding) →
-        ReadDone s table formula r → Examined style table formula r
-    unfolding ifRead
-    read-examined e q (Boxed s′ z n) both =
-        let h = both .1 in
-        let boxes : Boxes table formula s z n (resultOf style table formula) =
+      pub formula-reads : FormulaIs formula → Reads style table formula s
+      unfolding ifRead
+      formula-reads f =
+          record { table-good = good; readable = f .readable; short = f .small; result-is = read-is _ (f .is) }
+
+-- ---- the walk
+
+pub given-list : {style : ℕ} {table formula : List ℕ} {s : Style} (p : List (List ℕ)) → Reads style table formula s →
+    HoldsParameters p table → ListGiven table p formula
+given-list {table = table} p h held =
+    record { parameters-are = taken-out table p held; readable = h .readable; short = omega (arith, h .short) }
+
+module _ (s : Style) (table formula : List ℕ) where
+  abbrev F : Font
+  F = fontOf table
+
+  abbrev tree : Items
+  tree = treeOf formula
+
+  pub missing-refused : (place : ℕ) → missingItems F s tree ≡ some place →
+      Refuses (Missing place) (readResult s table formula)
+  unfolding ifPresent
+  missing-refused place e =
+      record { number = missingNumber; place = place; result-is = ap (ifPresent F s tree) e; answer-is = refl }
+
+  module _ (bytes : ℕ) (c : lines.Line) (w : ListWhole F s tree bytes c) where
+    fits-is : lineFits c ≡ listFits F s tree
+    unfolding listFits
+    fits-is = line-fits w
+
+    result-is : (t : Bool) → lineFits c ≡ t → readResult s table formula ≡ ifFits t (setList F s tree)
+    unfolding ifPresent
+    result-is t e =
+        ap (ifPresent F s tree) (w .present) ∙ ap (λ (t : Bool). ifFits t (setList F s tree)) (sym fits-is ∙ e)
+
+    pub whole-examined : (r : Finding) → Weighed c r → Examined s table formula r
+    unfolding ifFits
+    whole-examined (Boxed z n) h =
+        let items : itemsFit F s tree ≡ true = and-eq-true-iff (boxFits (setList F s tree)) _ .0 (sym (line-fits w) ∙ h .0) .1 in
         record {
-          given = h .given;
-          none-missing = h .none-missing;
-          fits = h .fits;
-          result-is = read-is e (good (treeOf formula)) q ∙ h .result-is;
-          size-is = h .size-is;
-          count-is = h .count-is;
+          none-missing = w .present;
+          fits = items;
+          result-is = result-is true (h .0);
+          size-is = ap sizeAs (h .1) ∙ w .size-is items;
+          count-is = h .2 ∙ w .run-is items .count-is;
         }
-        in
-        (is ∙ ap some (sym (both .0)), subst (λ (o : Style). Boxes table formula o z n (resultOf style table formula)) (sym (both .0)) boxes)
-    read-examined e q (Refused a) h =
-        record { number = h .number; place = h .place; result-is = read-is e (good (treeOf formula)) q ∙ h .result-is; answer-is = h .answer-is }
+    whole-examined (Refused a) h =
+        record { number = tooLargeNumber; place = 0; result-is = result-is false (h .0); answer-is = ap answeredAs (h .1) }

@@ -24,6 +24,7 @@ use Rattle.rules.specs.Styles.{styleOf}
 use Rattle.rules.specs.Classes.{Neighbour, classOf}
 use Rattle.rules.specs.Boxes.{Size, box}
 use Rattle.nodes.specs.Nodes.{Node, bytesOf, bytesInNode}
+use Rattle.nodes.specs.NodeLaws.{length-moved, bytes-append}
 use Rattle.walk.specs.Setting.{Box, Line, placed, setItem, setField, setList}
 use Rattle.walk.specs.Frames.{Frame, movedBy, framed}
 use Rattle.walk.specs.Paths.{Step, holder, stepStyle, Path, into, fill, styleAt}
@@ -31,7 +32,6 @@ use Rattle.walk.specs.FieldInPlace.{sized, itemAround, size-used, frame, field-
 use Rattle.walk.specs.FieldAlone.{missing-alone, fits-alone}
 use Rattle.layout.specs.Answers.{Answered, acceptedNumber, accepted, measured, setting, bufferAfter, resultOf, boxed}
 use Rattle.layout.proofs.Accepting.{Accepted, Passed, passed, boxed-of, measured-boxed, set-boxed, buffer-boxed}
-use Rattle.layout.proofs.MovedBytes.{length-moved, bytes-append}
 use Rattle.layout.proofs.FieldBytes.{fieldPart, field-reads}
 
 -- ---- the number of a style
@@ -145,7 +145,7 @@ module _ (style : ℕ) (table formula : List ℕ) (s : Style) (p : Path) (t : St
         let w = passed h in
         record {
           table-good = w .table-good;
-          none-missing = missing-alone (fontOf table) s (into p t) l 0 0 (w .none-missing);
+          none-missing = missing-alone (fontOf table) s (into p t) l (w .none-missing);
           fits = fits-alone (fontOf table) s (into p t) l (w .fits);
         }
 

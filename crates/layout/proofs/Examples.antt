@@ -5,7 +5,6 @@ use mathlib.Core.Path.{_≡_, refl}
 use mathlib.Core.List.{List, [], _∷_, _++_, map}
 use Prim.Native.Nat.{ℕ}
 use lib.IntN.{ℤ, pos, negℤ}
-use Rattle.rules.specs.Boxes.{Size}
 use Rattle.nodes.specs.Nodes.{Node, glyph, rule}
 use Rattle.walk.specs.Setting.{Box}
 use Rattle.layout.specs.Answers.{Result, boxed, resultOf, Answered, measured, setting, bufferAfter}

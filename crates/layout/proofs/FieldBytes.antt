@@ -3,7 +3,7 @@
 --     field-reads      if the formula reads to the tree that has the list l at the path p, those bytes read to l
 -- A list at the path's end is read with fewer levels than the formula, and reads to the same tree with as many (`agree`).
 -- Assumes nothing.
-use mathlib.Core.Path.{_≡_, refl, sym, subst, ap, _∙_}
+use mathlib.Core.Path.{_≡_, refl, sym, subst, ap, ap₂, _∙_}
 use mathlib.Core.Bool.{Bool, true, false}
 use mathlib.Core.List.{List, [], _∷_}
 use Prim.Native.Nat.{ℕ, zero, suc, _+_, _-_, _≤_, _<_}
@@ -17,11 +17,12 @@ use Rattle.formula.specs.declared.Opening.{Opening}
 use Rattle.formula.specs.declared.Opening.the-variants.{NoItem, Fields, Kern}
 use Rattle.formula.specs.declared.FieldHead.{FieldHead}
 use Rattle.formula.specs.declared.FieldHead.the-variants.{NoField, Empty, Symbol, Sublist, CutSublist}
+use Rattle.formula.specs.declared.Fault.the-variants.{Unreadable}
 use Rattle.formula.specs.Tree.{Items, Item, Field, nil, cons, noad, kern, list, openingBytes, listOpeningBytes, itemsBytes, itemBytes, fieldBytes}
 use Rattle.formula.specs.Heads.{openingOf, fieldHead}
-use Rattle.formula.specs.Reading.{good, fault, read, formulaLimit, depthLimit, unreadableNumber, readFormula}
+use Rattle.formula.specs.Reading.{good, fault, read, formulaLimit, depthLimit, readFormula}
 use Rattle.formula.specs.Places.{headBytes, contents, hasThird, headAt, second, third, itemSize}
-use Rattle.formula.specs.HeadLaws.{contents-shorter}
+use Rattle.formula.specs.HeadLaws.{list-opening, contents-shorter}
 use Rattle.formula.specs.ReadingLaws.{FieldIs, FieldAtIs, ThirdIs, NoadIs, ItemIs, Below, ListIs, size-fits, read-none, list-good, agree}
 use Rattle.formula.specs.PlacesLaws.{readable-of, tree-is, items-bytes}
 use Rattle.walk.specs.Paths.{Arm, inFirst, inSecond, inThird, holding, fieldPlace, Step, join, listWith, stepPlace, Path, whole, into, fill, placeOf}
@@ -65,10 +66,11 @@ module _ (levels : ℕ) where
   -- ---- a field, by its head
 
   -- a list field's two bytes of length say how long its tree is written
-  sublist-length : (s : List ℕ) (n : ℕ) (l : Items) → fieldHead s ≡ Sublist n → Below read levels (contents n s) l →
-      n ≡ itemsBytes l
-  sublist-length s n l e b =
-      omega (arith, contents-shorter s n e, written levels (contents n s) l (inner-reads levels (contents n s) l b))
+  sublist-length : (s : List ℕ) (opening n : ℕ) (l : Items) → fieldHead s ≡ Sublist opening n →
+      Below read levels (contents opening n s) l → n ≡ itemsBytes l
+  sublist-length s opening n l e b =
+      let inner = contents opening n s in
+      omega (arith, contents-shorter s opening n e, written levels inner l (inner-reads levels inner l b))
 
   field-length : (s : List ℕ) (h : FieldHead) (f : Field) → fieldHead s ≡ h → FieldIs (Below read levels) s h f →
       headBytes h ≡ fieldBytes f
@@ -76,8 +78,8 @@ module _ (levels : ℕ) where
   field-length s NoField f e i = absurd i
   field-length s Empty f e i = rw i
   field-length s (Symbol family code) f e i = rw i
-  field-length s (Sublist n) f e i =
-      ap (λ (k : ℕ). listOpeningBytes + k) (sublist-length s n (i .0) e (i .1)) ∙ ap fieldBytes (sym (i .2))
+  field-length s (Sublist opening n) f e i =
+      ap₂ _+_ (list-opening s opening n e) (sublist-length s opening n (i .0) e (i .1)) ∙ ap fieldBytes (sym (i .2))
   field-length s CutSublist f e i = absurd i
 
   list-inside : (s : List ℕ) (h : FieldHead) (l : Items) → fieldHead s ≡ h → FieldIs (Below read levels) s h (list l) →
@@ -85,10 +87,11 @@ module _ (levels : ℕ) where
   list-inside s NoField l e i = absurd i
   list-inside s Empty l e i = let z : _≡_ {A = ℕ} 0 1 = cc in absurd (omega arith)
   list-inside s (Symbol family code) l e i = let z : _≡_ {A = ℕ} 0 1 = cc in absurd (omega arith)
-  list-inside s (Sublist n) l e i =
+  list-inside s (Sublist opening n) l e i =
       let same : i .0 ≡ l = cc in
-      let b : Below read levels (contents n s) l = subst (Below read levels (contents n s)) same (i .1) in
-      subst (λ (k : ℕ). Below read levels (contents k s) l) (sublist-length s n l e b) b
+      let b : Below read levels (contents opening n s) l = subst (Below read levels (contents opening n s)) same (i .1) in
+      subst (λ (r : List ℕ). Below read levels r l)
+      (ap₂ (λ (o k : ℕ). contents o k s) (list-opening s opening n e) (sublist-length s opening n l e b)) b
   list-inside s CutSublist l e i = absurd i
 
   -- ---- a field of an item, at its place
@@ -222,7 +225,7 @@ unfolding readFormula
 read-formula s l e = go (ltb formulaLimit (length s)) refl e
   where
     go : (t : Bool) → ltb formulaLimit (length s) ≡ t →
-        elim t [ true ↦ fault unreadableNumber 0 | false ↦ read (depthLimit - 1) s ] ≡ good l →
+        elim t [ true ↦ fault Unreadable 0 | false ↦ read (depthLimit - 1) s ] ≡ good l →
         (length s ≤ formulaLimit) × (read (depthLimit - 1) s ≡ good l)
     go true q e = let z : _≡_ {A = ℕ} 0 1 = cc in absurd (omega arith)
     go false q e = (ltb-false formulaLimit (length s) q, e)

@@ -8,8 +8,9 @@ use Prim.Native.Nat.{ℕ}
 use lib.IntN.{pos}
 use Rattle.formula.specs.declared.Class.the-variants.{Ord}
 use Rattle.formula.specs.declared.Limits.the-variants.{DisplayOnly}
+use Rattle.formula.specs.declared.Base.the-variants.{Atom}
 use Rattle.formula.specs.declared.Kind.{Kind}
-use Rattle.formula.specs.declared.Kind.the-variants.{Atom}
+use Rattle.formula.specs.declared.Kind.the-variants.{Scripted}
 use Rattle.formula.specs.Tree.{Items, Field, nil, cons, noad, empty, symbol}
 use Rattle.rules.specs.declared.Level.the-variants.{Text}
 use Rattle.rules.specs.Styles.{plain}
@@ -32,7 +33,7 @@ abbrev formula : List ℕ
 formula = atomBytes ++ (65 ∷ 84 ∷ 0 ∷ 0 ∷ 1 ∷ 1 ∷ 97 ∷ 2 ∷ 9 ∷ 0 ∷ (atomBytes ++ (0 ∷ [])))
 
 abbrev ord : Kind
-ord = Atom Ord DisplayOnly
+ord = Scripted (Atom Ord DisplayOnly)
 
 abbrev a : Field
 a = symbol 1 97

@@ -2,7 +2,6 @@
 mod BenchTable
 mod Definitions
 mod Examples
-mod FaultNumbers
 mod Agreement
 mod Accepting
 mod MovedBytes

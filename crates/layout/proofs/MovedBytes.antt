@@ -1,13 +1,12 @@
--- Nodes in a buffer: one list of nodes behind another, and a run of nodes that is moved.
---     moved-node-bytes    of a moved node's 18 bytes, only those of x and y change: the mark and the last eight stay
+-- Of a moved node's 18 bytes, only those of x and y change: the mark and the last eight stay (`moved-node-bytes`).
 -- Assumes nothing.
-use mathlib.Core.Path.{_≡_, refl, sym, ap, _∙_}
-use mathlib.Core.List.{List, [], _∷_, _++_, append-assoc}
-use Prim.Native.Nat.{ℕ, suc}
+use mathlib.Core.Path.{_≡_, refl}
+use mathlib.Core.List.{List, _++_}
+use Prim.Native.Nat.{ℕ}
 use lib.IntN.{ℤ, _+ℤ_}
-use lib.ListN.{length, take, drop}
+use lib.ListN.{take, drop}
 use Rattle.scaled.specs.Words.{fourBytes}
-use Rattle.nodes.specs.Nodes.{Node, glyph, rule, movedNode, moved, signedBytes, nodeBytes, bytesOf}
+use Rattle.nodes.specs.Nodes.{Node, glyph, rule, movedNode, signedBytes, nodeBytes}
 
 abbrev pub xOf : Node → ℤ
 xOf (glyph x y size family code) = x
@@ -30,14 +29,3 @@ pub moved-node-bytes : (dx dy : ℤ) (n : Node) → nodeBytes (movedNode dx dy n
 unfolding nodeBytes signedBytes fourBytes
 moved-node-bytes dx dy (glyph x y size family code) = refl
 moved-node-bytes dx dy (rule x y width thickness) = refl
-
-pub length-moved : (dx dy : ℤ) (ns : List Node) → length (moved dx dy ns) ≡ length ns
-unfolding moved
-length-moved dx dy [] = refl
-length-moved dx dy (n ∷ ns) = ap suc (length-moved dx dy ns)
-
-pub bytes-append : (ns ms : List Node) → bytesOf (ns ++ ms) ≡ bytesOf ns ++ bytesOf ms
-unfolding bytesOf
-bytes-append [] ms = refl
-bytes-append (n ∷ ns) ms =
-    ap (λ (r : List ℕ). nodeBytes n ++ r) (bytes-append ns ms) ∙ sym (append-assoc (nodeBytes n) (bytesOf ns) (bytesOf ms))

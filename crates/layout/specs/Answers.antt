@@ -1,26 +1,27 @@
 -- What measuring and setting answer, for any bytes (document 01, "Answer numbers, in the order they are tested"), and the
 -- node buffer after setting.
 -- Assumes nothing.
-use mathlib.Core.Bool.{Bool, true, false, not}
+use mathlib.Core.Bool.{Bool, true, false}
 use mathlib.Core.List.{List, _++_}
 use mathlib.Core.Option.{Option, none, some}
 use Prim.Native.Nat.{ℕ, _*_}
 use lib.Dec.{leb}
-use lib.IntN.{ℤ, pos}
 use lib.ListN.{length, drop}
 use Rattle.font.specs.Table.{goodTable}
 use Rattle.font.specs.Font.{Font, fontOf}
+use Rattle.formula.specs.declared.Fault.{Fault}
+use Rattle.formula.specs.declared.Fault.the-variants.{Unreadable, TooDeep}
 use Rattle.formula.specs.Tree.{Items}
 use Rattle.formula.specs.Reading.{Read, good, fault, readFormula}
 use Rattle.rules.specs.declared.Style.{Style}
 use Rattle.rules.specs.Styles.{styleOf}
 use Rattle.rules.specs.Boxes.{Size, zeroSize}
-use Rattle.nodes.specs.Nodes.{Node, bytesOf, bytesInNode}
+use Rattle.nodes.specs.Nodes.{bytesOf, bytesInNode}
 use Rattle.walk.specs.Setting.{Box, setList}
 use Rattle.walk.specs.Missing.{missingItems}
 use Rattle.walk.specs.Fitting.{listFits}
 
--- ---- the answer numbers; 3 and 4 are those of the reading
+-- ---- the answer numbers
 
 abbrev pub acceptedNumber : ℕ
 acceptedNumber = 0
@@ -30,6 +31,11 @@ styleNumber = 1
 
 abbrev pub tableNumber : ℕ
 tableNumber = 2
+
+-- of the reading
+abbrev pub faultNumber : Fault → ℕ
+faultNumber Unreadable = 3
+faultNumber TooDeep = 4
 
 abbrev pub missingNumber : ℕ
 missingNumber = 5
@@ -58,8 +64,8 @@ ifPresent F s l (some place) = refused missingNumber place
 
 -- 3 and 4
 unfoldable pub ifRead : Font → Style → Read → Result
-ifRead F s (good l) = ifPresent F s l (missingItems F s 0 l)
-ifRead F s (fault number place) = refused number place
+ifRead F s (good l) = ifPresent F s l (missingItems F s l)
+ifRead F s (fault why place) = refused (faultNumber why) place
 
 -- 2
 unfoldable pub ifGood : Bool → Font → Style → Read → Result

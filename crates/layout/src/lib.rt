@@ -1,19 +1,23 @@
 // Measuring and setting a formula. What they answer is defined in specs/Answers.antt.
+// Every test that needs no walk comes before the parameters are taken out of the table; they are then lent to each walk.
 
 ghost use mathlib.Core.Path.{_≡_};
 ghost use lib.ListN.{length};
-ghost use Rattle.layout.specs.Answers.{measured, setting, bufferAfter};
-ghost use Rattle.layout.specs.Answering.{answeredAs, FaultIs, Examined, Reads, ReadDone, Weighed};
+ghost use Rattle.walk.specs.Walked.{ListGiven};
+ghost use Rattle.layout.specs.Answers.{faultNumber, refusal, measured, setting, bufferAfter};
+ghost use Rattle.layout.specs.Answering.{answeredAs, ReadDone, Examined, Weighed};
+use formula::Fault;
 use formula::Verdict;
 use formula::reading::read_formula;
 use nodes::BYTES_IN_NODE;
 use rules::Style;
 use rules::boxes::Size;
+use rules::parameters::Parameters;
 use rules::styles::Numbered;
 use rules::styles::style_of;
 use walk::lines::Line;
 use walk::lines::list_fits;
-use walk::lists::ListSet;
+use walk::lists::ItemsSet;
 use walk::lists::set_list;
 
 // One constructor for each answer number. A refusal that has a place has it here.
@@ -28,9 +32,15 @@ pub enum Answer {
     NoRoom,
 }
 
-// What is found without writing a node: a formula with its style, its size and how many nodes it has, or a refusal.
+// What is found without a walk: the style of a formula that reads, or a refusal.
+pub enum Reading {
+    Reads(Style),
+    Refused(Answer),
+}
+
+// What is found by a walk that writes no node: the size and how many nodes there are, or a refusal.
 pub enum Finding {
-    Boxed(Style, Size, usize),
+    Boxed(Size, usize),
     Refused(Answer),
 }
 
@@ -38,9 +48,17 @@ pub enum Finding {
 pub fn measure(style: u8, table: &[u8], formula: &[u8]) -> Answer
     ensures { λ r. ⌜ answeredAs r ≡ measured style (now (table .entry)) (now (formula .entry)) ⌝ }
 {
-    let finding = examine(style, table, formula);
+    let reading = read(style, table, formula);
+    let s = match reading {
+        Reading::Reads(s) => s,
+        Reading::Refused(answer) => {
+            return answer;
+        }
+    };
+    let p = font::parameters(table);
+    let finding = examine(table, &p, s, formula);
     match finding {
-        Finding::Boxed(_, size, count) => Answer::Accepted(size, count),
+        Finding::Boxed(size, count) => Answer::Accepted(size, count),
         Finding::Refused(answer) => answer,
     }
 }
@@ -50,69 +68,76 @@ pub fn set(style: u8, table: &[u8], formula: &[u8], nodes: &mut [u8]) -> Answer
     ensures { λ r. ⌜ answeredAs r ≡ setting style (now (table .entry)) (now (formula .entry)) (length (now (nodes .entry))) ⌝ }
     ensures { λ _. ⌜ now (nodes .exit) ≡ bufferAfter style (now (table .entry)) (now (formula .entry)) (now (nodes .entry)) ⌝ }
 {
-    let finding = examine(style, table, formula);
+    let reading = read(style, table, formula);
+    let s = match reading {
+        Reading::Reads(s) => s,
+        Reading::Refused(answer) => {
+            return answer;
+        }
+    };
+    let p = font::parameters(table);
+    let finding = examine(table, &p, s, formula);
     match finding {
-        Finding::Boxed(s, size, count) => {
+        Finding::Boxed(size, count) => {
             if nodes.len() / BYTES_IN_NODE < count {
                 return Answer::NoRoom;
             }
             let end = BYTES_IN_NODE * count;
-            set_list(table, s, formula, &mut nodes[..end]);
+            set_list(table, &p, s, formula, &mut nodes[..end]);
             Answer::Accepted(size, count)
         }
         Finding::Refused(answer) => answer,
     }
 }
 
-// The tests in their order.
-fn examine(style: u8, table: &[u8], formula: &[u8]) -> Finding
-    ensures { λ r. ⌜ Examined style (now (table .entry)) (now (formula .entry)) r ⌝ }
+// The tests of the style, the table and the reading, in this order.
+fn read(style: u8, table: &[u8], formula: &[u8]) -> Reading
+    ensures { λ r. ⌜ ReadDone style (now (table .entry)) (now (formula .entry)) r ⌝ }
 {
     let numbered = style_of(style);
     let Numbered::Styled(s) = numbered else {
-        return Finding::Refused(Answer::NoStyle);
+        return Reading::Refused(Answer::NoStyle);
     };
     if !font::is_good(table) {
-        return Finding::Refused(Answer::BadTable);
+        return Reading::Refused(Answer::BadTable);
     }
     let verdict = read_formula(formula);
     match verdict {
-        Verdict::Good => examine_read(s, table, formula),
-        Verdict::Fault(number, place) => Finding::Refused(fault(number, place)),
+        Verdict::Good => Reading::Reads(s),
+        Verdict::Faulty(fault, place) => Reading::Refused(faulty(fault, place)),
     }
 }
 
-// The reading's faults are 3 and 4.
-fn fault(number: u8, place: usize) -> Answer
-    ensures { λ r. ⌜ FaultIs number place r ⌝ }
+// The answer to a fault of the reading.
+fn faulty(fault: Fault, place: usize) -> Answer
+    ensures { λ r. ⌜ answeredAs r ≡ refusal (faultNumber fault) place ⌝ }
 {
-    if number == 3 {
-        Answer::Unreadable(place)
-    } else {
-        Answer::TooDeep(place)
+    match fault {
+        Fault::Unreadable => Answer::Unreadable(place),
+        Fault::TooDeep => Answer::TooDeep(place),
     }
 }
 
 // The tests of a formula that reads: the walk without room for any node.
-fn examine_read(style: Style, table: &[u8], formula: &[u8]) -> Finding
-    requires { ⌜ Reads (now table) (now formula) ⌝ }
-    ensures { λ r. ⌜ ReadDone style (now (table .entry)) (now (formula .entry)) r ⌝ }
+fn examine(table: &[u8], p: &Parameters, style: Style, formula: &[u8]) -> Finding
+    requires { ⌜ ListGiven (now table) (now p) (now formula) ⌝ }
+    ensures { λ r. ⌜ Examined style (now (table .entry)) (now (formula .entry)) r ⌝ }
 {
     let mut none = [0u8; 1];
-    let l = set_list(table, style, formula, &mut none);
+    let l = set_list(table, p, style, formula, &mut none);
     match l {
-        ListSet::Whole(line) => weighed(style, line),
-        ListSet::Missing(place) => Finding::Refused(Answer::Missing(place)),
+        ItemsSet::Whole(line) => weighed(line),
+        ItemsSet::Missing(place) => Finding::Refused(Answer::Missing(place)),
     }
 }
 
 // A whole list, which may be too large.
-fn weighed(style: Style, line: Line) -> Finding
-    ensures { λ r. ⌜ Weighed style line r ⌝ }
+fn weighed(line: Line) -> Finding
+    ensures { λ r. ⌜ Weighed line r ⌝ }
 {
     if list_fits(line) {
         let size = line.size;
-        return Finding::Boxed(style, size, line.count);
+        return Finding::Boxed(size, line.run.count);
     }
     Finding::Refused(Answer::TooLarge)
 }

@@ -1,0 +1,78 @@
+-- The tests in their order: each way out is a law of `AnsweringLaws`.
+use mathlib.Core.Path.{_≡_, sym, ap, _∙_}
+use mathlib.Core.Bool.{true}
+use mathlib.Core.Option.{some}
+use borrow.Author.Tests.{not-true, not-false}
+use Rattle.font.specs.Table.{goodTable}
+use Rattle.formula.specs.PlacesLaws.{formula-good, formula-fault}
+use Rattle.rules.specs.Styles.{styleOf}
+use Rattle.rules.specs.Values.{numberedAs}
+use Rattle.layout.proofs.AnsweringLaws.{style-refused, table-refused, fault-refused, formula-reads}
+use borrow.Author.Needs.{needs}
+use Rattle.layout.proofs.read.Statement.{statement}
+use Rattle.layout.proofs.read.Tie as tie
+
+style-of-requires : tie.Need-style-of-requires
+style-of-requires c κs = search needs
+
+enum-known-numbered : tie.Need-enum-known-numbered
+enum-known-numbered c = search needs
+
+enum-told : tie.Need-enum-told
+enum-told c = search needs
+
+returns : tie.Need-returns
+returns c = style-refused _ _ _ (sym (c .before .before .style-of .ensures) ∙ ap numberedAs (c .enum-told .given .1))
+
+is-good-requires : tie.Need-is-good-requires
+is-good-requires c κs = search needs
+
+-- the style that there is
+styled : (c : tie.After-numbered) → styleOf (c .before .before .before .before .before .args .style) ≡ some (c .numbered .given .0 .0)
+styled c = sym (c .before .before .style-of .ensures) ∙ ap numberedAs (c .numbered .given .1)
+
+returns-2 : tie.Need-returns-2
+returns-2 c = table-refused _ _ _ _ (styled (c .before .before .before)) (sym (c .before .is-good .ensures) ∙ not-true _ (c .if1 .taken))
+
+-- and the table that breaks no rule
+table-good : (c : tie.Else1) → goodTable (c .before .before .before .before .before .before .before .before .args .table .now) ≡ true
+table-good c = sym (c .before .is-good .ensures) ∙ not-false _ (c .if1 .left)
+
+read-formula-requires : tie.Need-read-formula-requires
+read-formula-requires c κs = search needs
+
+enum-told-2 : tie.Need-enum-told-2
+enum-told-2 c = search needs
+
+enum-known-verdict : tie.Need-enum-known-verdict
+enum-known-verdict c = search needs
+
+faulty-requires : tie.Need-faulty-requires
+faulty-requires c κs = search needs
+
+returns-3 : tie.Need-returns-3
+returns-3 c =
+    formula-reads _ _ _ _ (styled (c .before .before .before .before .before .before)) (table-good (c .before .before .before))
+    (formula-good _ (sym (c .before .before .read-formula .ensures) ∙ c .enum-told2 .given .1))
+
+returns-4 : tie.Need-returns-4
+returns-4 c =
+    fault-refused _ _ _ _ (styled (c .before .before .before .before .before .before .before .before)) (table-good (c .before .before .before .before .before)) _ _ _
+    (formula-fault _ _ _ (sym (c .before .before .before .before .read-formula .ensures) ∙ c .before .before .verdict .given .1)) (c .faulty .ensures)
+
+pub read-spec : {M : Type 1} → statement M
+read-spec =
+    tie.close
+    (tie.spec
+    style-of-requires
+    enum-known-numbered
+    enum-told
+    returns
+    is-good-requires
+    returns-2
+    read-formula-requires
+    enum-told-2
+    enum-known-verdict
+    faulty-requires
+    returns-3
+    returns-4)
