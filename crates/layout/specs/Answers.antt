@@ -32,7 +32,7 @@ styleNumber = 1
 abbrev pub tableNumber : ℕ
 tableNumber = 2
 
--- of the reading
+-- the faults of the reading
 abbrev pub faultNumber : Fault → ℕ
 faultNumber Unreadable = 3
 faultNumber TooDeep = 4
