@@ -109,8 +109,9 @@ fn mark(a: u8, b: u8) -> Mark
 {
     let mut i: usize = 0;
     while i < MARKS.len() {
+        let found = MARKS[i];
         if both(a, b, LETTERS[i][0], LETTERS[i][1]) {
-            return MARKS[i];
+            return found;
         }
         i += 1;
     }

@@ -52,15 +52,15 @@ loop-holds c = (omega arith, refl)
 
 returns : tie.Need-returns Inv-loop μ-loop
 returns c =
-    let test = c .before .before in
-    let inside = test .before .before .before in
-    let is = sym (test .both .ensures) ∙ c .before .if1 .taken in
+    let test = c .before in
+    let inside = test .before .before .before .before in
+    let is = sym (test .both .ensures) ∙ c .if1 .taken in
     sym (row-by true rows _ AT _ _ (inside .loop-test .taken) is) ∙ inside .before .loop .inv .1
 
 loop-again : tie.Need-loop-again Inv-loop μ-loop
 loop-again c =
     let test = c .before in
-    let inside = test .before .before .before in
+    let inside = test .before .before .before .before in
     let is = sym (test .both .ensures) ∙ c .if1 .left in
     let behind = row-by false rows _ AT _ _ (inside .loop-test .taken) is in
     (omega arith, rw add-one (sym behind ∙ inside .before .loop .inv .1))
@@ -78,8 +78,8 @@ mark-spec =
     (λ c. search needs)
     (λ c. search needs)
     (λ c. search needs)
-    (λ c κs. search needs)
     (λ c. search needs)
+    (λ c κs. search needs)
     returns
     (λ c. search needs)
     (λ c. search needs)
