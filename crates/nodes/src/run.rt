@@ -1,25 +1,26 @@
 // What is known of runs of nodes. What each function gives is defined in specs/Runs.antt.
 ghost use mathlib.Core.Path.{_≡_};
-ghost use mathlib.Core.Bool.{not, _&&_};
+ghost use mathlib.Core.Bool.{not, _&&_, _||_};
 ghost use Prim.Native.Nat.{_+_, _^_, _<_};
 ghost use Rattle.scaled.specs.Made.{reach};
 ghost use Rattle.scaled.specs.Signed.{Within};
 ghost use Rattle.nodes.specs.Bounds.{within};
 ghost use Rattle.nodes.specs.Hull.{hullFits, HullWithin};
-ghost use Rattle.nodes.specs.Runs.{hullOf, EmptyRun, LargeRun, PointRun, JoinedRun, MovedRun};
+ghost use Rattle.nodes.specs.Runs.{hullOf, marked, isLarge, EmptyRun, LargeRun, PointRun, JoinedRun, MovedRun};
 use scaled::Sp;
 
 const GREATEST_LENGTH: i64 = 1_073_741_823;
 
 // What is known of some nodes: how many there are, and the least and the greatest x and y; without a node the lengths mean nothing.
-// Large where a list that they were set from passes the greatest length; then nothing else of it means anything.
+// Large, 1 in place of 0, where a list that they were set from passes the greatest length; then nothing else of it means anything.
+// It is a number and no bool so that the record has no gap that would be copied with it.
 pub struct Run {
     pub count: usize,
     pub left: Sp,
     pub right: Sp,
     pub bottom: Sp,
     pub top: Sp,
-    pub large: bool,
+    pub large: usize,
 }
 
 impl Run {
@@ -33,7 +34,7 @@ impl Run {
             right: Sp(0),
             bottom: Sp(0),
             top: Sp(0),
-            large: false,
+            large: 0,
         }
     }
 
@@ -47,7 +48,7 @@ impl Run {
             right: Sp(0),
             bottom: Sp(0),
             top: Sp(0),
-            large: true,
+            large: 1,
         }
     }
 
@@ -61,7 +62,7 @@ impl Run {
             right: x,
             bottom: y,
             top: y,
-            large: false,
+            large: 0,
         }
     }
 
@@ -70,7 +71,7 @@ impl Run {
         requires { ⌜ self .count + o .count < 2 ^ 64 ⌝ }
         ensures { λ r. ⌜ JoinedRun self o r ⌝ }
     {
-        let large = self.large | o.large;
+        let large = either(self.large, o.large);
         if self.count == 0 {
             o.large = large;
             return o;
@@ -109,14 +110,23 @@ impl Run {
 
     // Whether no list and no node passes the greatest length.
     pub fn fits(self) -> bool
-        ensures { λ r. ⌜ r ≡ (not (self .large) && hullFits (hullOf self)) ⌝ }
+        ensures { λ r. ⌜ r ≡ (not (isLarge self) && hullFits (hullOf self)) ⌝ }
     {
-        if self.count == 0 {
-            return !self.large;
+        if self.large != 0 {
+            return false;
         }
-        !self.large
-            & (within(self.left) & within(self.right) & within(self.bottom) & within(self.top))
+        if self.count == 0 {
+            return true;
+        }
+        within(self.left) & within(self.right) & within(self.bottom) & within(self.top)
     }
+}
+
+// The mark of two runs, one of which may be large.
+fn either(a: usize, b: usize) -> usize
+    ensures { λ r. ⌜ marked r ≡ (marked a || marked b) ⌝ }
+{
+    if a == 0 { b } else { a }
 }
 
 // Whether a length is within the greatest.

@@ -36,7 +36,7 @@ use Rattle.nodes.specs.Drawn.{Drawn, drawn-none}
 use Rattle.nodes.specs.Lent.{drawn-behind}
 use Rattle.nodes.specs.Hull.{hull, joined}
 use Rattle.nodes.specs.HullLaws.{join-none, join-assoc, hull-append, within-more}
-use Rattle.nodes.specs.Runs.{hullOf}
+use Rattle.nodes.specs.Runs.{hullOf, isLarge}
 use Rattle.walk.specs.declared.lines.Line as lines
 use Rattle.walk.specs.declared.lists.ItemsSet.the-variants as items
 use Rattle.walk.specs.declared.lists.Step.{Step}
@@ -56,7 +56,7 @@ pub added-none : (l : lines.Line) (b : List ℕ) → Added true (bareLine l) 0 l
 unfolding hull
 added-none l b =
     record {
-      large-is = sym (or-false (l .run .large));
+      large-is = sym (or-false (isLarge (l .run)));
       more = omega arith;
       grows = λ k w. let e : k ≡ k + 0 = omega arith in rw (← e) w;
       left-is = λ h. refl;
@@ -72,7 +72,7 @@ unfolding itemFits setItem hull
 added-kern F s right n l r b small k =
     let run = k .run-is in
     record {
-      large-is = rw run (sym (or-false (l .run .large)));
+      large-is = rw run (sym (or-false (isLarge (l .run))));
       more = rw run (omega arith);
       grows = λ m w.
           let width : r .size .width .0 ≡ _ = ap (λ (z : Size). z .width) (k .size-is) in
@@ -137,7 +137,7 @@ pub added-next : {f g : Bool} {M N : Line} {k n j : ℕ} {l₀ l r : lines.Line}
 added-next {f} {g} {M} {N} {k} {n} {j} {l₀} {l} {r} {b₀} {b} {v} a same at d =
     let both = length-append (M .box .nodes) (N .box .nodes) in
     record {
-      large-is = d .large-is ∙ ap (λ (t : Bool). t || not g) (a .large-is) ∙ or-more (l₀ .run .large) f g;
+      large-is = d .large-is ∙ ap (λ (t : Bool). t || not g) (a .large-is) ∙ or-more (isLarge (l₀ .run)) f g;
       more = omega (arith, a .more, d .more);
       grows = λ i w. let e : i + k + n ≡ i + (k + n) = omega arith in rw (← e) (d .grows (i + k) (a .grows i w));
       left-is = λ h. d .left-is (and-right f g h);

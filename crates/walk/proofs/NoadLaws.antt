@@ -35,6 +35,7 @@ use Rattle.rules.specs.Values.{neighbourAs, sizeAs}
 use Rattle.nodes.specs.Nodes.{Node, bytesInNode, bytesOf, moved}
 use Rattle.nodes.specs.Buffer.{roomFor}
 use Rattle.nodes.specs.Drawn.{Drawn}
+use Rattle.nodes.specs.Runs.{isLarge}
 use Rattle.walk.specs.declared.parts.Part as parts
 use Rattle.walk.specs.declared.parts.FieldSet.{FieldSet}
 use Rattle.walk.specs.declared.parts.FieldSet.the-variants as field
@@ -361,7 +362,7 @@ module _ (F : Font) (s : Style) (kind : Kind) (bytes : List ℕ) where
         record {
           large-is =
               q .done .large-is
-              ∙ ap (λ (t : Bool). l .run .large || t)
+              ∙ ap (λ (t : Bool). isLarge (l .run) || t)
               (rw (q .fields .wx .large-is, q .fields .wy .large-is, q .fields .wz .large-is, or-nots fitsX fitsY) (or-nots (fitsX && fitsY) fitsZ));
           more = omega (arith, q .done .count-is);
           grows = λ k w. q .done .grows k (end bytes kind) w (q .fields .noad .long) few;

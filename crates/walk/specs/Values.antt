@@ -11,7 +11,7 @@ use mathlib.Core.Option.{Option, none, some}
 use Rattle.font.specs.Answers.{metricsAs}
 use Rattle.rules.specs.Values.{neighbourAs, sizeAs, shapeAs}
 use Rattle.nodes.specs.Hull.{hullFits}
-use Rattle.nodes.specs.Runs.{hullOf, RunIs}
+use Rattle.nodes.specs.Runs.{hullOf, isLarge, RunIs}
 use Rattle.walk.specs.declared.symbols.Symbol as symbols
 use Rattle.walk.specs.declared.symbols.Sought.{Sought}
 use Rattle.walk.specs.declared.symbols.Sought.the-variants.{Present, Absent}
@@ -35,4 +35,4 @@ abbrev pub bareLine : lines.Line → Line
 bareLine c = record { left = neighbourAs (c .left); box = record { size = sizeAs (c .size); nodes = [] } }
 
 abbrev pub lineFits : lines.Line → Bool
-lineFits c = (not (c .run .large) && hullFits (hullOf (c .run))) && sizeFits (sizeAs (c .size))
+lineFits c = (not (isLarge (c .run)) && hullFits (hullOf (c .run))) && sizeFits (sizeAs (c .size))

@@ -39,7 +39,7 @@ use Rattle.nodes.specs.Bounds.{greatestLength}
 use Rattle.nodes.specs.Buffer.{put, movedFront, behindNodes}
 use Rattle.nodes.specs.Drawn.{Drawn}
 use Rattle.nodes.specs.Hull.{Hull, none as unreached, joined, movedHull, hull, HullWithin}
-use Rattle.nodes.specs.Runs.{hullOf, RunIs, EmptyRun, JoinedRun}
+use Rattle.nodes.specs.Runs.{hullOf, isLarge, RunIs, EmptyRun, JoinedRun}
 use Rattle.walk.specs.declared.parts.Part as parts
 use Rattle.walk.specs.declared.parts.FieldSet.{FieldSet}
 use Rattle.walk.specs.declared.parts.FieldSet.the-variants as field
@@ -72,7 +72,7 @@ pub record PartWithin (at : ℕ) (c : parts.Part) : Type 0 where
 pub record FieldWhole (F : Font) (s : Style) (enlarge : Bool) (f : Field) (at end : ℕ) (c : parts.Part) : Type 0 where
   pub present : missingField F s enlarge at f ≡ none
   pub end-is : c .end ≡ end
-  pub large-is : c .run .large ≡ not (fieldFits F s f)
+  pub large-is : isLarge (c .run) ≡ not (fieldFits F s f)
   pub small : PartWithin at c
   pub is : fieldFits F s f ≡ true → PartIs (setField F s enlarge f) c
 
@@ -123,7 +123,7 @@ pub record ExtendedLine (l : lines.Line) (class : Class) (x : ℤ) (z : CodeSize
 -- a whole line as a field that ends at a place: the list that it stands for, if that fits
 pub record ListPart (end : ℕ) (l : lines.Line) (c : parts.Part) : Type 0 where
   pub end-is : c .end ≡ end
-  pub large-is : c .run .large ≡ not (lineFits l)
+  pub large-is : isLarge (c .run) ≡ not (lineFits l)
   pub shape : ModerateShape (c .shape)
   pub count : c .run .count ≤ l .run .count
   pub hull : HullWithin greatestLength (hullOf (c .run))
@@ -152,7 +152,7 @@ pub record MoveGiven (before part : Run) (x : ℤ) (p : CodePlace) : Type 0 wher
 
 pub record FieldMoved (before part : Run) (x : ℤ) (p : Place) (r : Run) (b b′ : List ℕ) : Type 0 where
   pub count-is : r .count ≡ before .count + part .count
-  pub large-is : r .large ≡ (before .large || part .large)
+  pub large-is : isLarge r ≡ (isLarge before || isLarge part)
   pub hull-is : hullOf r ≡ joined (hullOf before) (movedHull (x +ℤ p .across) (p .up) (hullOf part))
   pub buffer-is : b′ ≡ behindNodes (before .count) (movedFront (x +ℤ p .across) (p .up) (part .count)) b
 
@@ -168,7 +168,7 @@ pub record RulesGiven (before : Run) (own : Ruling) (x : ℤ) : Type 0 where
 
 pub record RulesPut (before : Run) (rs : List Rule) (x : ℤ) (r : Run) (b b′ : List ℕ) : Type 0 where
   pub count-is : r .count ≡ before .count + length rs
-  pub large-is : r .large ≡ before .large
+  pub large-is : isLarge r ≡ isLarge before
   pub hull-is : hullOf r ≡ joined (hullOf before) (hull (moved x (pos 0) (ruleNodes rs)))
   pub buffer-is : b′ ≡ rulesPut x (before .count) rs b
 
@@ -220,7 +220,7 @@ pub record PutGiven (x : ℤ) (A : CodeArranged) (a b c : Run) : Type 0 where
 
 pub record ItemPut (x : ℤ) (A : Arranged) (a b c r : Run) (v v′ : List ℕ) : Type 0 where
   pub count-is : r .count ≡ itemCount x A (a .count) (b .count) (c .count)
-  pub large-is : r .large ≡ (a .large || b .large || c .large)
+  pub large-is : isLarge r ≡ (isLarge a || isLarge b || isLarge c)
   pub hull-is : hullOf r ≡ itemHull x A (hullOf a) (hullOf b) (hullOf c)
   pub buffer-is : v′ ≡ itemBuffer x A (a .count) (b .count) (c .count) v
 
@@ -243,7 +243,7 @@ pub record Finished (P : Parameters) (s : Style) (kind : Kind) (right : Neighbou
   pub left-is : r .left ≡ Atom class
   pub size-is : sizeAs (r .size) ≡ besideSize x (sizeAs (l .size)) (arranged .size)
   pub count-is : r .run .count ≡ l .run .count + itemCount x arranged (a .run .count) (b .run .count) (c .run .count)
-  pub large-is : r .run .large ≡ (l .run .large || (a .run .large || b .run .large || c .run .large))
+  pub large-is : isLarge (r .run) ≡ (isLarge (l .run) || (isLarge (a .run) || isLarge (b .run) || isLarge (c .run)))
   pub hull-is : hullOf (r .run) ≡ joined (hullOf (l .run)) (itemHull x arranged (hullOf (a .run)) (hullOf (b .run)) (hullOf (c .run)))
   pub buffer-is : v′ ≡ itemBuffer x arranged (a .run .count) (b .run .count) (c .run .count) v
   pub grows : (k n : ℕ) → LineWithin k l → 5 ≤ n → itemCount x arranged (a .run .count) (b .run .count) (c .run .count) ≤ n → LineWithin (k + n) r
@@ -278,7 +278,7 @@ pub record FieldGiven (t : List ℕ) (p : List (List ℕ)) (s : List ℕ) (at : 
 -- what was set of so many bytes has gone behind the line l, which is now r, and into the buffer; M is the line that the
 -- definition makes of it behind l without nodes
 pub record Added (fits : Bool) (M : Line) (bytes : ℕ) (l : lines.Line) (b : List ℕ) (r : lines.Line) (b′ : List ℕ) : Type 0 where
-  pub large-is : r .run .large ≡ (l .run .large || not fits)
+  pub large-is : isLarge (r .run) ≡ (isLarge (l .run) || not fits)
   pub more : l .run .count ≤ r .run .count
   pub grows : (k : ℕ) → LineWithin k l → LineWithin (k + bytes) r
   pub left-is : fits ≡ true → neighbourAs (r .left) ≡ M .left
@@ -307,7 +307,7 @@ ItemDone F s beyond bytes line b r b′ =
 -- a list at its own reference point
 pub record ListWhole (F : Font) (s : Style) (l : Items) (bytes : ℕ) (c : lines.Line) : Type 0 where
   pub present : missingItems F s l ≡ none
-  pub large-is : c .run .large ≡ not (itemsFit F s l)
+  pub large-is : isLarge (c .run) ≡ not (itemsFit F s l)
   pub count : c .run .count ≤ bytes
   pub size-is : itemsFit F s l ≡ true → sizeAs (c .size) ≡ setList F s l .size
   pub run-is : itemsFit F s l ≡ true → RunIs (setList F s l .nodes) (c .run)

@@ -20,7 +20,7 @@ use Rattle.nodes.specs.Bounds.{nodesFit}
 use Rattle.nodes.specs.Drawn.{Drawn}
 use Rattle.nodes.specs.Hull.{hull, hullFits, joined}
 use Rattle.nodes.specs.HullLaws.{fits-hull}
-use Rattle.nodes.specs.Runs.{hullOf, RunIs}
+use Rattle.nodes.specs.Runs.{hullOf, isLarge, RunIs}
 use Rattle.walk.specs.declared.lines.Line as lines
 use Rattle.walk.specs.declared.lists.ItemsSet.{ItemsSet}
 use Rattle.walk.specs.declared.lists.ItemsSet.the-variants as items
@@ -46,12 +46,12 @@ line-fits {F} {s} {l} {c = c} w = go (itemsFit F s l) refl
 
     go : (t : Bool) → itemsFit F s l ≡ t → lineFits c ≡ (sizeFits (b .size) && nodesFit (b .nodes) && itemsFit F s l)
     go true e =
-        let small : c .run .large ≡ false = w .large-is ∙ ap not e in
+        let small : isLarge (c .run) ≡ false = w .large-is ∙ ap not e in
         let reach : hullFits (hullOf (c .run)) ≡ nodesFit (b .nodes) = ap hullFits (w .run-is e .hull-is) ∙ sym (fits-hull (b .nodes)) in
         let size : sizeFits (sizeAs (c .size)) ≡ sizeFits (b .size) = ap sizeFits (w .size-is e) in
         rw (small, reach, size, e) (turned (nodesFit (b .nodes)) (sizeFits (b .size)))
     go false e =
-        let large : c .run .large ≡ true = w .large-is ∙ ap not e in
+        let large : isLarge (c .run) ≡ true = w .large-is ∙ ap not e in
         rw (large, e) (sym (and-false (sizeFits (b .size) && nodesFit (b .nodes))))
 
 -- ---- an empty line

@@ -6,7 +6,7 @@ ghost use Rattle.scaled.specs.Signed.{Within};
 ghost use Rattle.formula.specs.Heads.{greatestKern};
 ghost use Rattle.rules.specs.Values.{sizeAs};
 ghost use Rattle.nodes.specs.Hull.{hullFits};
-ghost use Rattle.nodes.specs.Runs.{hullOf};
+ghost use Rattle.nodes.specs.Runs.{hullOf, isLarge};
 ghost use Rattle.walk.specs.Fitting.{sizeFits};
 ghost use Rattle.walk.specs.Bounds.{longest, LineWithin};
 ghost use Rattle.walk.specs.Walked.{StartLine, KernedLine, ItemGoes, ExtendedLine, ListPart, SizesGo, SizesBeside};
@@ -80,7 +80,7 @@ pub fn extended(line: Line, class: Class, x: Sp, size: Size, run: Run) -> Line
 
 // Whether the list keeps within the greatest length, and so do all in it.
 pub fn list_fits(line: Line) -> bool
-    ensures { λ r. ⌜ r ≡ ((not (line .run .large) && hullFits (hullOf (line .run))) && sizeFits (sizeAs (line .size))) ⌝ }
+    ensures { λ r. ⌜ r ≡ ((not (isLarge (line .run)) && hullFits (hullOf (line .run))) && sizeFits (sizeAs (line .size))) ⌝ }
 {
     let run = line.run;
     if !run.fits() {

@@ -11,7 +11,7 @@ use Rattle.rules.specs.Spacing.{spaceBefore}
 use Rattle.rules.specs.Values.{parametersIn, neighbourAs, arrangedAs}
 use Rattle.rules.specs.Bounds.{words}
 use Rattle.nodes.specs.Hull.{Hull, joined}
-use Rattle.nodes.specs.Runs.{hullOf}
+use Rattle.nodes.specs.Runs.{hullOf, isLarge}
 use Rattle.walk.specs.Bounds.{longest, stride}
 use Rattle.walk.specs.Walked.{itemCount}
 use Rattle.walk.proofs.ItemLaws.{few-rules, item-grows}
@@ -93,7 +93,7 @@ returns c =
       left-is = e .left-is;
       size-is = e .size-is;
       count-is = counts;
-      large-is = e .run-is .large-is ∙ ap (λ (t : Bool). a .line .run .large || t) (put .large-is);
+      large-is = e .run-is .large-is ∙ ap (λ (t : Bool). isLarge (a .line .run) || t) (put .large-is);
       hull-is = hulls;
       buffer-is = put .buffer-is;
       grows =

@@ -11,7 +11,7 @@ use Rattle.rules.specs.Values.{rulingAs, arrangedAs}
 use Rattle.nodes.specs.Nodes.{moved}
 use Rattle.nodes.specs.Buffer.{movedFront, behindNodes}
 use Rattle.nodes.specs.Hull.{Hull, joined, movedHull, hull}
-use Rattle.nodes.specs.Runs.{hullOf}
+use Rattle.nodes.specs.Runs.{hullOf, isLarge}
 use Rattle.walk.specs.Setting.{ruleNodes}
 use Rattle.walk.specs.Walked.{rulesPut}
 use Rattle.walk.proofs.ItemLaws.{few-rules}
@@ -109,11 +109,11 @@ returns c =
     let h₁ = first .hull-is ∙ ap (λ (h : Hull). joined h (movedHull (x +ℤ A .first .across) (A .first .up) (hullOf (start .args .a)))) h₀ in
     let h₂ = owned .hull-is ∙ ap (λ (h : Hull). joined h (hull (moved x (pos 0) (ruleNodes (A .own .behind))))) h₁ in
     let h₃ = second .hull-is ∙ ap (λ (h : Hull). joined h (movedHull (x +ℤ A .second .across) (A .second .up) (hullOf (start .args .b)))) h₂ in
-    let l₁ = first .large-is ∙ ap (λ (t : Bool). t || start .args .a .large) (ahead .large-is ∙ none-there .large-is) in
-    let l₃ = second .large-is ∙ ap (λ (t : Bool). t || start .args .b .large) (owned .large-is ∙ l₁) in
+    let l₁ = first .large-is ∙ ap (λ (t : Bool). t || isLarge (start .args .a)) (ahead .large-is ∙ none-there .large-is) in
+    let l₃ = second .large-is ∙ ap (λ (t : Bool). t || isLarge (start .args .b)) (owned .large-is ∙ l₁) in
     record {
       count-is = omega arith;
-      large-is = third .large-is ∙ ap (λ (t : Bool). t || start .args .c .large) l₃;
+      large-is = third .large-is ∙ ap (λ (t : Bool). t || isLarge (start .args .c)) l₃;
       hull-is = third .hull-is ∙ ap (λ (h : Hull). joined h (movedHull (x +ℤ A .third .across) (A .third .up) (hullOf (start .args .c)))) h₃;
       buffer-is = third .buffer-is ∙ ap₂ (λ (n : ℕ) (b : List ℕ). behindNodes n (movedFront (x +ℤ A .third .across) (A .third .up) k) b) at₄ b₃;
     }

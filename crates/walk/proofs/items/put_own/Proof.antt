@@ -10,7 +10,7 @@ use Rattle.nodes.specs.Nodes.{Node, rule, moved, movedNode}
 use Rattle.nodes.specs.Buffer.{put, behindNodes}
 use Rattle.nodes.specs.Hull.{joined, hull}
 use Rattle.nodes.specs.HullLaws.{join-none, hull-node}
-use Rattle.nodes.specs.Runs.{hullOf}
+use Rattle.nodes.specs.Runs.{hullOf, isLarge}
 use Rattle.walk.specs.Setting.{ruleNode, ruleNodes}
 use Rattle.walk.specs.Walked.{rulesPut}
 use Rattle.walk.proofs.ItemLaws.{rule-moved}
@@ -71,7 +71,7 @@ returns-2 c =
     rw (arm .own .given .1)
     (record {
       count-is = omega (arith, c .joined .ensures .count-is);
-      large-is = c .joined .ensures .large-is ∙ rw (point .large-is) (or-false (before .large));
+      large-is = c .joined .ensures .large-is ∙ rw (point .large-is) (or-false (isLarge before));
       hull-is = c .joined .ensures .hull-is ∙ ap (joined (hullOf before)) (point .hull-is ∙ rw at (sym (hull-node n)) ∙ ap (λ (m : Node). hull (m ∷ [])) (sym node));
       buffer-is = c .before .before .before .before .put-rule .ensures ∙ rw at (ap (λ (m : Node). behindNodes (before .count) (put m) (start .args .buf .now)) (sym node));
     })

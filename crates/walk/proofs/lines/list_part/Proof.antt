@@ -10,7 +10,7 @@ use Rattle.nodes.specs.declared.run.Run.{Run}
 use Rattle.nodes.specs.Bounds.{within}
 use Rattle.nodes.specs.Hull.{hullFits}
 use Rattle.nodes.specs.HullLaws.{within-true, fits-within}
-use Rattle.nodes.specs.Runs.{hullOf, LargeRun}
+use Rattle.nodes.specs.Runs.{hullOf, isLarge, LargeRun}
 use Rattle.walk.specs.declared.lines.Line as lines
 use Rattle.walk.specs.Fitting.{sizeFits}
 use Rattle.walk.specs.Values.{lineFits}
@@ -23,8 +23,8 @@ module _ (end : ℕ) (l : lines.Line) where
   list-whole : lineFits l ≡ true → ListPart end l (record { end = end; shape = Box (l .size); run = l .run })
   list-whole e =
       let z = l .size in
-      let both = and-eq-true-iff (not (l .run .large) && hullFits (hullOf (l .run))) (sizeFits (sizeAs z)) .0 e in
-      let reach = and-eq-true-iff (not (l .run .large)) (hullFits (hullOf (l .run))) .0 (both .0) in
+      let both = and-eq-true-iff (not (isLarge (l .run)) && hullFits (hullOf (l .run))) (sizeFits (sizeAs z)) .0 e in
+      let reach = and-eq-true-iff (not (isLarge (l .run))) (hullFits (hullOf (l .run))) .0 (both .0) in
       let size = and-eq-true-iff (within (z .width .0) && within (z .height .0)) (within (z .depth .0)) .0 (both .1) in
       let sides = and-eq-true-iff (within (z .width .0)) (within (z .height .0)) .0 (size .0) in
       let width = within-true (z .width .0) (sides .0) in
@@ -32,7 +32,7 @@ module _ (end : ℕ) (l : lines.Line) where
       let depth = within-true (z .depth .0) (size .1) in
       record {
         end-is = refl;
-        large-is = not-large (l .run .large) (reach .0) ∙ ap not (sym e);
+        large-is = not-large (isLarge (l .run)) (reach .0) ∙ ap not (sym e);
         shape = record { width = omega arith; height = omega arith; depth = omega arith };
         count = omega arith;
         hull = fits-within (hullOf (l .run)) (reach .1);

@@ -9,19 +9,24 @@ use Rattle.nodes.proofs.RunCases.{some-count, of-none, of-some}
 use Rattle.nodes.proofs.run.Run.joined.Statement.{statement}
 use Rattle.nodes.proofs.run.Run.joined.Tie as tie
 
+either-requires : tie.Need-either-requires
+either-requires c κs = search needs
+
 returns : tie.Need-returns
 unfolding joined
 returns c =
-    let a = c .before .before .before .before .args in
-    record { count-is = omega arith; large-is = refl; hull-is = rw (of-none (a .self) (c .if1 .taken)) }
+    let either = c .before .before in
+    let a = either .before .args in
+    record { count-is = omega arith; large-is = either .either .ensures; hull-is = rw (of-none (a .self) (c .if1 .taken)) }
 
 returns-2 : tie.Need-returns-2
 unfolding joined
 returns-2 c =
     let past-self = c .before .before in
-    let a = past-self .before .before .before .before .args in
+    let either = past-self .before .before in
+    let a = either .before .args in
     let self = of-some (a .self) (past-self .if1 .left) in
-    record { count-is = omega arith; large-is = refl; hull-is = rw (self, of-none (a .o) (c .if2 .taken)) }
+    record { count-is = omega arith; large-is = either .either .ensures; hull-is = rw (self, of-none (a .o) (c .if2 .taken)) }
 
 add-t5 : tie.Need-add-t5
 add-t5 c = search needs
@@ -46,13 +51,14 @@ returns-3 c =
     let left = right .before in
     let past-o = left .before .before .before in
     let past-self = past-o .before .before in
-    let a = past-self .before .before .before .before .args in
+    let either = past-self .before .before in
+    let a = either .before .args in
     let self = of-some (a .self) (past-self .if1 .left) in
     let o = of-some (a .o) (past-o .if2 .left) in
     let ends = around (left .min .result .0) (right .max .result .0) (bottom .min2 .result .0) (c .max2 .result .0) in
     record {
       count-is = refl;
-      large-is = refl;
+      large-is = either .either .ensures;
       hull-is =
           some-count (a .self .count + a .o .count) ends (λ e. past-self .if1 .left (omega arith))
           ∙ rw (self, o, left .min .ensures .is, right .max .ensures .is, bottom .min2 .ensures .is, c .max2 .ensures .is);
@@ -62,6 +68,7 @@ pub joined-spec : {M : Type 1} → statement M
 joined-spec =
     tie.close
     (tie.spec
+    either-requires
     returns
     returns-2
     add-t5
