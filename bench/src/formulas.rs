@@ -1,4 +1,4 @@
-//! The formulas that are timed, over letters that both tables have.
+//! The formulas that are set, over letters that both tables have.
 
 use reference::compose::{atom, fraction, kern, list, symbol, EMPTY};
 

@@ -1,0 +1,103 @@
+//! The table of stack: how many bytes of it a call of the library takes.
+//!
+//! The call runs on a stack of its own, painted before; the lowest word whose
+//! colour changed shows how far down it wrote. Written for x86-64, as is the
+//! archive that is linked.
+
+use crate::figures::grouped;
+use crate::formulas::nested;
+use crate::rows::{BENCH, DEEPEST, LONGEST};
+use crate::work::{room, Call, DISPLAY};
+use std::arch::asm;
+use torfianka::sys;
+
+/// Aligned as a call wants it.
+#[repr(align(16))]
+struct Stack([usize; STACK_WORDS]);
+
+const STACK_WORDS: usize = 1 << 16;
+/// A word that is written differs from one of them at least.
+const COLOURS: [usize; 2] = [0, !0];
+/// The first arguments of a call go in registers, the others on the stack.
+const IN_REGISTERS: usize = 6;
+
+pub fn print() {
+    println!("| call | bytes at depth 1 | at depth {DEEPEST} | each depth more |");
+    println!("|---|--:|--:|--:|");
+    for call in [Call::Measure, Call::Set] {
+        let [flat, deep] = [1, DEEPEST].map(|depth| stack_bytes(call, depth));
+        println!(
+            "| {call:?} | {} | {} | {} |",
+            grouped(flat as f64),
+            grouped(deep as f64),
+            grouped((deep - flat) as f64 / (DEEPEST - 1) as f64)
+        );
+    }
+}
+
+/// What a formula of this depth takes: the call's frames and its return address;
+/// its arguments are the caller's.
+fn stack_bytes(call: Call, depth: usize) -> usize {
+    let table = BENCH.table;
+    let formula = nested(&BENCH.alphabet, LONGEST, depth);
+    let mut nodes = vec![0; room(table, std::slice::from_ref(&formula))];
+    let mut answer = [0; sys::ANSWER_WORDS];
+
+    let lent = [
+        DISPLAY as usize,
+        table.as_ptr() as usize,
+        table.len(),
+        formula.as_ptr() as usize,
+        formula.len(),
+    ];
+    let buffer = [nodes.as_mut_ptr() as usize, nodes.len()];
+    let words = [answer.as_mut_ptr() as usize, answer.len()];
+    let (function, arguments) = match call {
+        Call::Measure => (
+            sys::torfianka_measure as *const (),
+            [&lent[..], &words].concat(),
+        ),
+        Call::Set => (
+            sys::torfianka_set as *const (),
+            [&lent[..], &buffer, &words].concat(),
+        ),
+    };
+    // SAFETY: the arguments are the function's own, in its order; every pointer
+    // is a slice's, with that slice's length.
+    let words = COLOURS.map(|colour| unsafe { painted_over(colour, function, &arguments) });
+    size_of::<usize>() * words[0].max(words[1])
+}
+
+/// Calls the function on a stack of this colour and counts the words down to the
+/// lowest that it wrote.
+///
+/// # Safety
+///
+/// As for a call of the function with these arguments.
+unsafe fn painted_over(colour: usize, function: *const (), arguments: &[usize]) -> usize {
+    let (registers, pushed) = arguments.split_at(IN_REGISTERS);
+    let top = STACK_WORDS - pushed.len().next_multiple_of(2);
+    let mut stack = Stack([colour; STACK_WORDS]);
+    stack.0[top..][..pushed.len()].copy_from_slice(pushed);
+    let number: u8;
+    asm!(
+        "mov r12, rsp",
+        "mov rsp, {top}",
+        "call {function}",
+        "mov rsp, r12",
+        top = in(reg) &raw mut stack.0[top],
+        function = in(reg) function,
+        in("rdi") registers[0],
+        in("rsi") registers[1],
+        in("rdx") registers[2],
+        in("rcx") registers[3],
+        in("r8") registers[4],
+        in("r9") registers[5],
+        lateout("al") number,
+        out("r12") _,
+        clobber_abi("C"),
+    );
+    assert_eq!(number, 0, "the formula is accepted");
+    let untouched = stack.0.iter().take_while(|word| **word == colour);
+    top - untouched.count()
+}

@@ -1,0 +1,99 @@
+//! The tables of times.
+
+use crate::figures::grouped;
+use crate::formulas::{flat, typical, PHRASE_BYTES};
+use crate::rows::{row, Font, BENCH, FONTS, LONGEST, ROWS};
+use crate::timing::Job;
+use crate::work::{Call, Work};
+
+const ROUNDS: usize = 25;
+/// So many rounds are between two lines of progress.
+const SILENT_ROUNDS: usize = 5;
+
+/// Every round times all jobs, so that a slow spell of the machine meets all.
+pub fn print() {
+    let mut sections = [speed_jobs(), share_jobs(), growth_jobs()];
+    for round in 1..=ROUNDS {
+        sections.iter_mut().flatten().for_each(Job::round);
+        if round % SILENT_ROUNDS == 0 {
+            eprintln!("times: {round} of {ROUNDS} rounds");
+        }
+    }
+    let [speeds, shares, growth] = sections;
+    print_speeds(&speeds);
+    println!();
+    print_shares(&shares);
+    println!();
+    print_growth(&growth);
+}
+
+fn speed_jobs() -> Vec<Job> {
+    (0..ROWS).map(row).map(Job::new).collect()
+}
+
+fn print_speeds(jobs: &[Job]) {
+    println!("| formulas | table | call | library, formulas/s | reference, formulas/s | library/reference |");
+    println!("|---|---|---|--:|--:|--:|");
+    for job in jobs {
+        println!(
+            "| {} | {} | {} | {:.2} |",
+            job.work.name,
+            grouped(1e9 / job.library()),
+            grouped(1e9 / job.reference()),
+            job.speed_ratio()
+        );
+    }
+}
+
+/// For each table the empty formula, then the typical ones.
+fn share_jobs() -> Vec<Job> {
+    let over = |font: &'static Font| {
+        [vec![Vec::new()], typical(&font.alphabet)]
+            .map(|formulas| Job::new(Work::new(font.name, Call::Set, font.table, formulas)))
+    };
+    FONTS.into_iter().flat_map(over).collect()
+}
+
+fn print_shares(jobs: &[Job]) {
+    println!("| table | share of checking it, library | reference |");
+    println!("|---|--:|--:|");
+    for [empty, whole] in jobs.as_chunks().0 {
+        println!(
+            "| {} | {:.0}% | {:.0}% |",
+            whole.work.name,
+            100.0 * empty.library() / whole.library(),
+            100.0 * empty.reference() / whole.reference()
+        );
+    }
+}
+
+/// The lengths that are timed: nothing, then from one phrase by doubling.
+fn lengths() -> impl Iterator<Item = usize> {
+    let doubled = std::iter::successors(Some(PHRASE_BYTES), |bytes| Some(2 * bytes));
+    std::iter::once(0).chain(doubled.take_while(|bytes| *bytes <= LONGEST))
+}
+
+fn growth_jobs() -> Vec<Job> {
+    let job = |bytes: usize| {
+        let formula = flat(&BENCH.alphabet, bytes);
+        let name = grouped(bytes as f64);
+        Job::new(Work::new(name, Call::Set, BENCH.table, vec![formula]))
+    };
+    lengths().map(job).collect()
+}
+
+/// The empty formula's time, which is the table's, is taken off.
+fn print_growth(jobs: &[Job]) {
+    println!("| bytes, flat, bench.tab | library, ns a byte | reference, ns a byte | library/reference |");
+    println!("|--:|--:|--:|--:|");
+    let empty = &jobs[0];
+    for (job, bytes) in jobs.iter().zip(lengths()).skip(1) {
+        println!(
+            "| {} | {:.2} | {:.2} | {:.2} |",
+            job.work.name,
+            (job.library() - empty.library()) / bytes as f64,
+            (job.reference() - empty.reference()) / bytes as f64,
+            job.speed_ratio()
+        );
+    }
+}
