@@ -30,7 +30,7 @@ use Rattle.nodes.specs.Hull.{Hull, none, hull, joined, movedHull, HullWithin}
 use Rattle.nodes.specs.HullLaws.{hull-append, hull-moved, join-within, moved-within, within-more}
 use Rattle.nodes.specs.Runs.{hullOf}
 use Rattle.walk.specs.declared.lines.Line as lines
-use Rattle.walk.specs.Setting.{Part, ruleNode, ruleNodes, itemNodes}
+use Rattle.setting.specs.Setting.{Part, ruleNode, ruleNodes, itemNodes}
 use Rattle.walk.specs.Bounds.{stride, LineWithin}
 use Rattle.walk.specs.Walked.{besideSize, rulesPut, itemCount, itemBuffer, itemHull}
 

@@ -41,10 +41,10 @@ use Rattle.walk.specs.declared.lines.Line as lines
 use Rattle.walk.specs.declared.lists.ItemsSet.the-variants as items
 use Rattle.walk.specs.declared.lists.Step.{Step}
 use Rattle.walk.specs.declared.lists.Step.the-variants as steps
-use Rattle.walk.specs.Setting.{Line, nextClass, setItem, setItems}
-use Rattle.walk.specs.Missing.{_orElse_, later, missingItem, missingItems}
-use Rattle.walk.specs.Fitting.{itemFits, itemsFit}
-use Rattle.walk.specs.FieldInPlace.{behind, sized, setItem-behind}
+use Rattle.setting.specs.Setting.{Line, nextClass, setItem, setItems}
+use Rattle.setting.specs.Missing.{_orElse_, later, missingItem, missingItems}
+use Rattle.setting.specs.Fitting.{itemFits, itemsFit}
+use Rattle.setting.specs.FieldInPlace.{behind, sized, setItem-behind}
 use Rattle.walk.specs.Values.{bareLine}
 use Rattle.walk.specs.Bounds.{longest, stride, LineWithin}
 use Rattle.walk.specs.Walked.{KernedLine, Added, ItemsGiven, ItemsDone, StepDone, ItemDone}

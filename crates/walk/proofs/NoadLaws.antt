@@ -41,9 +41,9 @@ use Rattle.walk.specs.declared.parts.FieldSet.the-variants as field
 use Rattle.walk.specs.declared.lines.Line as lines
 use Rattle.walk.specs.declared.lists.Step.{Step}
 use Rattle.walk.specs.declared.lists.Step.the-variants as step
-use Rattle.walk.specs.Setting.{Part, nextClass, itemNodes, itemBox, placed, setField, setItem}
-use Rattle.walk.specs.Missing.{_orElse_, missingField, missingItem}
-use Rattle.walk.specs.Fitting.{fieldFits, itemFits}
+use Rattle.setting.specs.Setting.{Part, nextClass, itemNodes, itemBox, placed, setField, setItem}
+use Rattle.setting.specs.Missing.{_orElse_, missingField, missingItem}
+use Rattle.setting.specs.Fitting.{fieldFits, itemFits}
 use Rattle.walk.specs.Values.{bareLine}
 use Rattle.walk.specs.Bounds.{longest, LineWithin}
 use Rattle.walk.specs.Walked.{EmptyPart, PartWithin, FieldWhole, FieldDone, HeadDone, ChangesAlike, FinishGiven, Finished, Added, StepDone, ItemDone, besideSize, itemCount, itemBuffer}

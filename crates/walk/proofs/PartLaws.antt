@@ -32,9 +32,9 @@ use Rattle.walk.specs.declared.parts.Part as parts
 use Rattle.walk.specs.declared.parts.FieldSet.the-variants.{Whole, Missing}
 use Rattle.walk.specs.declared.lines.Line as lines
 use Rattle.walk.specs.declared.lists.ItemsSet.the-variants as items
-use Rattle.walk.specs.Setting.{Part, symbolIn, symbolPart, setField, setList}
-use Rattle.walk.specs.Missing.{later, absentAt, missingField, missingItems}
-use Rattle.walk.specs.Fitting.{fieldFits, itemsFit, boxFits}
+use Rattle.setting.specs.Setting.{Part, symbolIn, symbolPart, setField, setList}
+use Rattle.setting.specs.Missing.{later, absentAt, missingField, missingItems}
+use Rattle.setting.specs.Fitting.{fieldFits, itemsFit, boxFits}
 use Rattle.walk.specs.Values.{symbolAs, lineFits}
 use Rattle.walk.specs.Walked.{EmptyPart, FieldDone, ListDone, ListPart}
 use Rattle.walk.specs.WalkedLaws.{line-fits}

@@ -49,9 +49,9 @@ use Rattle.walk.specs.declared.lists.ItemsSet.{ItemsSet}
 use Rattle.walk.specs.declared.lists.ItemsSet.the-variants as items
 use Rattle.walk.specs.declared.lists.Step.{Step}
 use Rattle.walk.specs.declared.lists.Step.the-variants as step
-use Rattle.walk.specs.Setting.{Line, ruleNode, ruleNodes, nextClass, setField, setItem, setItems, setList}
-use Rattle.walk.specs.Missing.{missingField, missingItem, missingItems}
-use Rattle.walk.specs.Fitting.{fieldFits, itemFits, itemsFit}
+use Rattle.setting.specs.Setting.{Line, ruleNode, ruleNodes, nextClass, setField, setItem, setItems, setList}
+use Rattle.setting.specs.Missing.{missingField, missingItem, missingItems}
+use Rattle.setting.specs.Fitting.{fieldFits, itemFits, itemsFit}
 use Rattle.walk.specs.Values.{PartIs, bareLine, lineFits}
 use Rattle.walk.specs.Bounds.{longest, LineWithin}
 

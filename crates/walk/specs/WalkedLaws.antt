@@ -24,8 +24,8 @@ use Rattle.nodes.specs.Runs.{hullOf, RunIs}
 use Rattle.walk.specs.declared.lines.Line as lines
 use Rattle.walk.specs.declared.lists.ItemsSet.{ItemsSet}
 use Rattle.walk.specs.declared.lists.ItemsSet.the-variants as items
-use Rattle.walk.specs.Setting.{Box, Line, start, setItems, setList}
-use Rattle.walk.specs.Fitting.{sizeFits, boxFits, itemsFit}
+use Rattle.setting.specs.Setting.{Box, Line, start, setItems, setList}
+use Rattle.setting.specs.Fitting.{sizeFits, boxFits, itemsFit}
 use Rattle.walk.specs.Values.{bareLine, lineFits}
 use Rattle.walk.specs.Bounds.{LineWithin}
 use Rattle.walk.specs.Walked.{StartLine, ItemsDone, ListWhole, ListDone}

@@ -11,7 +11,7 @@ use Rattle.nodes.specs.Buffer.{put, behindNodes}
 use Rattle.nodes.specs.Hull.{joined, hull}
 use Rattle.nodes.specs.HullLaws.{join-none, hull-node}
 use Rattle.nodes.specs.Runs.{hullOf}
-use Rattle.walk.specs.Setting.{ruleNode, ruleNodes}
+use Rattle.setting.specs.Setting.{ruleNode, ruleNodes}
 use Rattle.walk.specs.Walked.{rulesPut}
 use Rattle.walk.proofs.ItemLaws.{rule-moved}
 use borrow.Author.Needs.{needs}

@@ -12,7 +12,7 @@ use Rattle.nodes.specs.Hull.{hullFits}
 use Rattle.nodes.specs.HullLaws.{within-true, fits-within}
 use Rattle.nodes.specs.Runs.{hullOf, LargeRun}
 use Rattle.walk.specs.declared.lines.Line as lines
-use Rattle.walk.specs.Fitting.{sizeFits}
+use Rattle.setting.specs.Fitting.{sizeFits}
 use Rattle.walk.specs.Values.{lineFits}
 use Rattle.walk.specs.Walked.{ListPart}
 use borrow.Author.Needs.{needs}

@@ -25,7 +25,7 @@ use Rattle.rules.specs.Values.{neighbourAs}
 use Rattle.walk.specs.declared.parts.FieldSet.{FieldSet}
 use Rattle.walk.specs.declared.parts.FieldSet.the-variants as field
 use Rattle.walk.specs.declared.lists.Step.{Step}
-use Rattle.walk.specs.Missing.{missingItems}
+use Rattle.setting.specs.Missing.{missingItems}
 use Rattle.walk.specs.Bounds.{longest}
 use Rattle.walk.specs.Walked.{HeadDone, ItemDone}
 use Rattle.walk.proofs.PlaceLaws.{tail-given, right-alike}

@@ -10,7 +10,7 @@ use Rattle.formula.specs.Tree.{Items, Item, Field, nil, cons, noad, kern, empty
 use Rattle.rules.specs.declared.Style.{Style}
 use Rattle.rules.specs.Styles.{fontSize}
 use Rattle.rules.specs.Arrange.{firstStyle, secondStyle, thirdStyle, enlarges}
-use Rattle.walk.specs.Setting.{Symbol, symbolIn}
+use Rattle.setting.specs.Setting.{Symbol, symbolIn}
 
 -- the earlier of two places, where the first stands earlier in the formula
 abbrev pub _orElse_ : Option ℕ → Option ℕ → Option ℕ

@@ -13,10 +13,10 @@ use Rattle.formula.specs.declared.Kind.{Kind}
 use Rattle.formula.specs.Tree.{Items, Field, nil, cons, noad, list, openingBytes, itemBytes, fieldBytes}
 use Rattle.rules.specs.declared.Style.{Style}
 use Rattle.rules.specs.Arrange.{firstStyle, secondStyle, thirdStyle, enlarges}
-use Rattle.walk.specs.Setting.{setList}
-use Rattle.walk.specs.Missing.{_orElse_, later, missingItems, missingItem, missingField}
-use Rattle.walk.specs.Fitting.{boxFits, itemsFit, itemFits, fieldFits, listFits}
-use Rattle.walk.specs.Paths.{Arm, inFirst, inSecond, inThird, holding, fieldStyle, join, listWith, Path, whole, into, fill, styleAt}
+use Rattle.setting.specs.Setting.{setList}
+use Rattle.setting.specs.Missing.{_orElse_, later, missingItems, missingItem, missingField}
+use Rattle.setting.specs.Fitting.{boxFits, itemsFit, itemFits, fieldFits, listFits}
+use Rattle.setting.specs.Paths.{Arm, inFirst, inSecond, inThird, holding, fieldStyle, join, listWith, Path, whole, into, fill, styleAt}
 
 -- ---- answer 5
 

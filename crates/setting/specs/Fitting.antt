@@ -8,7 +8,7 @@ use Rattle.rules.specs.declared.Style.{Style}
 use Rattle.rules.specs.Boxes.{Size}
 use Rattle.rules.specs.Arrange.{firstStyle, secondStyle, thirdStyle}
 use Rattle.nodes.specs.Bounds.{within, nodesFit}
-use Rattle.walk.specs.Setting.{Box, setList}
+use Rattle.setting.specs.Setting.{Box, setList}
 
 abbrev pub sizeFits : Size → Bool
 sizeFits z = within (z .width) && within (z .height) && within (z .depth)
