@@ -4,7 +4,7 @@
 --     list-whole, list-missing         a list, from what the list comes to
 -- Assumes nothing.
 use mathlib.Core.Path.{_≡_, refl, sym, ap, subst, _∙_}
-use mathlib.Core.Bool.{Bool, true, false}
+use mathlib.Core.Bool.{Bool, true, false, and-eq-true-iff}
 use mathlib.Core.List.{List, [], _∷_}
 use mathlib.Core.Option.{Option, none, some}
 use Prim.Native.Nat.{ℕ, _+_, _≤_, _<_}
@@ -38,7 +38,6 @@ use Rattle.setting.specs.Fitting.{fieldFits, itemsFit, boxFits}
 use Rattle.walk.specs.Values.{symbolAs, lineFits}
 use Rattle.walk.specs.Walked.{EmptyPart, FieldDone, ListDone, ListPart}
 use Rattle.walk.specs.WalkedLaws.{line-fits}
-use Rattle.walk.proofs.Tests.{and-right}
 
 module _ (F : Font) (s : Style) (enlarge : Bool) (at end : ℕ) (b : List ℕ) where
   pub field-empty : (c : parts.Part) → at ≤ end → EmptyPart end c → FieldDone F s enlarge empty at end b (Whole c) b
@@ -96,7 +95,7 @@ module _ (F : Font) (s : Style) (enlarge : Bool) (at end : ℕ) (b : List ℕ) w
     unfolding missingField fieldFits setField setList later
     list-whole line c (w, drawn) p =
         let fits : lineFits line ≡ fieldFits F s (list l) = line-fits w in
-        let inner : fieldFits F s (list l) ≡ true → itemsFit F s l ≡ true = λ h. and-right (boxFits (setList F s l)) (itemsFit F s l) h in
+        let inner : fieldFits F s (list l) ≡ true → itemsFit F s l ≡ true = λ h. and-eq-true-iff (boxFits (setList F s l)) (itemsFit F s l) .0 h .1 in
         let few = p .count in
         let many = w .count in
         let ends = p .end-is in (

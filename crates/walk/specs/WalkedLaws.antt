@@ -3,7 +3,7 @@
 --     list-of-items     a list is its items behind an empty line, with nothing beyond
 -- Assumes nothing.
 use mathlib.Core.Path.{_≡_, refl, sym, subst, ap, ap₂, _∙_}
-use mathlib.Core.Bool.{Bool, true, false, not, _&&_, and-false}
+use mathlib.Core.Bool.{Bool, true, false, not, _&&_, and-true, and-false, and-comm}
 use mathlib.Core.List.{List, []}
 use mathlib.Core.Option.{Option, none, some}
 use Prim.Native.Nat.{ℕ}
@@ -38,18 +38,12 @@ line-fits {F} {s} {l} {c = c} w = go (itemsFit F s l) refl
     b : Box
     b = setList F s l
 
-    turned : (x y : Bool) → (x && y) ≡ (y && x && true)
-    turned true true = refl
-    turned true false = refl
-    turned false true = refl
-    turned false false = refl
-
     go : (t : Bool) → itemsFit F s l ≡ t → lineFits c ≡ (sizeFits (b .size) && nodesFit (b .nodes) && itemsFit F s l)
     go true e =
         let small : c .run .large ≡ false = w .large-is ∙ ap not e in
         let reach : hullFits (hullOf (c .run)) ≡ nodesFit (b .nodes) = ap hullFits (w .run-is e .hull-is) ∙ sym (fits-hull (b .nodes)) in
         let size : sizeFits (sizeAs (c .size)) ≡ sizeFits (b .size) = ap sizeFits (w .size-is e) in
-        rw (small, reach, size, e) (turned (nodesFit (b .nodes)) (sizeFits (b .size)))
+        rw (small, reach, size, e) (and-comm (nodesFit (b .nodes)) (sizeFits (b .size)) ∙ sym (and-true (sizeFits (b .size) && nodesFit (b .nodes))))
     go false e =
         let large : c .run .large ≡ true = w .large-is ∙ ap not e in
         rw (large, e) (sym (and-false (sizeFits (b .size) && nodesFit (b .nodes))))

@@ -16,6 +16,7 @@ use Rattle.setting.specs.Fitting.{sizeFits}
 use Rattle.walk.specs.Values.{lineFits}
 use Rattle.walk.specs.Walked.{ListPart}
 use borrow.Author.Needs.{needs}
+use borrow.Author.Tests.{not-true}
 use Rattle.walk.proofs.lines.list_part.Statement.{statement}
 use Rattle.walk.proofs.lines.list_part.Tie as tie
 
@@ -32,16 +33,12 @@ module _ (end : ℕ) (l : lines.Line) where
       let depth = within-true (z .depth .0) (size .1) in
       record {
         end-is = refl;
-        large-is = not-large (l .run .large) (reach .0) ∙ ap not (sym e);
+        large-is = not-true (l .run .large) (reach .0) ∙ ap not (sym e);
         shape = record { width = omega arith; height = omega arith; depth = omega arith };
         count = omega arith;
         hull = fits-within (hullOf (l .run)) (reach .1);
         is = λ h. (refl, refl);
       }
-    where
-      not-large : (t : Bool) → not t ≡ true → t ≡ false
-      not-large true e = sym e
-      not-large false e = refl
 
   list-large : {r : Run} → lineFits l ≡ false → LargeRun r → ListPart end l (record { end = end; shape = Nothing; run = r })
   list-large e large =
