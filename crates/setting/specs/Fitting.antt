@@ -1,7 +1,7 @@
 -- Whether a list, and every list in it, keeps within the greatest length (document 01, answer 6): its size, and its nodes
 -- as measured from its own reference point. A node so comes to be measured from the reference point of each list around it.
 -- Assumes nothing.
-use mathlib.Core.Bool.{Bool, true, false, _&&_}
+use mathlib.Core.Bool.{Bool, true, _&&_}
 use Rattle.font.specs.Font.{Font}
 use Rattle.formula.specs.Tree.{Items, Item, Field, nil, cons, noad, kern, empty, symbol, list}
 use Rattle.rules.specs.declared.Style.{Style}

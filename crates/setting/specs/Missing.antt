@@ -2,7 +2,7 @@
 -- Its place is its field's kind byte. As in the reading, a place within a list counts from the list's first byte, and a place
 -- within an item from the item's. The fields of an item stand behind its opening bytes, one behind the other.
 -- Assumes nothing.
-use mathlib.Core.Bool.{Bool, true, false}
+use mathlib.Core.Bool.{Bool, false}
 use mathlib.Core.Option.{Option, none, some}
 use Prim.Native.Nat.{ℕ, _+_}
 use Rattle.font.specs.Font.{Font}

@@ -4,9 +4,9 @@
 --     list-whole, list-missing         a list, from what the list comes to
 -- Assumes nothing.
 use mathlib.Core.Path.{_≡_, refl, sym, ap, subst, _∙_}
-use mathlib.Core.Bool.{Bool, true, false, and-eq-true-iff}
+use mathlib.Core.Bool.{Bool, true, and-eq-true-iff}
 use mathlib.Core.List.{List, [], _∷_}
-use mathlib.Core.Option.{Option, none, some}
+use mathlib.Core.Option.{none, some}
 use Prim.Native.Nat.{ℕ, _+_, _≤_, _<_}
 use native.Mathlib.Omega.{arith}
 use lib.IntN.{pos}
@@ -14,7 +14,6 @@ use Rattle.font.specs.Font.{Font}
 use Rattle.font.specs.Answers.{metricsAs}
 use Rattle.formula.specs.Tree.{Items, empty, symbol, list, listOpeningBytes}
 use Rattle.rules.specs.declared.Style.{Style}
-use Rattle.rules.specs.declared.boxes.Shape.{Shape}
 use Rattle.rules.specs.declared.boxes.Shape.the-variants.{Char}
 use Rattle.rules.specs.Styles.{fontSize}
 use Rattle.rules.specs.Boxes.{char, box}
@@ -33,7 +32,7 @@ use Rattle.walk.specs.declared.parts.FieldSet.the-variants.{Whole, Missi
 use Rattle.walk.specs.declared.lines.Line as lines
 use Rattle.walk.specs.declared.lists.ItemsSet.the-variants as items
 use Rattle.setting.specs.Setting.{Part, symbolIn, symbolPart, setField, setList}
-use Rattle.setting.specs.Missing.{later, absentAt, missingField, missingItems}
+use Rattle.setting.specs.Missing.{later, absentAt, missingField}
 use Rattle.setting.specs.Fitting.{fieldFits, itemsFit, boxFits}
 use Rattle.walk.specs.Values.{symbolAs, lineFits}
 use Rattle.walk.specs.Walked.{EmptyPart, FieldDone, ListDone, ListPart}

@@ -5,7 +5,7 @@
 use mathlib.Core.Path.{_≡_, refl, sym, subst, ap, ap₂, _∙_}
 use mathlib.Core.Bool.{Bool, true, false, not, _&&_, and-true, and-false, and-comm}
 use mathlib.Core.List.{List, []}
-use mathlib.Core.Option.{Option, none, some}
+use mathlib.Core.Option.{none}
 use Prim.Native.Nat.{ℕ}
 use native.Mathlib.Omega.{arith}
 use lib.IntN.{ℤ, pos}
@@ -18,7 +18,7 @@ use Rattle.rules.specs.Boxes.{Size}
 use Rattle.rules.specs.Values.{neighbourAs, sizeAs}
 use Rattle.nodes.specs.Bounds.{nodesFit}
 use Rattle.nodes.specs.Drawn.{Drawn}
-use Rattle.nodes.specs.Hull.{hull, hullFits, joined}
+use Rattle.nodes.specs.Hull.{hullFits, joined}
 use Rattle.nodes.specs.HullLaws.{fits-hull}
 use Rattle.nodes.specs.Runs.{hullOf, RunIs}
 use Rattle.walk.specs.declared.lines.Line as lines

@@ -1,6 +1,5 @@
 -- `move_field` meets its contract: the nodes and their reach are moved by the same sum.
 -- Assumes nothing.
-use mathlib.Core.Path.{_∙_, ap}
 use native.Mathlib.Omega.{arith}
 use Rattle.scaled.specs.Made.{reach}
 use Rattle.nodes.specs.Bounds.{greatestLength}
