@@ -22,15 +22,15 @@ use Rattle.rules.specs.Boxes.{Size, Place, Rule, Arranged}
 use Rattle.rules.specs.Values.{sizeAs, rulingAs, arrangedAs}
 use Rattle.rules.specs.Bounds.{words, itemWords, PlaceWithin, RulingWithin, Bounded}
 use Rattle.nodes.specs.Nodes.{Node, rule, moved, movedNode, bytesInNode, nodeBytes, bytesOf}
-use Rattle.nodes.specs.NodeLaws.{length-node-bytes, length-bytes, bytes-append, length-moved, moved-append, moved-twice}
 use Rattle.nodes.specs.Bounds.{greatestLength}
+use Rattle.nodes.specs.NodeLaws.{length-node-bytes, length-bytes, bytes-append, length-moved, moved-append, moved-twice}
 use Rattle.nodes.specs.Buffer.{put, movedFront, behindNodes}
 use Rattle.nodes.specs.BufferLaws.{behind-at, moved-run-at, put-at}
 use Rattle.nodes.specs.Hull.{Hull, hull, joined, movedHull, HullWithin}
 use Rattle.nodes.specs.HullLaws.{hull-append, hull-moved, join-within, moved-within, within-more}
 use Rattle.nodes.specs.Runs.{hullOf}
-use Rattle.walk.specs.declared.lines.Line as lines
 use Rattle.setting.specs.Setting.{Part, ruleNode, ruleNodes, itemNodes}
+use Rattle.walk.specs.declared.lines.Line as lines
 use Rattle.walk.specs.Bounds.{stride, LineWithin}
 use Rattle.walk.specs.Walked.{besideSize, rulesPut, itemCount, itemBuffer, itemHull}
 

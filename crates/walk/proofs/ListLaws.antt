@@ -22,13 +22,13 @@ use Rattle.formula.specs.declared.Opening.{Opening}
 use Rattle.formula.specs.declared.Opening.the-variants.{Kern}
 use Rattle.formula.specs.Tree.{Items, Item, nil, kern, kernBytes}
 use Rattle.formula.specs.Heads.{openingOf, greatestKern}
-use Rattle.formula.specs.HeadLaws.{kern-small}
-use Rattle.formula.specs.Slices.{tail-part}
 use Rattle.formula.specs.Places.{Readable, treeOf, itemSize, itemOf}
+use Rattle.formula.specs.Slices.{tail-part}
+use Rattle.formula.specs.HeadLaws.{kern-small}
 use Rattle.formula.specs.PlacesLaws.{Stepped, step, tree-none, item-bytes}
 use Rattle.rules.specs.declared.Style.{Style}
-use Rattle.rules.specs.Boxes.{Size}
 use Rattle.rules.specs.Classes.{Neighbour}
+use Rattle.rules.specs.Boxes.{Size}
 use Rattle.rules.specs.Values.{neighbourAs, sizeAs}
 use Rattle.nodes.specs.Nodes.{Node}
 use Rattle.nodes.specs.Buffer.{roomFor}
@@ -37,14 +37,14 @@ use Rattle.nodes.specs.Lent.{drawn-behind}
 use Rattle.nodes.specs.Hull.{hull, joined}
 use Rattle.nodes.specs.HullLaws.{join-none, join-assoc, hull-append, within-more}
 use Rattle.nodes.specs.Runs.{hullOf}
-use Rattle.walk.specs.declared.lines.Line as lines
-use Rattle.walk.specs.declared.lists.ItemsSet.the-variants as items
-use Rattle.walk.specs.declared.lists.Step.{Step}
-use Rattle.walk.specs.declared.lists.Step.the-variants as steps
 use Rattle.setting.specs.Setting.{Line, nextClass, setItem, setItems}
 use Rattle.setting.specs.Missing.{_orElse_, later, missingItem, missingItems}
 use Rattle.setting.specs.Fitting.{itemFits, itemsFit}
 use Rattle.setting.specs.FieldInPlace.{behind, sized, setItem-behind}
+use Rattle.walk.specs.declared.lines.Line as lines
+use Rattle.walk.specs.declared.lists.ItemsSet.the-variants as items
+use Rattle.walk.specs.declared.lists.Step.{Step}
+use Rattle.walk.specs.declared.lists.Step.the-variants as steps
 use Rattle.walk.specs.Values.{bareLine}
 use Rattle.walk.specs.Bounds.{longest, stride, LineWithin}
 use Rattle.walk.specs.Walked.{KernedLine, Added, ItemsGiven, ItemsDone, StepDone, ItemDone}

@@ -35,21 +35,21 @@ use Rattle.rules.specs.Values.{neighbourAs, sizeAs}
 use Rattle.nodes.specs.Nodes.{Node, bytesInNode, bytesOf, moved}
 use Rattle.nodes.specs.Buffer.{roomFor}
 use Rattle.nodes.specs.Drawn.{Drawn}
+use Rattle.setting.specs.Setting.{Part, nextClass, itemNodes, itemBox, placed, setField, setItem}
+use Rattle.setting.specs.Missing.{_orElse_, missingField, missingItem}
+use Rattle.setting.specs.Fitting.{fieldFits, itemFits}
 use Rattle.walk.specs.declared.parts.Part as parts
 use Rattle.walk.specs.declared.parts.FieldSet.{FieldSet}
 use Rattle.walk.specs.declared.parts.FieldSet.the-variants as field
 use Rattle.walk.specs.declared.lines.Line as lines
 use Rattle.walk.specs.declared.lists.Step.{Step}
 use Rattle.walk.specs.declared.lists.Step.the-variants as step
-use Rattle.setting.specs.Setting.{Part, nextClass, itemNodes, itemBox, placed, setField, setItem}
-use Rattle.setting.specs.Missing.{_orElse_, missingField, missingItem}
-use Rattle.setting.specs.Fitting.{fieldFits, itemFits}
 use Rattle.walk.specs.Values.{bareLine}
 use Rattle.walk.specs.Bounds.{longest, LineWithin}
 use Rattle.walk.specs.Walked.{EmptyPart, PartWithin, FieldWhole, FieldDone, HeadDone, ChangesAlike, FinishGiven, Finished, Added, StepDone, ItemDone, besideSize, itemCount, itemBuffer}
+use Rattle.walk.proofs.PartLaws.{field-empty}
 use Rattle.walk.proofs.ItemLaws.{item-count, item-hull, item-bytes}
 use Rattle.walk.proofs.Laid.{Laid, laid-start, laid-gap, laid-field, laid-none}
-use Rattle.walk.proofs.PartLaws.{field-empty}
 
 -- one of two is large
 or-nots : (a b : Bool) → not a || not b ≡ not (a && b)

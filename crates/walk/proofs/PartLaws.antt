@@ -26,14 +26,14 @@ use Rattle.nodes.specs.Drawn.{Drawn, drawn-none, drawn-put}
 use Rattle.nodes.specs.Hull.{around, HullWithin}
 use Rattle.nodes.specs.Runs.{RunIs, PointRun}
 use Rattle.nodes.specs.RunLaws.{run-none, run-node}
+use Rattle.setting.specs.Setting.{Part, symbolIn, symbolPart, setField, setList}
+use Rattle.setting.specs.Missing.{later, absentAt, missingField}
+use Rattle.setting.specs.Fitting.{fieldFits, itemsFit, boxFits}
 use Rattle.walk.specs.declared.symbols.Symbol as symbols
 use Rattle.walk.specs.declared.parts.Part as parts
 use Rattle.walk.specs.declared.parts.FieldSet.the-variants.{Whole, Missing}
 use Rattle.walk.specs.declared.lines.Line as lines
 use Rattle.walk.specs.declared.lists.ItemsSet.the-variants as items
-use Rattle.setting.specs.Setting.{Part, symbolIn, symbolPart, setField, setList}
-use Rattle.setting.specs.Missing.{later, absentAt, missingField}
-use Rattle.setting.specs.Fitting.{fieldFits, itemsFit, boxFits}
 use Rattle.walk.specs.Values.{symbolAs, lineFits}
 use Rattle.walk.specs.Walked.{EmptyPart, FieldDone, ListDone, ListPart}
 use Rattle.walk.specs.WalkedLaws.{line-fits}

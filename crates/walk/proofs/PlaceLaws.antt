@@ -15,8 +15,8 @@ use Rattle.formula.specs.declared.Opening.{Opening}
 use Rattle.formula.specs.declared.Opening.the-variants.{Fields, Kern}
 use Rattle.formula.specs.Tree.{kernBytes}
 use Rattle.formula.specs.Heads.{openingOf}
-use Rattle.formula.specs.Slices.{tail-part}
 use Rattle.formula.specs.Places.{Readable, treeOf}
+use Rattle.formula.specs.Slices.{tail-part}
 use Rattle.formula.specs.PlacesLaws.{Stepped, step, tree-none}
 use Rattle.rules.specs.Classes.{Neighbour, classOf}
 use Rattle.setting.specs.Setting.{nextClass}

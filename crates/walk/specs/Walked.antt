@@ -40,6 +40,9 @@ use Rattle.nodes.specs.Buffer.{put, movedFront, behindNodes}
 use Rattle.nodes.specs.Drawn.{Drawn}
 use Rattle.nodes.specs.Hull.{Hull, none as unreached, joined, movedHull, hull, HullWithin}
 use Rattle.nodes.specs.Runs.{hullOf, RunIs, EmptyRun, JoinedRun}
+use Rattle.setting.specs.Setting.{Line, ruleNode, ruleNodes, nextClass, setField, setItem, setItems, setList}
+use Rattle.setting.specs.Missing.{missingField, missingItem, missingItems}
+use Rattle.setting.specs.Fitting.{fieldFits, itemFits, itemsFit}
 use Rattle.walk.specs.declared.parts.Part as parts
 use Rattle.walk.specs.declared.parts.FieldSet.{FieldSet}
 use Rattle.walk.specs.declared.parts.FieldSet.the-variants as field
@@ -49,9 +52,6 @@ use Rattle.walk.specs.declared.lists.ItemsSet.{ItemsSet}
 use Rattle.walk.specs.declared.lists.ItemsSet.the-variants as items
 use Rattle.walk.specs.declared.lists.Step.{Step}
 use Rattle.walk.specs.declared.lists.Step.the-variants as step
-use Rattle.setting.specs.Setting.{Line, ruleNode, ruleNodes, nextClass, setField, setItem, setItems, setList}
-use Rattle.setting.specs.Missing.{missingField, missingItem, missingItems}
-use Rattle.setting.specs.Fitting.{fieldFits, itemFits, itemsFit}
 use Rattle.walk.specs.Values.{PartIs, bareLine, lineFits}
 use Rattle.walk.specs.Bounds.{longest, LineWithin}
 

@@ -21,11 +21,11 @@ use Rattle.nodes.specs.Drawn.{Drawn}
 use Rattle.nodes.specs.Hull.{hullFits, joined}
 use Rattle.nodes.specs.HullLaws.{fits-hull}
 use Rattle.nodes.specs.Runs.{hullOf, RunIs}
+use Rattle.setting.specs.Setting.{Box, Line, start, setItems, setList}
+use Rattle.setting.specs.Fitting.{sizeFits, boxFits, itemsFit}
 use Rattle.walk.specs.declared.lines.Line as lines
 use Rattle.walk.specs.declared.lists.ItemsSet.{ItemsSet}
 use Rattle.walk.specs.declared.lists.ItemsSet.the-variants as items
-use Rattle.setting.specs.Setting.{Box, Line, start, setItems, setList}
-use Rattle.setting.specs.Fitting.{sizeFits, boxFits, itemsFit}
 use Rattle.walk.specs.Values.{bareLine, lineFits}
 use Rattle.walk.specs.Bounds.{LineWithin}
 use Rattle.walk.specs.Walked.{StartLine, ItemsDone, ListWhole, ListDone}

@@ -5,6 +5,7 @@ use mathlib.Core.Bool.{Bool, _||_}
 use Prim.Native.Nat.{ℕ, _+_, _^_}
 use native.Mathlib.Omega.{arith}
 use lib.IntN.{ℤ, _+ℤ_}
+use borrow.Author.Needs.{needs}
 use Rattle.scaled.specs.Signed.{Within}
 use Rattle.scaled.specs.Linear.{#, _⊕_, within-by}
 use Rattle.rules.specs.Spacing.{spaceBefore}
@@ -14,7 +15,6 @@ use Rattle.nodes.specs.Hull.{joined}
 use Rattle.nodes.specs.Runs.{hullOf}
 use Rattle.walk.specs.Bounds.{longest, stride}
 use Rattle.walk.proofs.ItemLaws.{few-rules, item-grows}
-use borrow.Author.Needs.{needs}
 use Rattle.walk.proofs.items.finished.Statement.{statement}
 use Rattle.walk.proofs.items.finished.Tie as tie
 

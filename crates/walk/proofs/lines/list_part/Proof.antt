@@ -4,6 +4,8 @@ use mathlib.Core.Path.{_≡_, refl, sym, ap, _∙_}
 use mathlib.Core.Bool.{true, false, not, _&&_, and-eq-true-iff}
 use Prim.Native.Nat.{ℕ}
 use native.Mathlib.Omega.{arith}
+use borrow.Author.Needs.{needs}
+use borrow.Author.Tests.{not-true}
 use Rattle.rules.specs.declared.boxes.Shape.the-variants.{Nothing, Box}
 use Rattle.rules.specs.Values.{sizeAs}
 use Rattle.nodes.specs.declared.run.Run.{Run}
@@ -11,12 +13,10 @@ use Rattle.nodes.specs.Bounds.{within}
 use Rattle.nodes.specs.Hull.{hullFits}
 use Rattle.nodes.specs.HullLaws.{within-true, fits-within}
 use Rattle.nodes.specs.Runs.{hullOf, LargeRun}
-use Rattle.walk.specs.declared.lines.Line as lines
 use Rattle.setting.specs.Fitting.{sizeFits}
+use Rattle.walk.specs.declared.lines.Line as lines
 use Rattle.walk.specs.Values.{lineFits}
 use Rattle.walk.specs.Walked.{ListPart}
-use borrow.Author.Needs.{needs}
-use borrow.Author.Tests.{not-true}
 use Rattle.walk.proofs.lines.list_part.Statement.{statement}
 use Rattle.walk.proofs.lines.list_part.Tie as tie
 
