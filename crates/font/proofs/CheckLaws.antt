@@ -11,7 +11,7 @@
 -- `pass` up to the test that decides.
 -- Assumes nothing.
 use mathlib.Core.Path.{_≡_, refl, ap, _∙_}
-use mathlib.Core.Bool.{Bool, true, false, _&&_, _||_}
+use mathlib.Core.Bool.{Bool, true, false, _&&_, _||_, or-false}
 use mathlib.Core.List.{List, [], _∷_}
 use Prim.Native.Nat.{ℕ, zero, suc, _+_, _-_, _*_, _/_, _<_, _≤_}
 use native.Mathlib.Omega.{arith}
@@ -196,10 +196,6 @@ module _ (flag code : ℕ) where
       more (suc (suc n)) h g = omega arith
 
 -- ---- the order of two CH records
-
-or-false : (b : Bool) → (b || false) ≡ b
-or-false true = refl
-or-false false = refl
 
 -- the order by one number, where it differs, and else by what is left
 apart : (a b : ℕ) (x : Bool) → (a ≡ b → ⊥) → (ltb a b || (eqb a b && x)) ≡ ltb a b

@@ -21,9 +21,9 @@ use Rattle.formula.specs.Reading.{Read, good, fault, readFormula}
 use Rattle.rules.specs.declared.Style.{Style}
 use Rattle.rules.specs.Styles.{styleOf}
 use Rattle.nodes.specs.Nodes.{bytesOf, bytesInNode}
-use Rattle.walk.specs.Setting.{Box, setList}
-use Rattle.walk.specs.Missing.{missingItems}
-use Rattle.walk.specs.Fitting.{listFits}
+use Rattle.setting.specs.Setting.{Box, setList}
+use Rattle.setting.specs.Missing.{missingItems}
+use Rattle.setting.specs.Fitting.{listFits}
 use Rattle.layout.specs.Answers.{Result, boxed, acceptedNumber, ifFits, ifPresent, ifRead, ifGood, ifStyle, resultOf, accepted, measuredBy, measured, hasRoom, setBy, setting, bufferBy, bufferAfter}
 
 pub record Accepted (style : ℕ) (table formula : List ℕ) (s : Style) (tree : Items) : Type 0 where

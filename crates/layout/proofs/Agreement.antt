@@ -18,9 +18,9 @@ use Rattle.formula.specs.Reading.{Read, good, fault, readFormula}
 use Rattle.rules.specs.declared.Style.{Style}
 use Rattle.rules.specs.Styles.{styleOf}
 use Rattle.nodes.specs.Nodes.{bytesInNode}
-use Rattle.walk.specs.Setting.{Box, setList}
-use Rattle.walk.specs.Missing.{missingItems}
-use Rattle.walk.specs.Fitting.{listFits}
+use Rattle.setting.specs.Setting.{Box, setList}
+use Rattle.setting.specs.Missing.{missingItems}
+use Rattle.setting.specs.Fitting.{listFits}
 use Rattle.layout.specs.Answers.{Result, boxed, refused, ifFits, ifPresent, ifRead, ifGood, ifStyle, resultOf, Answered, accepted, refusal, measuredBy, measured, hasRoom, setBy, setting, acceptedNumber, noRoomNumber}
 
 -- ---- a refusal before the test of room has neither the number of an acceptance nor that of this test

@@ -21,10 +21,10 @@ use Rattle.rules.specs.declared.Style.{Style}
 use Rattle.rules.specs.Styles.{styleOf}
 use Rattle.rules.specs.Values.{sizeAs}
 use Rattle.rules.specs.ValueLaws.{taken-out}
+use Rattle.setting.specs.Setting.{setList}
+use Rattle.setting.specs.Missing.{missingItems}
+use Rattle.setting.specs.Fitting.{boxFits, itemsFit, listFits}
 use Rattle.walk.specs.declared.lines.Line as lines
-use Rattle.walk.specs.Setting.{setList}
-use Rattle.walk.specs.Missing.{missingItems}
-use Rattle.walk.specs.Fitting.{boxFits, itemsFit, listFits}
 use Rattle.walk.specs.Values.{lineFits}
 use Rattle.walk.specs.Walked.{ListWhole, ListGiven}
 use Rattle.walk.specs.WalkedLaws.{line-fits}

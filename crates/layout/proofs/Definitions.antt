@@ -17,10 +17,10 @@ use Rattle.rules.specs.Scripts.{dropUp, dropDown, subscriptDown, leastUp, super
 use Rattle.rules.specs.Fractions.{fractionShifts, parted, shiftsWithoutBar, cleared, shiftsWithBar, fraction}
 use Rattle.rules.specs.Arrange.{nucleusOf, arrange}
 use Rattle.nodes.specs.Nodes.{moved, signedBytes, nodeBytes, bytesOf}
-use Rattle.walk.specs.Setting.{found, successor, enlarged, symbolIn, symbolPart, ruleNodes, itemNodes, itemBox, placed, nextClass, setItems, setItem, setField, setList}
-use Rattle.walk.specs.Missing.{later, absentAt, missingItems, missingItem, missingField}
 use Rattle.nodes.specs.Bounds.{nodesFit}
-use Rattle.walk.specs.Fitting.{boxFits, itemsFit, itemFits, fieldFits, listFits}
+use Rattle.setting.specs.Setting.{found, successor, enlarged, symbolIn, symbolPart, ruleNodes, itemNodes, itemBox, placed, nextClass, setItems, setItem, setField, setList}
+use Rattle.setting.specs.Missing.{later, absentAt, missingItems, missingItem, missingField}
+use Rattle.setting.specs.Fitting.{boxFits, itemsFit, itemFits, fieldFits, listFits}
 use Rattle.layout.specs.Answers.{ifFits, ifPresent, ifRead, ifGood, ifStyle, resultOf, measuredBy, measured, hasRoom, setBy, setting, bufferBy, bufferAfter}
 
 unfoldable pub definitions : Unit {0}

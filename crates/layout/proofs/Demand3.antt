@@ -7,7 +7,7 @@
 --     SizeUsed     3: the rules take the field for a box of the size measured alone
 --     FieldAsAlone 1 to 3, and 4: nodes before, distance and nodes after are the same for any other formula that reads as
 --                  this one but for that field's items, and has there a list of the same size
--- It comes of the trees (`FieldInPlace` and `FieldAlone` of crate walk) and of the reading (`FieldBytes`).
+-- It comes of the trees (`FieldInPlace` and `FieldAlone` of crate setting) and of the reading (`FieldBytes`).
 -- Assumes nothing.
 use mathlib.Core.Path.{_≡_, refl, sym, ap, _∙_}
 use mathlib.Core.Bool.{Bool, true, false}
@@ -25,11 +25,11 @@ use Rattle.rules.specs.Classes.{Neighbour, classOf}
 use Rattle.rules.specs.Boxes.{Size, box}
 use Rattle.nodes.specs.Nodes.{Node, bytesOf, bytesInNode}
 use Rattle.nodes.specs.NodeLaws.{length-moved, bytes-append}
-use Rattle.walk.specs.Setting.{Box, Line, placed, setItem, setField, setList}
-use Rattle.walk.specs.Frames.{Frame, movedBy, framed}
-use Rattle.walk.specs.Paths.{Step, holder, stepStyle, Path, into, fill, styleAt}
-use Rattle.walk.specs.FieldInPlace.{sized, itemAround, size-used, frame, field-in-place}
-use Rattle.walk.specs.FieldAlone.{missing-alone, fits-alone}
+use Rattle.setting.specs.Setting.{Box, Line, placed, setItem, setField, setList}
+use Rattle.setting.specs.Frames.{Frame, movedBy, framed}
+use Rattle.setting.specs.Paths.{Step, holder, stepStyle, Path, into, fill, styleAt}
+use Rattle.setting.specs.FieldInPlace.{sized, itemAround, size-used, frame, field-in-place}
+use Rattle.setting.specs.FieldAlone.{missing-alone, fits-alone}
 use Rattle.layout.specs.Answers.{Answered, acceptedNumber, accepted, measured, setting, bufferAfter, resultOf, boxed}
 use Rattle.layout.proofs.Accepting.{Accepted, Passed, passed, boxed-of, measured-boxed, set-boxed, buffer-boxed}
 use Rattle.layout.proofs.FieldBytes.{fieldPart, field-reads}

@@ -20,9 +20,9 @@ use Rattle.rules.specs.declared.Style.{Style}
 use Rattle.rules.specs.declared.boxes.Size.{Size}
 use Rattle.nodes.specs.Nodes.{Node, bytesOf, bytesInNode}
 use Rattle.nodes.specs.Drawn.{Drawn}
+use Rattle.setting.specs.Setting.{Box, setList}
 use Rattle.walk.specs.declared.lists.ItemsSet.{ItemsSet}
 use Rattle.walk.specs.declared.lists.ItemsSet.the-variants.{Whole, Missing}
-use Rattle.walk.specs.Setting.{Box, setList}
 use Rattle.walk.specs.Walked.{ListDone}
 use Rattle.layout.specs.declared.Answer.{Answer}
 use Rattle.layout.specs.declared.Answer.the-variants.{Accepted, NoRoom}

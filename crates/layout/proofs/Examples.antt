@@ -6,7 +6,7 @@ use mathlib.Core.List.{List, [], _∷_, _++_, map}
 use Prim.Native.Nat.{ℕ}
 use lib.IntN.{ℤ, pos, negℤ}
 use Rattle.nodes.specs.Nodes.{Node, glyph, rule}
-use Rattle.walk.specs.Setting.{Box}
+use Rattle.setting.specs.Setting.{Box}
 use Rattle.layout.specs.Answers.{Result, boxed, resultOf, Answered, measured, setting, bufferAfter}
 use Rattle.layout.proofs.BenchTable.{benchTable}
 use Rattle.layout.proofs.Definitions.{definitions}

@@ -25,7 +25,7 @@ use Rattle.formula.specs.Places.{headBytes, contents, hasThird, headAt, second,
 use Rattle.formula.specs.HeadLaws.{list-opening, contents-shorter}
 use Rattle.formula.specs.ReadingLaws.{FieldIs, FieldAtIs, ThirdIs, NoadIs, ItemIs, Below, ListIs, size-fits, read-none, list-good, agree}
 use Rattle.formula.specs.PlacesLaws.{readable-of, tree-is, items-bytes}
-use Rattle.walk.specs.Paths.{Arm, inFirst, inSecond, inThird, holding, fieldPlace, Step, join, listWith, stepPlace, Path, whole, into, fill, placeOf}
+use Rattle.setting.specs.Paths.{Arm, inFirst, inSecond, inThird, holding, fieldPlace, Step, join, listWith, stepPlace, Path, whole, into, fill, placeOf}
 
 abbrev pub fieldPart : Path → Items → List ℕ → List ℕ
 fieldPart p l formula = take (itemsBytes l) (drop (placeOf p) formula)

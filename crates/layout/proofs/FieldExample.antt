@@ -15,7 +15,7 @@ use Rattle.formula.specs.Tree.{Items, Field, nil, cons, noad, empty, symbol}
 use Rattle.rules.specs.declared.Level.the-variants.{Text}
 use Rattle.rules.specs.Styles.{plain}
 use Rattle.nodes.specs.Nodes.{glyph}
-use Rattle.walk.specs.Paths.{inSecond, Step, whole, into, fill}
+use Rattle.setting.specs.Paths.{inSecond, Step, whole, into, fill}
 use Rattle.layout.specs.Answers.{measured}
 use Rattle.layout.proofs.BenchTable.{benchTable}
 use Rattle.layout.proofs.Definitions.{definitions}

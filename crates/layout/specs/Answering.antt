@@ -19,10 +19,10 @@ use Rattle.formula.specs.Places.{Readable, treeOf}
 use Rattle.rules.specs.declared.Style.{Style}
 use Rattle.rules.specs.declared.boxes.Size.{Size}
 use Rattle.rules.specs.Values.{sizeAs}
+use Rattle.setting.specs.Setting.{setList}
+use Rattle.setting.specs.Missing.{missingItems}
+use Rattle.setting.specs.Fitting.{itemsFit}
 use Rattle.walk.specs.declared.lines.Line.{Line}
-use Rattle.walk.specs.Setting.{setList}
-use Rattle.walk.specs.Missing.{missingItems}
-use Rattle.walk.specs.Fitting.{itemsFit}
 use Rattle.walk.specs.Values.{lineFits}
 use Rattle.layout.specs.declared.Answer.{Answer}
 use Rattle.layout.specs.declared.Answer.the-variants.{Accepted, NoStyle, BadTable, Unreadable, TooDeep, Missing, TooLarge, NoRoom}

@@ -17,9 +17,9 @@ use Rattle.rules.specs.declared.Style.{Style}
 use Rattle.rules.specs.Styles.{styleOf}
 use Rattle.rules.specs.Boxes.{Size, zeroSize}
 use Rattle.nodes.specs.Nodes.{bytesOf, bytesInNode}
-use Rattle.walk.specs.Setting.{Box, setList}
-use Rattle.walk.specs.Missing.{missingItems}
-use Rattle.walk.specs.Fitting.{listFits}
+use Rattle.setting.specs.Setting.{Box, setList}
+use Rattle.setting.specs.Missing.{missingItems}
+use Rattle.setting.specs.Fitting.{listFits}
 
 -- ---- the answer numbers
 

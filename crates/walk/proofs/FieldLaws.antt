@@ -16,9 +16,9 @@ use Rattle.formula.specs.declared.FieldHead.{FieldHead}
 use Rattle.formula.specs.declared.FieldHead.the-variants.{Symbol, Sublist}
 use Rattle.formula.specs.Tree.{Field, empty, symbol, list, listOpeningBytes}
 use Rattle.formula.specs.Heads.{fieldHead}
-use Rattle.formula.specs.HeadLaws.{head-fits, list-opening, contents-shorter}
-use Rattle.formula.specs.Slices.{tail-part, field-part}
 use Rattle.formula.specs.Places.{treeOf, headBytes, headAt, contents, fieldOf, GoodField}
+use Rattle.formula.specs.Slices.{tail-part, field-part}
+use Rattle.formula.specs.HeadLaws.{head-fits, list-opening, contents-shorter}
 use Rattle.rules.specs.declared.Style.{Style}
 use Rattle.walk.specs.declared.parts.Part as parts
 use Rattle.walk.specs.declared.parts.FieldSet.{FieldSet}

@@ -4,12 +4,12 @@
 --     item-bytes                  what becomes of the buffer: a part that was set is moved, and a gap is filled
 --     item-reach, item-grows      how far the nodes of an item, and the line with it, lie from zero
 -- Assumes nothing.
-use mathlib.Core.Path.{_≡_, refl, sym, ap, ap₂, _∙_}
+use mathlib.Core.Path.{_≡_, refl, sym, ap, _∙_}
 use mathlib.Core.List.{List, [], _∷_, _++_, append-nil, append-assoc}
 use Prim.Native.Nat.{ℕ, suc, _+_, _*_, _≤_}
 use native.Mathlib.Omega.{arith}
 use lib.IntN.{ℤ, pos, _+ℤ_}
-use lib.ListN.{length, take, drop, length-append, length-take, length-drop, take-append-drop}
+use lib.ListN.{length, take, drop, length-append, length-drop, take-append-drop}
 use lib.Seq.{length-take-le}
 use Rattle.scaled.specs.Length.{maxℤ}
 use Rattle.scaled.specs.Signed.{Within}
@@ -19,18 +19,18 @@ use Rattle.rules.specs.declared.boxes.Ruling.{Ruling}
 use Rattle.rules.specs.declared.boxes.Ruling.the-variants.{Unruled, Ruled}
 use Rattle.rules.specs.declared.boxes.Arranged.{Arranged as CodeArranged}
 use Rattle.rules.specs.Boxes.{Size, Place, Rule, Arranged}
-use Rattle.rules.specs.Values.{sizeAs, placeAs, rulingAs, arrangedAs}
+use Rattle.rules.specs.Values.{sizeAs, rulingAs, arrangedAs}
 use Rattle.rules.specs.Bounds.{words, itemWords, PlaceWithin, RulingWithin, Bounded}
 use Rattle.nodes.specs.Nodes.{Node, rule, moved, movedNode, bytesInNode, nodeBytes, bytesOf}
-use Rattle.nodes.specs.NodeLaws.{length-node-bytes, length-bytes, bytes-append, length-moved, moved-append, moved-twice}
 use Rattle.nodes.specs.Bounds.{greatestLength}
+use Rattle.nodes.specs.NodeLaws.{length-node-bytes, length-bytes, bytes-append, length-moved, moved-append, moved-twice}
 use Rattle.nodes.specs.Buffer.{put, movedFront, behindNodes}
 use Rattle.nodes.specs.BufferLaws.{behind-at, moved-run-at, put-at}
-use Rattle.nodes.specs.Hull.{Hull, none, hull, joined, movedHull, HullWithin}
+use Rattle.nodes.specs.Hull.{Hull, hull, joined, movedHull, HullWithin}
 use Rattle.nodes.specs.HullLaws.{hull-append, hull-moved, join-within, moved-within, within-more}
 use Rattle.nodes.specs.Runs.{hullOf}
+use Rattle.setting.specs.Setting.{Part, ruleNode, ruleNodes, itemNodes}
 use Rattle.walk.specs.declared.lines.Line as lines
-use Rattle.walk.specs.Setting.{Part, ruleNode, ruleNodes, itemNodes}
 use Rattle.walk.specs.Bounds.{stride, LineWithin}
 use Rattle.walk.specs.Walked.{besideSize, rulesPut, itemCount, itemBuffer, itemHull}
 

@@ -6,11 +6,11 @@
 --     laid-none      a part without nodes
 -- Assumes nothing.
 use mathlib.Core.Path.{_≡_, refl, sym, ap, _∙_}
-use mathlib.Core.Bool.{Bool, true, false, _&&_}
+use mathlib.Core.Bool.{Bool, true, _&&_, and-eq-true-iff}
 use mathlib.Core.List.{List, [], _++_, append-nil, append-assoc}
 use Prim.Native.Nat.{ℕ, _+_, _-_, _*_, _≤_}
 use native.Mathlib.Omega.{arith}
-use lib.ListN.{length, take, drop, length-append, length-take, length-drop, take-append-drop}
+use lib.ListN.{length, take, drop, length-append, length-drop, take-append-drop}
 use lib.Seq.{length-take-le, take-at, drop-at, drop-drop}
 use borrow.Rule.Slice.PartMut.{putMid, same-len-mid}
 use Rattle.nodes.specs.Nodes.{Node, bytesInNode, bytesOf}
@@ -18,7 +18,6 @@ use Rattle.nodes.specs.NodeLaws.{length-bytes}
 use Rattle.nodes.specs.Buffer.{roomFor}
 use Rattle.nodes.specs.Drawn.{Drawn}
 use Rattle.nodes.specs.Lent.{rest-lent, rest-back}
-use Rattle.walk.proofs.Tests.{and-left, and-right}
 
 pub record Laid (b₀ : List ℕ) (n : ℕ) (known : Bool) (w b : List ℕ) : Type 0 where
   pub same : length b ≡ length b₀
@@ -57,7 +56,7 @@ module _ {b₀ : List ℕ} {n : ℕ} {known : Bool} {w b : List ℕ} (so : Laid 
       record {
         same = so .same;
         laid = λ h room.
-            let was = so .laid (and-left known fits h) (omega arith) in
+            let was = so .laid (and-eq-true-iff known fits .0 h .0) (omega arith) in
             (rw (append-nil w, ← e) (was .0), rw (append-nil w, ← e) (was .1));
       }
 
@@ -71,8 +70,9 @@ module _ {b₀ : List ℕ} {n : ℕ} {known : Bool} {w b : List ℕ} (so : Laid 
       record {
         same = same-len-mid j (length b - j) b r kept ∙ before;
         laid = λ h room.
-            let few = count (and-right known fits h) in
-            let was = so .laid (and-left known fits h) (omega arith) in
+            let each = and-eq-true-iff known fits .0 h in
+            let few = count (each .1) in
+            let was = so .laid (each .0) (omega arith) in
             let front : length w ≡ bytesInNode * n = was .0 in
             let rest = drop (bytesInNode * n) b₀ in
             let place : length w ≡ j = omega arith in
@@ -80,7 +80,7 @@ module _ {b₀ : List ℕ} {n : ℕ} {known : Bool} {w b : List ℕ} (so : Laid 
             rest-lent j b ∙ ap (drop j) (was .1) ∙ drop-at w rest j place in
             let size = length-bytes ns in
             let set : r ≡ bytesOf ns ++ drop (bytesInNode * length ns) rest =
-            (rw lent at (drawn (and-right known fits h))) (omega (arith, length-drop (bytesInNode * n) b₀)) in
+            (rw lent at (drawn (each .1))) (omega (arith, length-drop (bytesInNode * n) b₀)) in
             let whole : bytesInNode * n + bytesInNode * length ns ≡ bytesInNode * (n + k) = omega arith in
             let head : take j b ≡ w = ap (take j) (was .1) ∙ take-at w rest j place in (
               omega (arith, length-append w (bytesOf ns)),

@@ -1,5 +1,4 @@
 -- What the proofs of several functions use. Assumes nothing.
-mod Tests
 mod PartLaws
 mod FieldLaws
 mod PlaceLaws

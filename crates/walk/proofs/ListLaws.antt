@@ -5,13 +5,13 @@
 --                                `rest-given` has what each turn gives the item's setter
 -- Assumes nothing.
 use mathlib.Core.Path.{_≡_, refl, sym, subst, ap, ap₂, _∙_}
-use mathlib.Core.Bool.{Bool, true, false, not, _&&_, _||_, or-false, and-true, and-assoc}
-use mathlib.Core.List.{List, [], _++_, append-nil}
+use mathlib.Core.Bool.{Bool, true, false, not, _&&_, _||_, or-false, and-true, and-assoc, and-eq-true-iff}
+use mathlib.Core.List.{List, append-nil}
 use mathlib.Core.Option.{Option, none, some}
 use Prim.Native.Nat.{ℕ, _+_, _-_, _≤_, _<_}
 use native.Mathlib.Omega.{arith}
 use lib.IntN.{ℤ}
-use lib.ListN.{length, take, drop, length-append, length-take, length-drop}
+use lib.ListN.{length, take, drop, length-append, length-drop}
 use lib.Seq.{drop-drop}
 use borrow.Rule.Slice.PartMut.{putMid, same-len-mid}
 use Rattle.scaled.specs.declared.Sp.{Sp}
@@ -22,13 +22,13 @@ use Rattle.formula.specs.declared.Opening.{Opening}
 use Rattle.formula.specs.declared.Opening.the-variants.{Kern}
 use Rattle.formula.specs.Tree.{Items, Item, nil, kern, kernBytes}
 use Rattle.formula.specs.Heads.{openingOf, greatestKern}
-use Rattle.formula.specs.HeadLaws.{kern-small}
-use Rattle.formula.specs.Slices.{tail-part}
 use Rattle.formula.specs.Places.{Readable, treeOf, itemSize, itemOf}
+use Rattle.formula.specs.Slices.{tail-part}
+use Rattle.formula.specs.HeadLaws.{kern-small}
 use Rattle.formula.specs.PlacesLaws.{Stepped, step, tree-none, item-bytes}
 use Rattle.rules.specs.declared.Style.{Style}
-use Rattle.rules.specs.Boxes.{Size}
 use Rattle.rules.specs.Classes.{Neighbour}
+use Rattle.rules.specs.Boxes.{Size}
 use Rattle.rules.specs.Values.{neighbourAs, sizeAs}
 use Rattle.nodes.specs.Nodes.{Node}
 use Rattle.nodes.specs.Buffer.{roomFor}
@@ -37,18 +37,17 @@ use Rattle.nodes.specs.Lent.{drawn-behind}
 use Rattle.nodes.specs.Hull.{hull, joined}
 use Rattle.nodes.specs.HullLaws.{join-none, join-assoc, hull-append, within-more}
 use Rattle.nodes.specs.Runs.{hullOf, isLarge}
+use Rattle.setting.specs.Setting.{Line, nextClass, setItem, setItems}
+use Rattle.setting.specs.Missing.{_orElse_, later, missingItem, missingItems}
+use Rattle.setting.specs.Fitting.{itemFits, itemsFit}
+use Rattle.setting.specs.FieldInPlace.{behind, sized, setItem-behind}
 use Rattle.walk.specs.declared.lines.Line as lines
 use Rattle.walk.specs.declared.lists.ItemsSet.the-variants as items
 use Rattle.walk.specs.declared.lists.Step.{Step}
 use Rattle.walk.specs.declared.lists.Step.the-variants as steps
-use Rattle.walk.specs.Setting.{Line, nextClass, setItem, setItems}
-use Rattle.walk.specs.Missing.{_orElse_, later, missingItem, missingItems}
-use Rattle.walk.specs.Fitting.{itemFits, itemsFit}
-use Rattle.walk.specs.FieldInPlace.{behind, sized, setItem-behind}
 use Rattle.walk.specs.Values.{bareLine}
 use Rattle.walk.specs.Bounds.{longest, stride, LineWithin}
 use Rattle.walk.specs.Walked.{KernedLine, Added, ItemsGiven, ItemsDone, StepDone, ItemDone}
-use Rattle.walk.proofs.Tests.{and-left, and-right, or-more}
 
 -- ---- what goes behind a line
 
@@ -129,6 +128,12 @@ added-like {f} {g} {M} {N} {k} {n} {l} {r} {b} {b′} e same size a =
       drawn = λ h. subst (λ (m : Line). Drawn (m .box .nodes) b b′) (same (was h)) (a .drawn (was h));
     }
 
+-- what was large before, or is so now
+or-more : (a b c : Bool) → (a || not b) || not c ≡ (a || not (b && c))
+or-more true b c = refl
+or-more false true c = refl
+or-more false false c = refl
+
 -- M and then N, which was set in the part of the buffer from j on, back as v
 pub added-next : {f g : Bool} {M N : Line} {k n j : ℕ} {l₀ l r : lines.Line} {b₀ b v : List ℕ} → Added f M k l₀ b₀ l b →
     length b ≡ length b₀ → j ≡ roomFor (l .run .count - l₀ .run .count) (length b) →
@@ -136,21 +141,22 @@ pub added-next : {f g : Bool} {M N : Line} {k n j : ℕ} {l₀ l r : lines.Line}
     Added (f && g) (behind (M .box .nodes) N) (k + n) l₀ b₀ r (putMid j (length b - j) b v)
 added-next {f} {g} {M} {N} {k} {n} {j} {l₀} {l} {r} {b₀} {b} {v} a same at d =
     let both = length-append (M .box .nodes) (N .box .nodes) in
+    let each = and-eq-true-iff f g .0 in
     record {
       large-is = d .large-is ∙ ap (λ (t : Bool). t || not g) (a .large-is) ∙ or-more (isLarge (l₀ .run)) f g;
       more = omega (arith, a .more, d .more);
       grows = λ i w. let e : i + k + n ≡ i + (k + n) = omega arith in rw (← e) (d .grows (i + k) (a .grows i w));
-      left-is = λ h. d .left-is (and-right f g h);
-      size-is = λ h. d .size-is (and-right f g h);
-      count-is = λ h. omega (arith, a .count-is (and-left f g h), d .count-is (and-right f g h));
+      left-is = λ h. d .left-is (each h .1);
+      size-is = λ h. d .size-is (each h .1);
+      count-is = λ h. omega (arith, a .count-is (each h .0), d .count-is (each h .1));
       hull-is = λ h.
-          d .hull-is (and-right f g h)
-          ∙ ap (λ (m : _). joined m (hull (N .box .nodes))) (a .hull-is (and-left f g h))
+          d .hull-is (each h .1)
+          ∙ ap (λ (m : _). joined m (hull (N .box .nodes))) (a .hull-is (each h .0))
           ∙ join-assoc (hullOf (l₀ .run)) (hull (M .box .nodes)) (hull (N .box .nodes))
           ∙ ap (joined (hullOf (l₀ .run))) (sym (hull-append (M .box .nodes) (N .box .nodes)));
       drawn = λ h.
           drawn-behind {j = j} {k = l .run .count - l₀ .run .count} (M .box .nodes) (N .box .nodes) b₀ b v same
-          (omega (arith, a .count-is (and-left f g h))) at (a .drawn (and-left f g h)) (d .drawn (and-right f g h));
+          (omega (arith, a .count-is (each h .0))) at (a .drawn (each h .0)) (d .drawn (each h .1));
     }
 
 -- ---- the loop
@@ -273,7 +279,7 @@ module _ (F : Font) (st : Style) (beyond : Neighbour) (s : List ℕ) (l₀ : lin
                   ∙ sym (and-assoc (a .fits) (itemFits F st first) (itemsFit F st (treeOf (drop size left))))
                   ∙ ap (λ (t : List ℕ). a .fits && itemFits F st first && itemsFit F st (treeOf t)) rest;
               sets = λ h.
-                  let before = and-left (a .fits) (itemFits F st first) h in
+                  let before = and-eq-true-iff (a .fits) (itemFits F st first) .0 h .0 in
                   let bare : M ≡ behind (M .box .nodes) (bareLine l) =
                   ap₂ (λ (m : Neighbour) (z : Size). record { left = m; box = sized z (M .box .nodes) })
                   (sym (a .added .left-is before)) (sym (a .added .size-is before))

@@ -6,7 +6,7 @@
 --     noad-lacks, noad-done              what an item with fields comes to
 -- Assumes nothing.
 use mathlib.Core.Path.{_≡_, refl, sym, subst, ap, ap₂, _∙_}
-use mathlib.Core.Bool.{Bool, true, false, not, _&&_, _||_}
+use mathlib.Core.Bool.{Bool, true, false, not, _&&_, _||_, and-eq-true-iff}
 use mathlib.Core.List.{List, [], _++_, append-assoc}
 use mathlib.Core.Option.{Option, none, some}
 use Prim.Native.Nat.{ℕ, _+_, _-_, _*_, _≤_}
@@ -36,22 +36,26 @@ use Rattle.nodes.specs.Nodes.{Node, bytesInNode, bytesOf, moved}
 use Rattle.nodes.specs.Buffer.{roomFor}
 use Rattle.nodes.specs.Drawn.{Drawn}
 use Rattle.nodes.specs.Runs.{isLarge}
+use Rattle.setting.specs.Setting.{Part, nextClass, itemNodes, itemBox, placed, setField, setItem}
+use Rattle.setting.specs.Missing.{_orElse_, missingField, missingItem}
+use Rattle.setting.specs.Fitting.{fieldFits, itemFits}
 use Rattle.walk.specs.declared.parts.Part as parts
 use Rattle.walk.specs.declared.parts.FieldSet.{FieldSet}
 use Rattle.walk.specs.declared.parts.FieldSet.the-variants as field
 use Rattle.walk.specs.declared.lines.Line as lines
 use Rattle.walk.specs.declared.lists.Step.{Step}
 use Rattle.walk.specs.declared.lists.Step.the-variants as step
-use Rattle.walk.specs.Setting.{Part, nextClass, itemNodes, itemBox, placed, setField, setItem}
-use Rattle.walk.specs.Missing.{_orElse_, missingField, missingItem}
-use Rattle.walk.specs.Fitting.{fieldFits, itemFits}
 use Rattle.walk.specs.Values.{bareLine}
 use Rattle.walk.specs.Bounds.{longest, LineWithin}
 use Rattle.walk.specs.Walked.{EmptyPart, PartWithin, FieldWhole, FieldDone, HeadDone, ChangesAlike, FinishGiven, Finished, Added, StepDone, ItemDone, besideSize, itemCount, itemBuffer}
-use Rattle.walk.proofs.Tests.{and-left, and-right, or-nots}
+use Rattle.walk.proofs.PartLaws.{field-empty}
 use Rattle.walk.proofs.ItemLaws.{item-count, item-hull, item-bytes}
 use Rattle.walk.proofs.Laid.{Laid, laid-start, laid-gap, laid-field, laid-none}
-use Rattle.walk.proofs.PartLaws.{field-empty}
+
+-- one of two is large
+or-nots : (a b : Bool) → not a || not b ≡ not (a && b)
+or-nots true b = refl
+or-nots false b = refl
 
 -- a field that was set, by equal names
 pub head-as : (F : Font) (bytes b b′ : List ℕ) {st st′ : Style} {e e′ : Bool} {at at′ : ℕ} {r r′ : FieldSet} → st ≡ st′ → e ≡ e′ →
@@ -288,13 +292,13 @@ module _ (F : Font) (s : Style) (kind : Kind) (bytes : List ℕ) where
     Fits = fitsX && fitsY && fitsZ ≡ true
 
     x-fits : Fits → fitsX ≡ true
-    x-fits h = and-left fitsX fitsY (and-left (fitsX && fitsY) fitsZ h)
+    x-fits h = and-eq-true-iff fitsX fitsY .0 (and-eq-true-iff (fitsX && fitsY) fitsZ .0 h .0) .0
 
     y-fits : Fits → fitsY ≡ true
-    y-fits h = and-right fitsX fitsY (and-left (fitsX && fitsY) fitsZ h)
+    y-fits h = and-eq-true-iff fitsX fitsY .0 (and-eq-true-iff (fitsX && fitsY) fitsZ .0 h .0) .1
 
     z-fits : Fits → fitsZ ≡ true
-    z-fits h = and-right (fitsX && fitsY) fitsZ h
+    z-fits h = and-eq-true-iff (fitsX && fitsY) fitsZ .0 h .1
 
     arranged-is : Fits → q .done .arranged ≡ A
     arranged-is h =

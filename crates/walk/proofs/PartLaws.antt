@@ -4,9 +4,9 @@
 --     list-whole, list-missing         a list, from what the list comes to
 -- Assumes nothing.
 use mathlib.Core.Path.{_≡_, refl, sym, ap, subst, _∙_}
-use mathlib.Core.Bool.{Bool, true, false}
+use mathlib.Core.Bool.{Bool, true, and-eq-true-iff}
 use mathlib.Core.List.{List, [], _∷_}
-use mathlib.Core.Option.{Option, none, some}
+use mathlib.Core.Option.{none, some}
 use Prim.Native.Nat.{ℕ, _+_, _≤_, _<_}
 use native.Mathlib.Omega.{arith}
 use lib.IntN.{pos}
@@ -14,7 +14,6 @@ use Rattle.font.specs.Font.{Font}
 use Rattle.font.specs.Answers.{metricsAs}
 use Rattle.formula.specs.Tree.{Items, empty, symbol, list, listOpeningBytes}
 use Rattle.rules.specs.declared.Style.{Style}
-use Rattle.rules.specs.declared.boxes.Shape.{Shape}
 use Rattle.rules.specs.declared.boxes.Shape.the-variants.{Char}
 use Rattle.rules.specs.Styles.{fontSize}
 use Rattle.rules.specs.Boxes.{char, box}
@@ -27,18 +26,17 @@ use Rattle.nodes.specs.Drawn.{Drawn, drawn-none, drawn-put}
 use Rattle.nodes.specs.Hull.{around, HullWithin}
 use Rattle.nodes.specs.Runs.{RunIs, PointRun}
 use Rattle.nodes.specs.RunLaws.{run-none, run-node}
+use Rattle.setting.specs.Setting.{Part, symbolIn, symbolPart, setField, setList}
+use Rattle.setting.specs.Missing.{later, absentAt, missingField}
+use Rattle.setting.specs.Fitting.{fieldFits, itemsFit, boxFits}
 use Rattle.walk.specs.declared.symbols.Symbol as symbols
 use Rattle.walk.specs.declared.parts.Part as parts
 use Rattle.walk.specs.declared.parts.FieldSet.the-variants.{Whole, Missing}
 use Rattle.walk.specs.declared.lines.Line as lines
 use Rattle.walk.specs.declared.lists.ItemsSet.the-variants as items
-use Rattle.walk.specs.Setting.{Part, symbolIn, symbolPart, setField, setList}
-use Rattle.walk.specs.Missing.{later, absentAt, missingField, missingItems}
-use Rattle.walk.specs.Fitting.{fieldFits, itemsFit, boxFits}
 use Rattle.walk.specs.Values.{symbolAs, lineFits}
 use Rattle.walk.specs.Walked.{EmptyPart, FieldDone, ListDone, ListPart}
 use Rattle.walk.specs.WalkedLaws.{line-fits}
-use Rattle.walk.proofs.Tests.{and-right}
 
 module _ (F : Font) (s : Style) (enlarge : Bool) (at end : ℕ) (b : List ℕ) where
   pub field-empty : (c : parts.Part) → at ≤ end → EmptyPart end c → FieldDone F s enlarge empty at end b (Whole c) b
@@ -96,7 +94,7 @@ module _ (F : Font) (s : Style) (enlarge : Bool) (at end : ℕ) (b : List ℕ) w
     unfolding missingField fieldFits setField setList later
     list-whole line c (w, drawn) p =
         let fits : lineFits line ≡ fieldFits F s (list l) = line-fits w in
-        let inner : fieldFits F s (list l) ≡ true → itemsFit F s l ≡ true = λ h. and-right (boxFits (setList F s l)) (itemsFit F s l) h in
+        let inner : fieldFits F s (list l) ≡ true → itemsFit F s l ≡ true = λ h. and-eq-true-iff (boxFits (setList F s l)) (itemsFit F s l) .0 h .1 in
         let few = p .count in
         let many = w .count in
         let ends = p .end-is in (

@@ -1,13 +1,6 @@
--- The box of a list, what is missing and what is too large; laws of these; what the walk promises; and how a field stands in
--- the whole. Assumes nothing.
-pub mod Setting
-pub mod Missing
-pub mod Fitting
+-- What the values of the walk's code stand for, how far they reach, what its functions promise, and laws for those who call it.
+-- Assumes nothing.
 pub mod Values
 pub mod Bounds
 pub mod Walked
 pub mod WalkedLaws
-pub mod Frames
-pub mod Paths
-pub mod FieldInPlace
-pub mod FieldAlone

@@ -12,13 +12,13 @@ use Rattle.font.specs.Answers.{metricsAs}
 use Rattle.rules.specs.Values.{neighbourAs, sizeAs, shapeAs}
 use Rattle.nodes.specs.Hull.{hullFits}
 use Rattle.nodes.specs.Runs.{hullOf, isLarge, RunIs}
+use Rattle.setting.specs.Setting.{Symbol, Part, Line}
+use Rattle.setting.specs.Fitting.{sizeFits}
 use Rattle.walk.specs.declared.symbols.Symbol as symbols
 use Rattle.walk.specs.declared.symbols.Sought.{Sought}
 use Rattle.walk.specs.declared.symbols.Sought.the-variants.{Present, Absent}
 use Rattle.walk.specs.declared.parts.Part as parts
 use Rattle.walk.specs.declared.lines.Line as lines
-use Rattle.walk.specs.Setting.{Symbol, Part, Line}
-use Rattle.walk.specs.Fitting.{sizeFits}
 
 abbrev pub symbolAs : symbols.Symbol → Symbol
 symbolAs s = record { code = s .code; metrics = metricsAs (s .metrics) }

@@ -4,9 +4,9 @@
 -- Of what passes the greatest length nothing is promised but that it does so.
 -- Assumes nothing.
 use mathlib.Core.Path.{_≡_}
-use mathlib.Core.Bool.{Bool, true, false, not, _||_}
-use mathlib.Core.List.{List, [], _∷_, _++_}
-use mathlib.Core.Option.{Option, none, some}
+use mathlib.Core.Bool.{Bool, true, not, _||_}
+use mathlib.Core.List.{List, [], _∷_}
+use mathlib.Core.Option.{none, some}
 use Prim.Native.Nat.{ℕ, _+_, _-_, _^_, _≤_, _<_}
 use lib.IntN.{ℤ, pos, _+ℤ_}
 use lib.ListN.{length, drop}
@@ -40,6 +40,9 @@ use Rattle.nodes.specs.Buffer.{put, movedFront, behindNodes}
 use Rattle.nodes.specs.Drawn.{Drawn}
 use Rattle.nodes.specs.Hull.{Hull, none as unreached, joined, movedHull, hull, HullWithin}
 use Rattle.nodes.specs.Runs.{hullOf, isLarge, RunIs, EmptyRun, JoinedRun}
+use Rattle.setting.specs.Setting.{Line, ruleNode, ruleNodes, nextClass, setField, setItem, setItems, setList}
+use Rattle.setting.specs.Missing.{missingField, missingItem, missingItems}
+use Rattle.setting.specs.Fitting.{fieldFits, itemFits, itemsFit}
 use Rattle.walk.specs.declared.parts.Part as parts
 use Rattle.walk.specs.declared.parts.FieldSet.{FieldSet}
 use Rattle.walk.specs.declared.parts.FieldSet.the-variants as field
@@ -49,9 +52,6 @@ use Rattle.walk.specs.declared.lists.ItemsSet.{ItemsSet}
 use Rattle.walk.specs.declared.lists.ItemsSet.the-variants as items
 use Rattle.walk.specs.declared.lists.Step.{Step}
 use Rattle.walk.specs.declared.lists.Step.the-variants as step
-use Rattle.walk.specs.Setting.{Line, ruleNode, ruleNodes, nextClass, setField, setItem, setItems, setList}
-use Rattle.walk.specs.Missing.{missingField, missingItem, missingItems}
-use Rattle.walk.specs.Fitting.{fieldFits, itemFits, itemsFit}
 use Rattle.walk.specs.Values.{PartIs, bareLine, lineFits}
 use Rattle.walk.specs.Bounds.{longest, LineWithin}
 

@@ -3,9 +3,9 @@
 --     list-of-items     a list is its items behind an empty line, with nothing beyond
 -- Assumes nothing.
 use mathlib.Core.Path.{_≡_, refl, sym, subst, ap, ap₂, _∙_}
-use mathlib.Core.Bool.{Bool, true, false, not, _&&_, and-false}
+use mathlib.Core.Bool.{Bool, true, false, not, _&&_, and-true, and-false, and-comm}
 use mathlib.Core.List.{List, []}
-use mathlib.Core.Option.{Option, none, some}
+use mathlib.Core.Option.{none}
 use Prim.Native.Nat.{ℕ}
 use native.Mathlib.Omega.{arith}
 use lib.IntN.{ℤ, pos}
@@ -18,14 +18,14 @@ use Rattle.rules.specs.Boxes.{Size}
 use Rattle.rules.specs.Values.{neighbourAs, sizeAs}
 use Rattle.nodes.specs.Bounds.{nodesFit}
 use Rattle.nodes.specs.Drawn.{Drawn}
-use Rattle.nodes.specs.Hull.{hull, hullFits, joined}
+use Rattle.nodes.specs.Hull.{hullFits, joined}
 use Rattle.nodes.specs.HullLaws.{fits-hull}
 use Rattle.nodes.specs.Runs.{hullOf, isLarge, RunIs}
+use Rattle.setting.specs.Setting.{Box, Line, start, setItems, setList}
+use Rattle.setting.specs.Fitting.{sizeFits, boxFits, itemsFit}
 use Rattle.walk.specs.declared.lines.Line as lines
 use Rattle.walk.specs.declared.lists.ItemsSet.{ItemsSet}
 use Rattle.walk.specs.declared.lists.ItemsSet.the-variants as items
-use Rattle.walk.specs.Setting.{Box, Line, start, setItems, setList}
-use Rattle.walk.specs.Fitting.{sizeFits, boxFits, itemsFit}
 use Rattle.walk.specs.Values.{bareLine, lineFits}
 use Rattle.walk.specs.Bounds.{LineWithin}
 use Rattle.walk.specs.Walked.{StartLine, ItemsDone, ListWhole, ListDone}
@@ -38,18 +38,12 @@ line-fits {F} {s} {l} {c = c} w = go (itemsFit F s l) refl
     b : Box
     b = setList F s l
 
-    turned : (x y : Bool) → (x && y) ≡ (y && x && true)
-    turned true true = refl
-    turned true false = refl
-    turned false true = refl
-    turned false false = refl
-
     go : (t : Bool) → itemsFit F s l ≡ t → lineFits c ≡ (sizeFits (b .size) && nodesFit (b .nodes) && itemsFit F s l)
     go true e =
         let small : isLarge (c .run) ≡ false = w .large-is ∙ ap not e in
         let reach : hullFits (hullOf (c .run)) ≡ nodesFit (b .nodes) = ap hullFits (w .run-is e .hull-is) ∙ sym (fits-hull (b .nodes)) in
         let size : sizeFits (sizeAs (c .size)) ≡ sizeFits (b .size) = ap sizeFits (w .size-is e) in
-        rw (small, reach, size, e) (turned (nodesFit (b .nodes)) (sizeFits (b .size)))
+        rw (small, reach, size, e) (and-comm (nodesFit (b .nodes)) (sizeFits (b .size)) ∙ sym (and-true (sizeFits (b .size) && nodesFit (b .nodes))))
     go false e =
         let large : isLarge (c .run) ≡ true = w .large-is ∙ ap not e in
         rw (large, e) (sym (and-false (sizeFits (b .size) && nodesFit (b .nodes))))

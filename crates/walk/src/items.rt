@@ -1,6 +1,5 @@
 // An item whose fields have been set, arranged and put at its place in the list. Nothing here calls a setter.
 
-ghost use mathlib.Core.Path.{_≡_};
 ghost use Rattle.rules.specs.Arrange as rules;
 ghost use Rattle.rules.specs.Values.{parametersIn, neighbourAs, shapeAs, placeAs, rulingAs, arrangedAs};
 ghost use Rattle.rules.specs.Bounds.{ModerateShape};

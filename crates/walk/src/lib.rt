@@ -1,6 +1,5 @@
 // The walk over a formula that sets it: a list's setter calls the item's, that the field's, and that the list's. The box of
-// a list is defined in specs/Setting.antt, what stops the walk in specs/Missing.antt, and what is too large in
-// specs/Fitting.antt.
+// a list, what stops the walk and what is too large are defined in crate setting.
 // A list is set at its own reference point, into the front of the buffer that it is lent, and its nodes are moved once the
 // item that holds it knows where it stands. A node that has no room is not written, so that an empty buffer measures.
 

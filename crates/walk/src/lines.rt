@@ -7,7 +7,7 @@ ghost use Rattle.formula.specs.Heads.{greatestKern};
 ghost use Rattle.rules.specs.Values.{sizeAs};
 ghost use Rattle.nodes.specs.Hull.{hullFits};
 ghost use Rattle.nodes.specs.Runs.{hullOf, isLarge};
-ghost use Rattle.walk.specs.Fitting.{sizeFits};
+ghost use Rattle.setting.specs.Fitting.{sizeFits};
 ghost use Rattle.walk.specs.Bounds.{longest, LineWithin};
 ghost use Rattle.walk.specs.Walked.{StartLine, KernedLine, ItemGoes, ExtendedLine, ListPart, SizesGo, SizesBeside};
 use crate::parts::Part;

@@ -5,7 +5,7 @@ ghost use Prim.Native.Nat.{_≤_};
 ghost use lib.ListN.{length};
 ghost use Rattle.formula.specs.Places as tree;
 ghost use Rattle.rules.specs.Values.{neighbourAs};
-ghost use Rattle.walk.specs.Setting.{nextClass};
+ghost use Rattle.setting.specs.Setting.{nextClass};
 ghost use Rattle.walk.specs.Bounds.{longest};
 ghost use Rattle.walk.specs.Walked.{ChangesAlike};
 use formula::Class;

@@ -3,7 +3,7 @@
 ghost use mathlib.Core.Path.{_≡_};
 ghost use Rattle.font.specs.Font.{fontOf};
 ghost use Rattle.font.specs.Answers.{foundAs, successorAs};
-ghost use Rattle.walk.specs.Setting as definition;
+ghost use Rattle.setting.specs.Setting as definition;
 ghost use Rattle.walk.specs.Values.{symbolAs, soughtAs};
 use font::Found;
 use font::Metrics;

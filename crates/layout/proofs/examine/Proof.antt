@@ -1,6 +1,6 @@
 -- What the walk finds without room, by `whole-examined` and `missing-refused`.
-use Rattle.layout.proofs.AnsweringLaws.{whole-examined, missing-refused}
 use borrow.Author.Needs.{needs}
+use Rattle.layout.proofs.AnsweringLaws.{whole-examined, missing-refused}
 use Rattle.layout.proofs.examine.Statement.{statement}
 use Rattle.layout.proofs.examine.Tie as tie
 

@@ -1,8 +1,8 @@
 -- Each fault has its answer.
 use mathlib.Core.Path.{sym, ap}
+use borrow.Author.Needs.{needs}
 use Rattle.formula.specs.declared.Fault.{Fault}
 use Rattle.layout.specs.Answers.{refusal, faultNumber}
-use borrow.Author.Needs.{needs}
 use Rattle.layout.proofs.faulty.Statement.{statement}
 use Rattle.layout.proofs.faulty.Tie as tie
 

@@ -1,9 +1,9 @@
 -- What was found, as measuring answers it.
+use borrow.Author.Needs.{needs}
 use Rattle.font.specs.FontLaws.{good-header}
 use Rattle.layout.specs.Answering.{Reads}
 use Rattle.layout.proofs.AnsweringLaws.{given-list}
 use Rattle.layout.proofs.EntryLaws.{measured-is, measured-refused, refused-later}
-use borrow.Author.Needs.{needs}
 use Rattle.layout.proofs.measure.Statement.{statement}
 use Rattle.layout.proofs.measure.Tie as tie
 

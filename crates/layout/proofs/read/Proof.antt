@@ -3,12 +3,12 @@ use mathlib.Core.Path.{_≡_, sym, ap, _∙_}
 use mathlib.Core.Bool.{true}
 use mathlib.Core.Option.{some}
 use borrow.Author.Tests.{not-true, not-false}
+use borrow.Author.Needs.{needs}
 use Rattle.font.specs.Table.{goodTable}
 use Rattle.formula.specs.PlacesLaws.{formula-good, formula-fault}
 use Rattle.rules.specs.Styles.{styleOf}
 use Rattle.rules.specs.Values.{numberedAs}
 use Rattle.layout.proofs.AnsweringLaws.{style-refused, table-refused, fault-refused, formula-reads}
-use borrow.Author.Needs.{needs}
 use Rattle.layout.proofs.read.Statement.{statement}
 use Rattle.layout.proofs.read.Tie as tie
 

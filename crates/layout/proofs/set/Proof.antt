@@ -1,12 +1,12 @@
 -- What was found, as setting answers it, and the buffer after it.
 use native.Mathlib.Omega.{arith}
 use lib.ListN.{length, length-take}
+use borrow.Author.Needs.{needs}
 use Rattle.font.specs.FontLaws.{good-header}
 use Rattle.walk.specs.Walked.{ListGiven}
 use Rattle.layout.specs.Answering.{Reads, Boxes}
 use Rattle.layout.proofs.AnsweringLaws.{given-list}
 use Rattle.layout.proofs.EntryLaws.{setting-is, no-room-is, written-is, refused-is, refused-later}
-use borrow.Author.Needs.{needs}
 use Rattle.layout.proofs.set.Statement.{statement}
 use Rattle.layout.proofs.set.Tie as tie
 

@@ -1,21 +1,20 @@
 -- `finished` meets its contract: the item is arranged, put at its place, and stands behind the line.
 -- Assumes nothing.
-use mathlib.Core.Path.{_≡_, refl, ap, _∙_}
+use mathlib.Core.Path.{_≡_, ap, _∙_}
 use mathlib.Core.Bool.{Bool, _||_}
-use Prim.Native.Nat.{ℕ, _+_, _^_, _≤_}
+use Prim.Native.Nat.{ℕ, _+_, _^_}
 use native.Mathlib.Omega.{arith}
 use lib.IntN.{ℤ, _+ℤ_}
+use borrow.Author.Needs.{needs}
 use Rattle.scaled.specs.Signed.{Within}
 use Rattle.scaled.specs.Linear.{#, _⊕_, within-by}
 use Rattle.rules.specs.Spacing.{spaceBefore}
 use Rattle.rules.specs.Values.{parametersIn, neighbourAs, arrangedAs}
 use Rattle.rules.specs.Bounds.{words}
-use Rattle.nodes.specs.Hull.{Hull, joined}
+use Rattle.nodes.specs.Hull.{joined}
 use Rattle.nodes.specs.Runs.{hullOf, isLarge}
 use Rattle.walk.specs.Bounds.{longest, stride}
-use Rattle.walk.specs.Walked.{itemCount}
 use Rattle.walk.proofs.ItemLaws.{few-rules, item-grows}
-use borrow.Author.Needs.{needs}
 use Rattle.walk.proofs.items.finished.Statement.{statement}
 use Rattle.walk.proofs.items.finished.Tie as tie
 

@@ -1,12 +1,11 @@
 -- `move_field` meets its contract: the nodes and their reach are moved by the same sum.
 -- Assumes nothing.
-use mathlib.Core.Path.{_∙_, ap}
 use native.Mathlib.Omega.{arith}
+use borrow.Author.Needs.{needs}
 use Rattle.scaled.specs.Made.{reach}
 use Rattle.nodes.specs.Bounds.{greatestLength}
 use Rattle.nodes.specs.HullLaws.{within-more}
 use Rattle.nodes.specs.Runs.{hullOf}
-use borrow.Author.Needs.{needs}
 use Rattle.walk.proofs.items.move_field.Statement.{statement}
 use Rattle.walk.proofs.items.move_field.Tie as tie
 

@@ -1,21 +1,21 @@
 -- `put_item` meets its contract: its five steps are those of `itemBuffer`, and each stands behind as many nodes as were there before.
 -- Assumes nothing.
 use mathlib.Core.Path.{_≡_, ap, ap₂, _∙_}
-use Prim.Native.Nat.{ℕ, _+_, _≤_}
-use mathlib.Core.List.{List}
 use mathlib.Core.Bool.{Bool, _||_}
+use mathlib.Core.List.{List}
+use Prim.Native.Nat.{ℕ, _+_}
 use native.Mathlib.Omega.{arith}
 use lib.IntN.{pos, _+ℤ_}
 use lib.ListN.{length}
-use Rattle.rules.specs.Values.{rulingAs, arrangedAs}
+use borrow.Author.Needs.{needs}
+use Rattle.rules.specs.Values.{arrangedAs}
 use Rattle.nodes.specs.Nodes.{moved}
 use Rattle.nodes.specs.Buffer.{movedFront, behindNodes}
 use Rattle.nodes.specs.Hull.{Hull, joined, movedHull, hull}
 use Rattle.nodes.specs.Runs.{hullOf, isLarge}
-use Rattle.walk.specs.Setting.{ruleNodes}
+use Rattle.setting.specs.Setting.{ruleNodes}
 use Rattle.walk.specs.Walked.{rulesPut}
 use Rattle.walk.proofs.ItemLaws.{few-rules}
-use borrow.Author.Needs.{needs}
 use Rattle.walk.proofs.items.put_item.Statement.{statement}
 use Rattle.walk.proofs.items.put_item.Tie as tie
 

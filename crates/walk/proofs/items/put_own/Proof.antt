@@ -1,20 +1,20 @@
 -- `put_own` meets its contract: no node without a rule, and one at x with it.
 -- Assumes nothing.
 use mathlib.Core.Path.{_≡_, refl, sym, ap, _∙_}
-use mathlib.Core.List.{[], _∷_}
 use mathlib.Core.Bool.{or-false}
+use mathlib.Core.List.{[], _∷_}
 use native.Mathlib.Omega.{arith}
 use lib.IntN.{pos, _+ℤ_}
+use borrow.Author.Needs.{needs}
 use Rattle.rules.specs.Values.{ruleAs}
 use Rattle.nodes.specs.Nodes.{Node, rule, moved, movedNode}
 use Rattle.nodes.specs.Buffer.{put, behindNodes}
 use Rattle.nodes.specs.Hull.{joined, hull}
 use Rattle.nodes.specs.HullLaws.{join-none, hull-node}
 use Rattle.nodes.specs.Runs.{hullOf, isLarge}
-use Rattle.walk.specs.Setting.{ruleNode, ruleNodes}
+use Rattle.setting.specs.Setting.{ruleNode, ruleNodes}
 use Rattle.walk.specs.Walked.{rulesPut}
 use Rattle.walk.proofs.ItemLaws.{rule-moved}
-use borrow.Author.Needs.{needs}
 use Rattle.walk.proofs.items.put_own.Statement.{statement}
 use Rattle.walk.proofs.items.put_own.Tie as tie
 

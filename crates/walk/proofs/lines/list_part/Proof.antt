@@ -1,9 +1,11 @@
 -- `list_part` meets its contract: a list that fits is moderate, and its nodes are within the greatest length.
 -- Assumes nothing.
 use mathlib.Core.Path.{_≡_, refl, sym, ap, _∙_}
-use mathlib.Core.Bool.{Bool, true, false, not, _&&_, and-eq-true-iff}
+use mathlib.Core.Bool.{true, false, not, _&&_, and-eq-true-iff}
 use Prim.Native.Nat.{ℕ}
 use native.Mathlib.Omega.{arith}
+use borrow.Author.Needs.{needs}
+use borrow.Author.Tests.{not-true}
 use Rattle.rules.specs.declared.boxes.Shape.the-variants.{Nothing, Box}
 use Rattle.rules.specs.Values.{sizeAs}
 use Rattle.nodes.specs.declared.run.Run.{Run}
@@ -11,11 +13,10 @@ use Rattle.nodes.specs.Bounds.{within}
 use Rattle.nodes.specs.Hull.{hullFits}
 use Rattle.nodes.specs.HullLaws.{within-true, fits-within}
 use Rattle.nodes.specs.Runs.{hullOf, isLarge, LargeRun}
+use Rattle.setting.specs.Fitting.{sizeFits}
 use Rattle.walk.specs.declared.lines.Line as lines
-use Rattle.walk.specs.Fitting.{sizeFits}
 use Rattle.walk.specs.Values.{lineFits}
 use Rattle.walk.specs.Walked.{ListPart}
-use borrow.Author.Needs.{needs}
 use Rattle.walk.proofs.lines.list_part.Statement.{statement}
 use Rattle.walk.proofs.lines.list_part.Tie as tie
 
@@ -32,16 +33,12 @@ module _ (end : ℕ) (l : lines.Line) where
       let depth = within-true (z .depth .0) (size .1) in
       record {
         end-is = refl;
-        large-is = not-large (isLarge (l .run)) (reach .0) ∙ ap not (sym e);
+        large-is = not-true (isLarge (l .run)) (reach .0) ∙ ap not (sym e);
         shape = record { width = omega arith; height = omega arith; depth = omega arith };
         count = omega arith;
         hull = fits-within (hullOf (l .run)) (reach .1);
         is = λ h. (refl, refl);
       }
-    where
-      not-large : (t : Bool) → not t ≡ true → t ≡ false
-      not-large true e = sym e
-      not-large false e = refl
 
   list-large : {r : Run} → lineFits l ≡ false → LargeRun r → ListPart end l (record { end = end; shape = Nothing; run = r })
   list-large e large =

@@ -4,36 +4,47 @@
 -- `three`); each need follows by one law of `FieldLaws`, `ListLaws` or `NoadLaws`.
 -- Assumes nothing.
 use mathlib.Core.Path.{_≡_, refl, sym, subst, ap, _∙_}
+use mathlib.Core.Logic.{⊎-elim}
 use mathlib.Core.Bool.{false}
 use mathlib.Core.List.{List}
-use mathlib.Core.Logic.{⊎-elim}
 use mathlib.Core.Option.{some}
 use Prim.Native.Nat.{ℕ, _+_, _-_, _*_, _≤_, _<_}
 use native.Mathlib.Omega.{arith}
 use lib.ListN.{length, take, drop}
 use borrow.Author.Needs.{needs}
 use borrow.Rule.Slice.PartMut.{putMid, same-len-mid}
+use borrow.Fn.Kinds.{In}
+use borrow.Fn.PlainCycle.{Measures, is, falls, and}
 use Rattle.font.specs.Font.{fontOf}
 use Rattle.formula.specs.declared.FieldHead.the-variants.{Sublist}
 use Rattle.formula.specs.declared.Opening.the-variants.{NoItem}
-use Rattle.formula.specs.HeadLaws.{kern-small}
 use Rattle.formula.specs.Places.{treeOf, end}
+use Rattle.formula.specs.HeadLaws.{kern-small}
 use Rattle.formula.specs.PlacesLaws.{step, Noad, noad-at, third-good}
+use Rattle.formula.proofs.heads.field_bytes.Reads as field-bytes-reads
+use Rattle.formula.proofs.heads.field_head.Reads as field-head-reads
+use Rattle.formula.proofs.heads.has_third.Reads as has-third-reads
+use Rattle.formula.proofs.heads.opening.Reads as opening-reads
+use Rattle.formula.proofs.heads.opening_bytes.Reads as opening-bytes-reads
 use Rattle.rules.specs.Parameters.{Parameters}
 use Rattle.rules.specs.Arrange.{ownCounts}
 use Rattle.rules.specs.Values.{neighbourAs}
+use Rattle.rules.proofs.arrange.enlarges.Reads as enlarges-reads
+use Rattle.rules.proofs.arrange.first_style.Reads as first-style-reads
+use Rattle.rules.proofs.arrange.own_counts.Reads as own-counts-reads
+use Rattle.rules.proofs.arrange.second_style.Reads as second-style-reads
+use Rattle.rules.proofs.arrange.third_style.Reads as third-style-reads
+use Rattle.nodes.proofs.room.Reads as room-reads
+use Rattle.setting.specs.Missing.{missingItems}
 use Rattle.walk.specs.declared.parts.FieldSet.{FieldSet}
 use Rattle.walk.specs.declared.parts.FieldSet.the-variants as field
 use Rattle.walk.specs.declared.lists.Step.{Step}
-use Rattle.walk.specs.Missing.{missingItems}
 use Rattle.walk.specs.Bounds.{longest}
 use Rattle.walk.specs.Walked.{HeadDone, ItemDone}
-use Rattle.walk.proofs.PlaceLaws.{tail-given, right-alike}
 use Rattle.walk.proofs.FieldLaws.{Head, head-at, head-short, head-empty, head-symbol, head-whole, head-missing, list-given}
+use Rattle.walk.proofs.PlaceLaws.{tail-given, right-alike}
 use Rattle.walk.proofs.NoadLaws.{head-as, finished-by, lacksZ, first-lacks, second-lacks, third-lacks, One, Two, Three, ThirdDone, set-one, set-two, set-three, none-third, finish-given, noad-lacks, noad-done}
 use Rattle.walk.proofs.ListLaws.{line-more, kern-done, rest-given, Along, along-start, along-next, along-stop, along-done}
-use borrow.Fn.Kinds.{In}
-use borrow.Fn.PlainCycle.{Measures, is, falls, and}
 use Rattle.walk.proofs.lists.set_field.Reads as set-field
 use Rattle.walk.proofs.lists.set_field.Kinds as set-field-kinds
 use Rattle.walk.proofs.lists.+set_field+set_item+set_items+set_noad.Lts-set_field as set-field-lts
@@ -46,17 +57,6 @@ use Rattle.walk.proofs.lists.+set_field+set_item+set_items+set_noad.Lts
 use Rattle.walk.proofs.lists.set_noad.Reads as set-noad
 use Rattle.walk.proofs.lists.set_noad.Kinds as set-noad-kinds
 use Rattle.walk.proofs.lists.+set_field+set_item+set_items+set_noad.Lts-set_noad as set-noad-lts
-use Rattle.formula.proofs.heads.field_bytes.Reads as field-bytes-reads
-use Rattle.formula.proofs.heads.field_head.Reads as field-head-reads
-use Rattle.formula.proofs.heads.has_third.Reads as has-third-reads
-use Rattle.formula.proofs.heads.opening.Reads as opening-reads
-use Rattle.formula.proofs.heads.opening_bytes.Reads as opening-bytes-reads
-use Rattle.nodes.proofs.room.Reads as room-reads
-use Rattle.rules.proofs.arrange.enlarges.Reads as enlarges-reads
-use Rattle.rules.proofs.arrange.first_style.Reads as first-style-reads
-use Rattle.rules.proofs.arrange.own_counts.Reads as own-counts-reads
-use Rattle.rules.proofs.arrange.second_style.Reads as second-style-reads
-use Rattle.rules.proofs.arrange.third_style.Reads as third-style-reads
 use Rattle.walk.proofs.items.finished.Reads as finished-reads
 use Rattle.walk.proofs.lines.kerned.Reads as kerned-reads
 use Rattle.walk.proofs.lines.list_part.Reads as list-part-reads

@@ -1,10 +1,10 @@
 -- `set_list` meets its contract: a list is its items behind an empty line.
 -- Assumes nothing.
 use lib.ListN.{length}
+use borrow.Author.Needs.{needs}
 use Rattle.font.specs.Font.{fontOf}
 use Rattle.formula.specs.Places.{treeOf}
 use Rattle.walk.specs.WalkedLaws.{start-within, list-of-items}
-use borrow.Author.Needs.{needs}
 use Rattle.walk.proofs.lists.set_list.Statement.{statement}
 use Rattle.walk.proofs.lists.set_list.Tie as tie
 

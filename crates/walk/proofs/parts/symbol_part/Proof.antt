@@ -2,12 +2,12 @@
 -- Assumes nothing.
 use mathlib.Core.Path.{_≡_, sym, ap, _∙_}
 use mathlib.Core.Option.{none, some}
+use borrow.Author.Needs.{needs}
 use Rattle.font.specs.Font.{fontOf}
 use Rattle.rules.specs.Styles.{fontSize}
-use Rattle.walk.specs.Setting.{symbolIn}
+use Rattle.setting.specs.Setting.{symbolIn}
 use Rattle.walk.specs.Values.{symbolAs, soughtAs}
 use Rattle.walk.proofs.PartLaws.{symbol-whole, symbol-missing}
-use borrow.Author.Needs.{needs}
 use Rattle.walk.proofs.parts.symbol_part.Statement.{statement}
 use Rattle.walk.proofs.parts.symbol_part.Tie as tie
 

@@ -1,13 +1,13 @@
 -- `right_of` meets its contract: what follows an item changes a Bin alone (`others-alike`).
 -- Assumes nothing.
-use mathlib.Core.List.{[], _∷_}
 use mathlib.Core.Path.{_≡_, refl, ap}
-use types.Run.{OneOf, miss}
-use denote.Enum.Declared.{tagOf}
+use mathlib.Core.List.{[], _∷_}
 use borrow.Author.Needs.{needs}
-use Rattle.formula.proofs.Class.{the-type}
+use denote.Enum.Declared.{tagOf}
+use types.Run.{OneOf, miss}
 use Rattle.formula.specs.declared.Class.{Class}
 use Rattle.formula.specs.declared.Class.the-variants.{Ord, Op, Bin, Rel, Open, Close, Punct, Inner}
+use Rattle.formula.proofs.Class.{the-type}
 use Rattle.rules.specs.Classes.{Neighbour, changedClass}
 use Rattle.walk.proofs.places.right_of.Statement.{statement}
 use Rattle.walk.proofs.places.right_of.Tie as tie

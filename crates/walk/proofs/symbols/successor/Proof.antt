@@ -2,7 +2,7 @@
 -- Assumes nothing.
 use mathlib.Core.Path.{ap, _∙_}
 use borrow.Author.Needs.{needs}
-use Rattle.walk.specs.Setting.{found, successor}
+use Rattle.setting.specs.Setting.{found, successor}
 use Rattle.walk.proofs.symbols.successor.Statement.{statement}
 use Rattle.walk.proofs.symbols.successor.Tie as tie
 

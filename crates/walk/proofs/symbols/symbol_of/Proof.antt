@@ -1,7 +1,7 @@
 -- `symbol_of` meets its contract: it takes the cases of `found`.
 -- Assumes nothing.
 use borrow.Author.Needs.{needs}
-use Rattle.walk.specs.Setting.{found}
+use Rattle.setting.specs.Setting.{found}
 use Rattle.walk.proofs.symbols.symbol_of.Statement.{statement}
 use Rattle.walk.proofs.symbols.symbol_of.Tie as tie
 

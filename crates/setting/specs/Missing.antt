@@ -2,7 +2,7 @@
 -- Its place is its field's kind byte. As in the reading, a place within a list counts from the list's first byte, and a place
 -- within an item from the item's. The fields of an item stand behind its opening bytes, one behind the other.
 -- Assumes nothing.
-use mathlib.Core.Bool.{Bool, true, false}
+use mathlib.Core.Bool.{Bool, false}
 use mathlib.Core.Option.{Option, none, some}
 use Prim.Native.Nat.{ℕ, _+_}
 use Rattle.font.specs.Font.{Font}
@@ -10,7 +10,7 @@ use Rattle.formula.specs.Tree.{Items, Item, Field, nil, cons, noad, kern, empty
 use Rattle.rules.specs.declared.Style.{Style}
 use Rattle.rules.specs.Styles.{fontSize}
 use Rattle.rules.specs.Arrange.{firstStyle, secondStyle, thirdStyle, enlarges}
-use Rattle.walk.specs.Setting.{Symbol, symbolIn}
+use Rattle.setting.specs.Setting.{Symbol, symbolIn}
 
 -- the earlier of two places, where the first stands earlier in the formula
 abbrev pub _orElse_ : Option ℕ → Option ℕ → Option ℕ

@@ -4,7 +4,7 @@
 -- Both go down the path, a step at a time: both tests of a list are made of those of its items, and those of the fields.
 -- Assumes nothing.
 use mathlib.Core.Path.{_≡_, refl}
-use mathlib.Core.Bool.{Bool, true, false, _&&_}
+use mathlib.Core.Bool.{Bool, true, false, _&&_, and-eq-true-iff}
 use mathlib.Core.Option.{Option, none, some}
 use Prim.Native.Nat.{ℕ, _+_}
 use native.Mathlib.Omega.{arith}
@@ -13,10 +13,10 @@ use Rattle.formula.specs.declared.Kind.{Kind}
 use Rattle.formula.specs.Tree.{Items, Field, nil, cons, noad, list, openingBytes, itemBytes, fieldBytes}
 use Rattle.rules.specs.declared.Style.{Style}
 use Rattle.rules.specs.Arrange.{firstStyle, secondStyle, thirdStyle, enlarges}
-use Rattle.walk.specs.Setting.{setList}
-use Rattle.walk.specs.Missing.{_orElse_, later, missingItems, missingItem, missingField}
-use Rattle.walk.specs.Fitting.{boxFits, itemsFit, itemFits, fieldFits, listFits}
-use Rattle.walk.specs.Paths.{Arm, inFirst, inSecond, inThird, holding, fieldStyle, join, listWith, Path, whole, into, fill, styleAt}
+use Rattle.setting.specs.Setting.{setList}
+use Rattle.setting.specs.Missing.{_orElse_, later, missingItems, missingItem, missingField}
+use Rattle.setting.specs.Fitting.{boxFits, itemsFit, itemFits, fieldFits, listFits}
+use Rattle.setting.specs.Paths.{Arm, inFirst, inSecond, inThird, holding, fieldStyle, join, listWith, Path, whole, into, fill, styleAt}
 
 -- ---- answer 5
 
@@ -79,14 +79,10 @@ module _ (F : Font) where
 
 -- ---- answer 6
 
-both-true : (x y : Bool) → (x && y) ≡ true → (x ≡ true) × (y ≡ true)
-both-true true y e = (refl, e)
-both-true false y e = let z : _≡_ {A = ℕ} 0 1 = cc in absurd (omega arith)
-
 all-true : (x y z : Bool) → (x && y && z) ≡ true → (x ≡ true) × (y ≡ true) × (z ≡ true)
 all-true x y z e =
-    let h = both-true (x && y) z e in
-    let k = both-true x y (h .0) in
+    let h = and-eq-true-iff (x && y) z .0 e in
+    let k = and-eq-true-iff x y .0 (h .0) in
     (k .0, k .1, h .1)
 
 module _ (F : Font) where
@@ -109,15 +105,15 @@ module _ (F : Font) where
       itemsFit F s (join before (cons (holding kind g l) after)) ≡ true → listFits F (fieldStyle kind g s) l ≡ true
   unfolding itemsFit
   fits-in-items s nil kind g l after e =
-      fits-in-item s kind g l (both-true (itemFits F s (holding kind g l)) (itemsFit F s after) e .0)
+      fits-in-item s kind g l (and-eq-true-iff (itemFits F s (holding kind g l)) (itemsFit F s after) .0 e .0)
   fits-in-items s (cons i r) kind g l after e =
       let rest = join r (cons (holding kind g l) after) in
-      fits-in-items s r kind g l after (both-true (itemFits F s i) (itemsFit F s rest) e .1)
+      fits-in-items s r kind g l after (and-eq-true-iff (itemFits F s i) (itemsFit F s rest) .0 e .1)
 
   pub fits-alone : (s : Style) (p : Path) (l : Items) → listFits F s (fill p l) ≡ true → listFits F (styleAt s p) l ≡ true
   unfolding listFits
   fits-alone s whole l e = e
   fits-alone s (into p t) l e =
       let outer = listWith t l in
-      let h = both-true (boxFits (setList F (styleAt s p) outer)) (itemsFit F (styleAt s p) outer) (fits-alone s p outer e) in
+      let h = and-eq-true-iff (boxFits (setList F (styleAt s p) outer)) (itemsFit F (styleAt s p) outer) .0 (fits-alone s p outer e) in
       fits-in-items (styleAt s p) (t .before) (t .kind) (t .arm) l (t .after) (h .1)

@@ -1,14 +1,14 @@
 -- Whether a list, and every list in it, keeps within the greatest length (document 01, answer 6): its size, and its nodes
 -- as measured from its own reference point. A node so comes to be measured from the reference point of each list around it.
 -- Assumes nothing.
-use mathlib.Core.Bool.{Bool, true, false, _&&_}
+use mathlib.Core.Bool.{Bool, true, _&&_}
 use Rattle.font.specs.Font.{Font}
 use Rattle.formula.specs.Tree.{Items, Item, Field, nil, cons, noad, kern, empty, symbol, list}
 use Rattle.rules.specs.declared.Style.{Style}
 use Rattle.rules.specs.Boxes.{Size}
 use Rattle.rules.specs.Arrange.{firstStyle, secondStyle, thirdStyle}
 use Rattle.nodes.specs.Bounds.{within, nodesFit}
-use Rattle.walk.specs.Setting.{Box, setList}
+use Rattle.setting.specs.Setting.{Box, setList}
 
 abbrev pub sizeFits : Size → Bool
 sizeFits z = within (z .width) && within (z .height) && within (z .depth)

@@ -20,9 +20,9 @@ use Rattle.rules.specs.Spacing.{spaceBefore}
 use Rattle.rules.specs.Boxes.{Size, box, Place, Arranged, at}
 use Rattle.rules.specs.Arrange.{arrange, firstStyle, secondStyle, thirdStyle, enlarges}
 use Rattle.nodes.specs.Nodes.{Node}
-use Rattle.walk.specs.Setting.{Box, Part, Line, start, movedTo, ruleNodes, itemNodes, itemBox, placed, nextClass, setItems, setItem, setField, setList}
-use Rattle.walk.specs.Frames.{Frame, movedBy, framed, bare, nest, framed-bare, framed-nest}
-use Rattle.walk.specs.Paths.{Arm, inFirst, inSecond, inThird, holding, fieldStyle, Step, join, holder, listWith, stepStyle, Path, whole, into, fill, styleAt}
+use Rattle.setting.specs.Setting.{Box, Part, Line, start, movedTo, ruleNodes, itemNodes, itemBox, placed, nextClass, setItems, setItem, setField, setList}
+use Rattle.setting.specs.Frames.{Frame, movedBy, framed, bare, nest, framed-bare, framed-nest}
+use Rattle.setting.specs.Paths.{Arm, inFirst, inSecond, inThird, holding, fieldStyle, Step, join, holder, listWith, stepStyle, Path, whole, into, fill, styleAt}
 
 abbrev pub listPart : Box → Part
 listPart b = record { shape = box (b .size); nodes = b .nodes }
