@@ -6,8 +6,8 @@ ghost use lib.ListN.{length};
 ghost use Rattle.layout.specs.Answers.{measured, setting, bufferAfter, refusal};
 ghost use Rattle.layout.specs.Answering.{answeredAs};
 ghost use Rattle.capi.specs.Words.{numberBy, wordsBy, bufferBy, answerWords, countWord};
+use boxes::Size;
 use layout::Answer;
-use rules::boxes::Size;
 
 // How many words an answer takes.
 const ANSWER_SPACE: usize = 5;

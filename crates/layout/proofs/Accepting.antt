@@ -18,8 +18,8 @@ use Rattle.font.specs.Font.{Font, fontOf}
 use Rattle.formula.specs.declared.Fault.the-variants.{Unreadable, TooDeep}
 use Rattle.formula.specs.Tree.{Items}
 use Rattle.formula.specs.Reading.{Read, good, fault, readFormula}
-use Rattle.rules.specs.declared.Style.{Style}
-use Rattle.rules.specs.Styles.{styleOf}
+use Rattle.boxes.specs.declared.styles.Style.{Style}
+use Rattle.boxes.specs.Styles.{styleOf}
 use Rattle.nodes.specs.Nodes.{bytesOf, bytesInNode}
 use Rattle.setting.specs.Setting.{Box, setList}
 use Rattle.setting.specs.Missing.{missingItems}

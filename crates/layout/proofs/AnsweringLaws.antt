@@ -17,10 +17,10 @@ use Rattle.formula.specs.Tree.{Items}
 use Rattle.formula.specs.Reading.{Read, fault, readFormula}
 use Rattle.formula.specs.Places.{treeOf}
 use Rattle.formula.specs.PlacesLaws.{FormulaIs}
-use Rattle.rules.specs.declared.Style.{Style}
-use Rattle.rules.specs.Styles.{styleOf}
-use Rattle.rules.specs.Values.{sizeAs}
-use Rattle.rules.specs.ValueLaws.{taken-out}
+use Rattle.boxes.specs.declared.styles.Style.{Style}
+use Rattle.boxes.specs.Styles.{styleOf}
+use Rattle.boxes.specs.Values.{sizeAs}
+use Rattle.boxes.specs.ValueLaws.{taken-out}
 use Rattle.setting.specs.Setting.{setList}
 use Rattle.setting.specs.Missing.{missingItems}
 use Rattle.setting.specs.Fitting.{boxFits, itemsFit, listFits}

@@ -8,14 +8,13 @@ use Rattle.formula.specs.Tree.{itemsBytes, itemBytes, fieldBytes}
 use Rattle.formula.specs.Marks.{markIn, markOf}
 use Rattle.formula.specs.Heads.{atomOf, atomOpening, fractionOf, fractionOpening, kernWithin, kernOpening, opens, openingOf, symbolHead, listHead, fieldHead}
 use Rattle.formula.specs.Reading.{listGot, fieldBy, fieldAt, thirdAt, noadAt, openedBy, itemBy, before as beforeReading, restBy, listBy, readBy, read, readFormula}
-use Rattle.rules.specs.Styles.{styleOf}
-use Rattle.rules.specs.Classes.{changedClass}
-use Rattle.rules.specs.Spacing.{row, chart, spaceBefore}
-use Rattle.rules.specs.Boxes.{greatest}
-use Rattle.rules.specs.Limits.{limited}
-use Rattle.rules.specs.Scripts.{dropUp, dropDown, subscriptDown, leastUp, superscriptUp, pairDown, gapDown, ψOf, lifted, spread, pairShifts, scripted}
-use Rattle.rules.specs.Fractions.{fractionShifts, parted, shiftsWithoutBar, cleared, shiftsWithBar, fraction}
-use Rattle.rules.specs.Arrange.{nucleusOf, arrange}
+use Rattle.boxes.specs.Styles.{styleOf}
+use Rattle.spacing.specs.Classes.{changedClass}
+use Rattle.spacing.specs.Spacing.{row, chart, spaceBefore}
+use Rattle.scripts.specs.Scripts.{greatest, dropUp, dropDown, subscriptDown, leastUp, superscriptUp, pairDown, gapDown, ψOf, lifted, spread, pairShifts, scripted}
+use Rattle.nucleus.specs.Limits.{limited}
+use Rattle.fractions.specs.Fractions.{fractionShifts, parted, shiftsWithoutBar, cleared, shiftsWithBar, fraction}
+use Rattle.arrange.specs.Arrange.{nucleusOf, arrange}
 use Rattle.nodes.specs.Nodes.{moved, signedBytes, nodeBytes, bytesOf}
 use Rattle.nodes.specs.Bounds.{nodesFit}
 use Rattle.setting.specs.Setting.{found, successor, enlarged, symbolIn, symbolPart, ruleNodes, itemNodes, itemBox, placed, nextClass, setItems, setItem, setField, setList}

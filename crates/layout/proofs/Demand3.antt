@@ -17,12 +17,12 @@ use Prim.Native.Nat.{ℕ, _+_, _*_, _≤_}
 use lib.ListN.{length, drop, length-append}
 use Rattle.font.specs.Font.{Font, fontOf}
 use Rattle.formula.specs.Tree.{Items, list}
-use Rattle.rules.specs.declared.Level.{Level}
-use Rattle.rules.specs.declared.Level.the-variants.{Display, Text, Script, Scriptscript}
-use Rattle.rules.specs.declared.Style.{Style}
-use Rattle.rules.specs.Styles.{styleOf}
-use Rattle.rules.specs.Classes.{Neighbour, classOf}
-use Rattle.rules.specs.Boxes.{Size, box}
+use Rattle.boxes.specs.declared.styles.Level.{Level}
+use Rattle.boxes.specs.declared.styles.Level.the-variants.{Display, Text, Script, Scriptscript}
+use Rattle.boxes.specs.declared.styles.Style.{Style}
+use Rattle.boxes.specs.Styles.{styleOf}
+use Rattle.spacing.specs.Classes.{Neighbour, classOf}
+use Rattle.boxes.specs.Boxes.{Size, box}
 use Rattle.nodes.specs.Nodes.{Node, bytesOf, bytesInNode}
 use Rattle.nodes.specs.NodeLaws.{length-moved, bytes-append}
 use Rattle.setting.specs.Setting.{Box, Line, placed, setItem, setField, setList}

@@ -16,8 +16,8 @@ use lib.ListN.{length, take, drop, length-take, drop-of-length-le}
 use borrow.Author.Tests.{lt-leb}
 use Rattle.font.specs.Font.{fontOf}
 use Rattle.formula.specs.Places.{treeOf}
-use Rattle.rules.specs.declared.Style.{Style}
-use Rattle.rules.specs.declared.boxes.Size.{Size}
+use Rattle.boxes.specs.declared.styles.Style.{Style}
+use Rattle.boxes.specs.declared.Size.{Size}
 use Rattle.nodes.specs.Nodes.{Node, bytesOf, bytesInNode}
 use Rattle.nodes.specs.Drawn.{Drawn}
 use Rattle.setting.specs.Setting.{Box, setList}

@@ -12,8 +12,8 @@ use Rattle.formula.specs.declared.Base.the-variants.{Atom}
 use Rattle.formula.specs.declared.Kind.{Kind}
 use Rattle.formula.specs.declared.Kind.the-variants.{Scripted}
 use Rattle.formula.specs.Tree.{Items, Field, nil, cons, noad, empty, symbol}
-use Rattle.rules.specs.declared.Level.the-variants.{Text}
-use Rattle.rules.specs.Styles.{plain}
+use Rattle.boxes.specs.declared.styles.Level.the-variants.{Text}
+use Rattle.boxes.specs.Styles.{plain}
 use Rattle.nodes.specs.Nodes.{glyph}
 use Rattle.setting.specs.Paths.{inSecond, Step, whole, into, fill}
 use Rattle.layout.specs.Answers.{measured}

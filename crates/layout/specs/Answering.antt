@@ -16,9 +16,9 @@ use Rattle.font.specs.Font.{fontOf}
 use Rattle.formula.specs.declared.Fault.the-variants as faults
 use Rattle.formula.specs.Reading.{formulaLimit}
 use Rattle.formula.specs.Places.{Readable, treeOf}
-use Rattle.rules.specs.declared.Style.{Style}
-use Rattle.rules.specs.declared.boxes.Size.{Size}
-use Rattle.rules.specs.Values.{sizeAs}
+use Rattle.boxes.specs.declared.styles.Style.{Style}
+use Rattle.boxes.specs.declared.Size.{Size}
+use Rattle.boxes.specs.Values.{sizeAs}
 use Rattle.setting.specs.Setting.{setList}
 use Rattle.setting.specs.Missing.{missingItems}
 use Rattle.setting.specs.Fitting.{itemsFit}

@@ -13,9 +13,9 @@ use Rattle.formula.specs.declared.Fault.{Fault}
 use Rattle.formula.specs.declared.Fault.the-variants.{Unreadable, TooDeep}
 use Rattle.formula.specs.Tree.{Items}
 use Rattle.formula.specs.Reading.{Read, good, fault, readFormula}
-use Rattle.rules.specs.declared.Style.{Style}
-use Rattle.rules.specs.Styles.{styleOf}
-use Rattle.rules.specs.Boxes.{Size, zeroSize}
+use Rattle.boxes.specs.declared.styles.Style.{Style}
+use Rattle.boxes.specs.Styles.{styleOf}
+use Rattle.boxes.specs.Boxes.{Size, zeroSize}
 use Rattle.nodes.specs.Nodes.{bytesOf, bytesInNode}
 use Rattle.setting.specs.Setting.{Box, setList}
 use Rattle.setting.specs.Missing.{missingItems}

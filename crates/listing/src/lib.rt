@@ -1,9 +1,9 @@
 ghost use Prim.Native.Nat.{_<_};
 // The text that shows an answer: a line with the sizes and the count, a line for each node, or one line for a refusal.
 
+use boxes::Size;
 use layout::Answer;
 use libc::STDOUT_FILENO;
-use rules::boxes::Size;
 use scaled::Sp;
 
 // Writes an answer; the nodes of an acceptance are at the front of the buffer.

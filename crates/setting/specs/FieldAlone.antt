@@ -11,8 +11,8 @@ use native.Mathlib.Omega.{arith}
 use Rattle.font.specs.Font.{Font}
 use Rattle.formula.specs.declared.Kind.{Kind}
 use Rattle.formula.specs.Tree.{Items, Field, nil, cons, noad, list, openingBytes, itemBytes, fieldBytes}
-use Rattle.rules.specs.declared.Style.{Style}
-use Rattle.rules.specs.Arrange.{firstStyle, secondStyle, thirdStyle, enlarges}
+use Rattle.boxes.specs.declared.styles.Style.{Style}
+use Rattle.arrange.specs.Arrange.{firstStyle, secondStyle, thirdStyle, enlarges}
 use Rattle.setting.specs.Setting.{setList}
 use Rattle.setting.specs.Missing.{_orElse_, later, missingItems, missingItem, missingField}
 use Rattle.setting.specs.Fitting.{boxFits, itemsFit, itemFits, fieldFits, listFits}

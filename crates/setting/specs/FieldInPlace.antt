@@ -14,11 +14,11 @@ use lib.IntN.{pos, _+ℤ_}
 use Rattle.font.specs.Font.{Font}
 use Rattle.formula.specs.declared.Kind.{Kind}
 use Rattle.formula.specs.Tree.{Items, Item, Field, nil, cons, noad, kern}
-use Rattle.rules.specs.declared.Style.{Style}
-use Rattle.rules.specs.Classes.{Neighbour, classOf, changedClass}
-use Rattle.rules.specs.Spacing.{spaceBefore}
-use Rattle.rules.specs.Boxes.{Size, box, Place, Arranged, at}
-use Rattle.rules.specs.Arrange.{arrange, firstStyle, secondStyle, thirdStyle, enlarges}
+use Rattle.boxes.specs.declared.styles.Style.{Style}
+use Rattle.spacing.specs.Classes.{Neighbour, classOf, changedClass}
+use Rattle.spacing.specs.Spacing.{spaceBefore}
+use Rattle.boxes.specs.Boxes.{Size, box, Place, Arranged, at}
+use Rattle.arrange.specs.Arrange.{arrange, firstStyle, secondStyle, thirdStyle, enlarges}
 use Rattle.nodes.specs.Nodes.{Node}
 use Rattle.setting.specs.Setting.{Box, Part, Line, start, movedTo, ruleNodes, itemNodes, itemBox, placed, nextClass, setItems, setItem, setField, setList}
 use Rattle.setting.specs.Frames.{Frame, movedBy, framed, bare, nest, framed-bare, framed-nest}

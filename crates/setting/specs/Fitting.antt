@@ -4,9 +4,9 @@
 use mathlib.Core.Bool.{Bool, true, _&&_}
 use Rattle.font.specs.Font.{Font}
 use Rattle.formula.specs.Tree.{Items, Item, Field, nil, cons, noad, kern, empty, symbol, list}
-use Rattle.rules.specs.declared.Style.{Style}
-use Rattle.rules.specs.Boxes.{Size}
-use Rattle.rules.specs.Arrange.{firstStyle, secondStyle, thirdStyle}
+use Rattle.boxes.specs.declared.styles.Style.{Style}
+use Rattle.boxes.specs.Boxes.{Size}
+use Rattle.arrange.specs.Arrange.{firstStyle, secondStyle, thirdStyle}
 use Rattle.nodes.specs.Bounds.{within, nodesFit}
 use Rattle.setting.specs.Setting.{Box, setList}
 

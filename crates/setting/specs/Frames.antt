@@ -6,7 +6,7 @@
 use mathlib.Core.Path.{_≡_, _∙_}
 use mathlib.Core.List.{List, [], _++_, append-nil, append-assoc}
 use lib.IntN.{pos, _+ℤ_}
-use Rattle.rules.specs.Boxes.{Place, origin}
+use Rattle.boxes.specs.Boxes.{Place, origin}
 use Rattle.nodes.specs.Nodes.{Node, moved}
 use Rattle.nodes.specs.NodeLaws.{moved-append, moved-twice, moved-nowhere}
 

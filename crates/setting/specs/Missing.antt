@@ -7,9 +7,9 @@ use mathlib.Core.Option.{Option, none, some}
 use Prim.Native.Nat.{ℕ, _+_}
 use Rattle.font.specs.Font.{Font}
 use Rattle.formula.specs.Tree.{Items, Item, Field, nil, cons, noad, kern, empty, symbol, list, openingBytes, listOpeningBytes, itemBytes, fieldBytes}
-use Rattle.rules.specs.declared.Style.{Style}
-use Rattle.rules.specs.Styles.{fontSize}
-use Rattle.rules.specs.Arrange.{firstStyle, secondStyle, thirdStyle, enlarges}
+use Rattle.boxes.specs.declared.styles.Style.{Style}
+use Rattle.boxes.specs.Styles.{fontSize}
+use Rattle.arrange.specs.Arrange.{firstStyle, secondStyle, thirdStyle, enlarges}
 use Rattle.setting.specs.Setting.{Symbol, symbolIn}
 
 -- the earlier of two places, where the first stands earlier in the formula

@@ -10,8 +10,8 @@
 use Prim.Native.Nat.{ℕ, _+_}
 use Rattle.formula.specs.declared.Kind.{Kind}
 use Rattle.formula.specs.Tree.{Items, Item, Field, nil, cons, noad, list, openingBytes, listOpeningBytes, itemsBytes, fieldBytes}
-use Rattle.rules.specs.declared.Style.{Style}
-use Rattle.rules.specs.Arrange.{firstStyle, secondStyle, thirdStyle}
+use Rattle.boxes.specs.declared.styles.Style.{Style}
+use Rattle.arrange.specs.Arrange.{firstStyle, secondStyle, thirdStyle}
 
 -- ---- a field of an item
 

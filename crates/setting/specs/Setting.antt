@@ -14,12 +14,12 @@ use Rattle.font.specs.Font.{Font, Metrics}
 use Rattle.formula.specs.declared.Class.{Class}
 use Rattle.formula.specs.declared.Kind.{Kind}
 use Rattle.formula.specs.Tree.{Items, Item, Field, nil, cons, noad, kern, empty, symbol, list}
-use Rattle.rules.specs.declared.Style.{Style}
-use Rattle.rules.specs.Styles.{fontSize}
-use Rattle.rules.specs.Classes.{Neighbour, classOf, changedClass}
-use Rattle.rules.specs.Spacing.{spaceBefore}
-use Rattle.rules.specs.Boxes.{Size, Shape, nothing, char, box, Place, Rule, Arranged, zeroSize}
-use Rattle.rules.specs.Arrange.{arrange, firstStyle, secondStyle, thirdStyle, enlarges}
+use Rattle.boxes.specs.declared.styles.Style.{Style}
+use Rattle.boxes.specs.Styles.{fontSize}
+use Rattle.spacing.specs.Classes.{Neighbour, classOf, changedClass}
+use Rattle.spacing.specs.Spacing.{spaceBefore}
+use Rattle.boxes.specs.Boxes.{Size, Shape, nothing, char, box, Place, Rule, Arranged, zeroSize}
+use Rattle.arrange.specs.Arrange.{arrange, firstStyle, secondStyle, thirdStyle, enlarges}
 use Rattle.nodes.specs.Nodes.{Node, glyph, rule, moved}
 
 pub record Box : Type 0 where

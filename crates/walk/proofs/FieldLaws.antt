@@ -19,7 +19,7 @@ use Rattle.formula.specs.Heads.{fieldHead}
 use Rattle.formula.specs.Places.{treeOf, headBytes, headAt, contents, fieldOf, GoodField}
 use Rattle.formula.specs.Slices.{tail-part, field-part}
 use Rattle.formula.specs.HeadLaws.{head-fits, list-opening, contents-shorter}
-use Rattle.rules.specs.declared.Style.{Style}
+use Rattle.boxes.specs.declared.styles.Style.{Style}
 use Rattle.walk.specs.declared.parts.Part as parts
 use Rattle.walk.specs.declared.parts.FieldSet.{FieldSet}
 use Rattle.walk.specs.declared.parts.FieldSet.the-variants.{Whole, Missing}

@@ -14,13 +14,13 @@ use lib.Seq.{length-take-le}
 use Rattle.scaled.specs.Length.{maxℤ}
 use Rattle.scaled.specs.Signed.{Within}
 use Rattle.scaled.specs.Linear.{#, _⊕_, greatest, eq-by, within-by}
-use Rattle.rules.specs.declared.boxes.Place.{Place as CodePlace}
-use Rattle.rules.specs.declared.boxes.Ruling.{Ruling}
-use Rattle.rules.specs.declared.boxes.Ruling.the-variants.{Unruled, Ruled}
-use Rattle.rules.specs.declared.boxes.Arranged.{Arranged as CodeArranged}
-use Rattle.rules.specs.Boxes.{Size, Place, Rule, Arranged}
-use Rattle.rules.specs.Values.{sizeAs, rulingAs, arrangedAs}
-use Rattle.rules.specs.Bounds.{words, itemWords, PlaceWithin, RulingWithin, Bounded}
+use Rattle.boxes.specs.declared.Place.{Place as CodePlace}
+use Rattle.boxes.specs.declared.Ruling.{Ruling}
+use Rattle.boxes.specs.declared.Ruling.the-variants.{Unruled, Ruled}
+use Rattle.boxes.specs.declared.Arranged.{Arranged as CodeArranged}
+use Rattle.boxes.specs.Boxes.{Size, Place, Rule, Arranged}
+use Rattle.boxes.specs.Values.{sizeAs, rulingAs, arrangedAs}
+use Rattle.boxes.specs.Bounds.{words, itemWords, PlaceWithin, RulingWithin, Bounded}
 use Rattle.nodes.specs.Nodes.{Node, rule, moved, movedNode, bytesInNode, nodeBytes, bytesOf}
 use Rattle.nodes.specs.Bounds.{greatestLength}
 use Rattle.nodes.specs.NodeLaws.{length-node-bytes, length-bytes, bytes-append, length-moved, moved-append, moved-twice}

@@ -26,10 +26,11 @@ use Rattle.formula.specs.Places.{Readable, treeOf, itemSize, itemOf}
 use Rattle.formula.specs.Slices.{tail-part}
 use Rattle.formula.specs.HeadLaws.{kern-small}
 use Rattle.formula.specs.PlacesLaws.{Stepped, step, tree-none, item-bytes}
-use Rattle.rules.specs.declared.Style.{Style}
-use Rattle.rules.specs.Classes.{Neighbour}
-use Rattle.rules.specs.Boxes.{Size}
-use Rattle.rules.specs.Values.{neighbourAs, sizeAs}
+use Rattle.boxes.specs.declared.styles.Style.{Style}
+use Rattle.spacing.specs.Classes.{Neighbour}
+use Rattle.boxes.specs.Boxes.{Size}
+use Rattle.spacing.specs.Values.{neighbourAs}
+use Rattle.boxes.specs.Values.{sizeAs}
 use Rattle.nodes.specs.Nodes.{Node}
 use Rattle.nodes.specs.Buffer.{roomFor}
 use Rattle.nodes.specs.Drawn.{Drawn, drawn-none}

@@ -24,14 +24,15 @@ use Rattle.formula.specs.Tree.{Field, openingBytes, fieldBytes}
 use Rattle.formula.specs.Heads.{openingOf}
 use Rattle.formula.specs.Places.{treeOf, hasThird, second, third, thirdEnd, end, itemSize, fieldIn, thirdIn, itemOf}
 use Rattle.formula.specs.PlacesLaws.{field-bytes, Noad}
-use Rattle.rules.specs.declared.Style.{Style}
-use Rattle.rules.specs.Parameters.{Parameters}
-use Rattle.rules.specs.Classes.{Neighbour, classOf, changedClass}
-use Rattle.rules.specs.Spacing.{spaceBefore}
-use Rattle.rules.specs.Boxes.{Arranged}
-use Rattle.rules.specs.Arrange.{arrange, ownCounts, firstStyle, secondStyle, thirdStyle, enlarges}
-use Rattle.rules.specs.ArrangeLaws.{own-before, own-behind, few-own}
-use Rattle.rules.specs.Values.{neighbourAs, sizeAs}
+use Rattle.boxes.specs.declared.styles.Style.{Style}
+use Rattle.boxes.specs.Parameters.{Parameters}
+use Rattle.spacing.specs.Classes.{Neighbour, classOf, changedClass}
+use Rattle.spacing.specs.Spacing.{spaceBefore}
+use Rattle.boxes.specs.Boxes.{Arranged}
+use Rattle.arrange.specs.Arrange.{arrange, ownCounts, firstStyle, secondStyle, thirdStyle, enlarges}
+use Rattle.arrange.specs.ArrangeLaws.{own-before, own-behind, few-own}
+use Rattle.spacing.specs.Values.{neighbourAs}
+use Rattle.boxes.specs.Values.{sizeAs}
 use Rattle.nodes.specs.Nodes.{Node, bytesInNode, bytesOf, moved}
 use Rattle.nodes.specs.Buffer.{roomFor}
 use Rattle.nodes.specs.Drawn.{Drawn}

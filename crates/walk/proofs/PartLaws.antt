@@ -13,11 +13,11 @@ use lib.IntN.{pos}
 use Rattle.font.specs.Font.{Font}
 use Rattle.font.specs.Answers.{metricsAs}
 use Rattle.formula.specs.Tree.{Items, empty, symbol, list, listOpeningBytes}
-use Rattle.rules.specs.declared.Style.{Style}
-use Rattle.rules.specs.declared.boxes.Shape.the-variants.{Char}
-use Rattle.rules.specs.Styles.{fontSize}
-use Rattle.rules.specs.Boxes.{char, box}
-use Rattle.rules.specs.Values.{shapeAs}
+use Rattle.boxes.specs.declared.styles.Style.{Style}
+use Rattle.boxes.specs.declared.Shape.the-variants.{Char}
+use Rattle.boxes.specs.Styles.{fontSize}
+use Rattle.boxes.specs.Boxes.{char, box}
+use Rattle.boxes.specs.Values.{shapeAs}
 use Rattle.nodes.specs.declared.run.Run.{Run}
 use Rattle.nodes.specs.Nodes.{Node, glyph}
 use Rattle.nodes.specs.Bounds.{greatestLength}

@@ -18,7 +18,7 @@ use Rattle.formula.specs.Heads.{openingOf}
 use Rattle.formula.specs.Places.{Readable, treeOf}
 use Rattle.formula.specs.Slices.{tail-part}
 use Rattle.formula.specs.PlacesLaws.{Stepped, step, tree-none}
-use Rattle.rules.specs.Classes.{Neighbour, classOf}
+use Rattle.spacing.specs.Classes.{Neighbour, classOf}
 use Rattle.setting.specs.Setting.{nextClass}
 use Rattle.walk.specs.Bounds.{longest}
 use Rattle.walk.specs.Walked.{ChangesAlike}

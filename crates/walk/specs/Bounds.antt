@@ -4,7 +4,7 @@
 -- Assumes nothing.
 use Prim.Native.Nat.{ℕ, _*_, _^_, _≤_}
 use Rattle.scaled.specs.Signed.{Within}
-use Rattle.rules.specs.Bounds.{words, itemWords}
+use Rattle.boxes.specs.Bounds.{words, itemWords}
 use Rattle.nodes.specs.Hull.{HullWithin}
 use Rattle.nodes.specs.Runs.{hullOf}
 use Rattle.walk.specs.declared.lines.Line as lines

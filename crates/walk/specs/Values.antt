@@ -9,7 +9,8 @@ use mathlib.Core.Bool.{Bool, not, _&&_}
 use mathlib.Core.List.{[]}
 use mathlib.Core.Option.{Option, none, some}
 use Rattle.font.specs.Answers.{metricsAs}
-use Rattle.rules.specs.Values.{neighbourAs, sizeAs, shapeAs}
+use Rattle.spacing.specs.Values.{neighbourAs}
+use Rattle.boxes.specs.Values.{sizeAs, shapeAs}
 use Rattle.nodes.specs.Hull.{hullFits}
 use Rattle.nodes.specs.Runs.{hullOf, isLarge, RunIs}
 use Rattle.setting.specs.Setting.{Symbol, Part, Line}

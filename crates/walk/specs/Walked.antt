@@ -19,20 +19,21 @@ use Rattle.formula.specs.declared.Opening.the-variants.{Fields}
 use Rattle.formula.specs.Tree.{Items, Item, Field}
 use Rattle.formula.specs.Heads.{openingOf}
 use Rattle.formula.specs.Places.{Readable, treeOf, behind, fieldIn, itemSize, itemOf, GoodFieldAt}
-use Rattle.rules.specs.declared.Style.{Style}
-use Rattle.rules.specs.declared.boxes.Shape.the-variants.{Nothing, Box}
-use Rattle.rules.specs.declared.boxes.Place.{Place as CodePlace}
-use Rattle.rules.specs.declared.boxes.Size.{Size as CodeSize}
-use Rattle.rules.specs.declared.boxes.Ruling.{Ruling}
-use Rattle.rules.specs.declared.boxes.Arranged.{Arranged as CodeArranged}
-use Rattle.rules.specs.declared.classes.Neighbour.the-variants.{End, Atom}
-use Rattle.rules.specs.Parameters.{Parameters}
-use Rattle.rules.specs.Classes.{Neighbour, classOf, changedClass}
-use Rattle.rules.specs.Spacing.{spaceBefore}
-use Rattle.rules.specs.Boxes.{Size, zeroSize, Place, Rule, Arranged}
-use Rattle.rules.specs.Arrange.{arrange}
-use Rattle.rules.specs.Values.{parametersIn, neighbourAs, sizeAs, shapeAs, arrangedAs}
-use Rattle.rules.specs.Bounds.{words, itemWords, ModerateShape, PlaceWithin, RulingWithin, Bounded}
+use Rattle.boxes.specs.declared.styles.Style.{Style}
+use Rattle.boxes.specs.declared.Shape.the-variants.{Nothing, Box}
+use Rattle.boxes.specs.declared.Place.{Place as CodePlace}
+use Rattle.boxes.specs.declared.Size.{Size as CodeSize}
+use Rattle.boxes.specs.declared.Ruling.{Ruling}
+use Rattle.boxes.specs.declared.Arranged.{Arranged as CodeArranged}
+use Rattle.spacing.specs.declared.classes.Neighbour.the-variants.{End, Atom}
+use Rattle.boxes.specs.Parameters.{Parameters}
+use Rattle.spacing.specs.Classes.{Neighbour, classOf, changedClass}
+use Rattle.spacing.specs.Spacing.{spaceBefore}
+use Rattle.boxes.specs.Boxes.{Size, zeroSize, Place, Rule, Arranged}
+use Rattle.arrange.specs.Arrange.{arrange}
+use Rattle.boxes.specs.Values.{parametersIn, sizeAs, shapeAs, arrangedAs}
+use Rattle.spacing.specs.Values.{neighbourAs}
+use Rattle.boxes.specs.Bounds.{words, itemWords, ModerateShape, PlaceWithin, RulingWithin, Bounded}
 use Rattle.nodes.specs.declared.run.Run.{Run}
 use Rattle.nodes.specs.Nodes.{movedNode, moved}
 use Rattle.nodes.specs.Bounds.{greatestLength}

@@ -12,10 +12,11 @@ use lib.IntN.{ℤ, pos}
 use Rattle.scaled.specs.Signed.{Within}
 use Rattle.font.specs.Font.{Font}
 use Rattle.formula.specs.Tree.{Items}
-use Rattle.rules.specs.declared.Style.{Style}
-use Rattle.rules.specs.Classes.{Neighbour}
-use Rattle.rules.specs.Boxes.{Size}
-use Rattle.rules.specs.Values.{neighbourAs, sizeAs}
+use Rattle.boxes.specs.declared.styles.Style.{Style}
+use Rattle.spacing.specs.Classes.{Neighbour}
+use Rattle.boxes.specs.Boxes.{Size}
+use Rattle.spacing.specs.Values.{neighbourAs}
+use Rattle.boxes.specs.Values.{sizeAs}
 use Rattle.nodes.specs.Bounds.{nodesFit}
 use Rattle.nodes.specs.Drawn.{Drawn}
 use Rattle.nodes.specs.Hull.{hullFits, joined}

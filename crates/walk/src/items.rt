@@ -1,10 +1,18 @@
 // An item whose fields have been set, arranged and put at its place in the list. Nothing here calls a setter.
 
-ghost use Rattle.rules.specs.Arrange as rules;
-ghost use Rattle.rules.specs.Values.{parametersIn, neighbourAs, shapeAs, placeAs, rulingAs, arrangedAs};
-ghost use Rattle.rules.specs.Bounds.{ModerateShape};
+ghost use Rattle.arrange.specs.Arrange as rules;
+ghost use Rattle.boxes.specs.Values.{parametersIn, shapeAs, placeAs, rulingAs, arrangedAs};
+ghost use Rattle.spacing.specs.Values.{neighbourAs};
+ghost use Rattle.boxes.specs.Bounds.{ModerateShape};
 ghost use Rattle.walk.specs.Bounds.{longest, LineWithin};
 ghost use Rattle.walk.specs.Walked.{SettingIs, MoveGiven, FieldMoved, RulesGiven, RulesPut, PutGiven, ItemPut, FinishGiven, Finished};
+use arrange::arrange;
+use boxes::Arranged;
+use boxes::Place;
+use boxes::Ruling;
+use boxes::Shape;
+use boxes::parameters::Parameters;
+use boxes::styles::Style;
 use crate::lines::Line;
 use crate::lines::extended;
 use crate::parts::Part;
@@ -13,18 +21,11 @@ use formula::Kind;
 use nodes::move_nodes;
 use nodes::put_rule;
 use nodes::run::Run;
-use rules::Style;
-use rules::arrange::arrange;
-use rules::boxes::Arranged;
-use rules::boxes::Place;
-use rules::boxes::Ruling;
-use rules::boxes::Shape;
-use rules::classes::Neighbour;
-use rules::classes::changed_class;
-use rules::classes::class_of;
-use rules::parameters::Parameters;
-use rules::spacing::space_before;
 use scaled::Sp;
+use spacing::classes::Neighbour;
+use spacing::classes::changed_class;
+use spacing::classes::class_of;
+use spacing::space_before;
 
 // Where an item goes: its class after its change, x in the list, and how it is arranged.
 pub struct Setting {

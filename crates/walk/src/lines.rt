@@ -4,21 +4,21 @@ ghost use mathlib.Core.Path.{_≡_};
 ghost use mathlib.Core.Bool.{_&&_, not};
 ghost use Rattle.scaled.specs.Signed.{Within};
 ghost use Rattle.formula.specs.Heads.{greatestKern};
-ghost use Rattle.rules.specs.Values.{sizeAs};
+ghost use Rattle.boxes.specs.Values.{sizeAs};
 ghost use Rattle.nodes.specs.Hull.{hullFits};
 ghost use Rattle.nodes.specs.Runs.{hullOf, isLarge};
 ghost use Rattle.setting.specs.Fitting.{sizeFits};
 ghost use Rattle.walk.specs.Bounds.{longest, LineWithin};
 ghost use Rattle.walk.specs.Walked.{StartLine, KernedLine, ItemGoes, ExtendedLine, ListPart, SizesGo, SizesBeside};
+use boxes::Shape;
+use boxes::Size;
+use boxes::zero_size;
 use crate::parts::Part;
 use formula::Class;
 use nodes::run::Run;
 use nodes::run::within;
-use rules::boxes::Shape;
-use rules::boxes::Size;
-use rules::boxes::zero_size;
-use rules::classes::Neighbour;
 use scaled::Sp;
+use spacing::classes::Neighbour;
 
 // The class of the last atom, and the box so far.
 pub struct Line {

@@ -7,8 +7,15 @@ ghost use Prim.Native.Nat.{_<_};
 ghost use lib.ListN.{length};
 ghost use Rattle.font.specs.Font.{fontOf};
 ghost use Rattle.formula.specs.Places as tree;
-ghost use Rattle.rules.specs.Values.{neighbourAs};
+ghost use Rattle.spacing.specs.Values.{neighbourAs};
 ghost use Rattle.walk.specs.Walked.{ListGiven, ItemsGiven, NoadGiven, FieldGiven, ListDone, ItemsDone, ItemDone, HeadDone};
+use arrange::enlarges;
+use arrange::first_style;
+use arrange::own_counts;
+use arrange::second_style;
+use arrange::third_style;
+use boxes::parameters::Parameters;
+use boxes::styles::Style;
 use crate::items::finished;
 use crate::lines::Line;
 use crate::lines::kerned;
@@ -28,14 +35,7 @@ use formula::heads::has_third;
 use formula::heads::opening;
 use formula::heads::opening_bytes;
 use nodes::room;
-use rules::Style;
-use rules::arrange::enlarges;
-use rules::arrange::first_style;
-use rules::arrange::own_counts;
-use rules::arrange::second_style;
-use rules::arrange::third_style;
-use rules::classes::Neighbour;
-use rules::parameters::Parameters;
+use spacing::classes::Neighbour;
 
 // The line with the items of a list, or the place in the list of the first symbol that the font lacks.
 pub enum ItemsSet {

@@ -4,13 +4,13 @@ ghost use Prim.Native.Nat.{_<_};
 ghost use Rattle.font.specs.Font.{fontOf};
 ghost use Rattle.formula.specs.Tree.{symbol};
 ghost use Rattle.walk.specs.Walked.{EmptyPart, FieldDone};
+use boxes::Shape;
+use boxes::styles::Style;
+use boxes::styles::font_size;
 use crate::symbols::Sought;
 use crate::symbols::symbol_in;
 use nodes::put_glyph;
 use nodes::run::Run;
-use rules::Style;
-use rules::boxes::Shape;
-use rules::styles::font_size;
 use scaled::Sp;
 
 // Where it ends in its item, its shape, and its nodes.

@@ -4,7 +4,7 @@ ghost use mathlib.Core.Path.{_≡_};
 ghost use Prim.Native.Nat.{_≤_};
 ghost use lib.ListN.{length};
 ghost use Rattle.formula.specs.Places as tree;
-ghost use Rattle.rules.specs.Values.{neighbourAs};
+ghost use Rattle.spacing.specs.Values.{neighbourAs};
 ghost use Rattle.setting.specs.Setting.{nextClass};
 ghost use Rattle.walk.specs.Bounds.{longest};
 ghost use Rattle.walk.specs.Walked.{ChangesAlike};
@@ -13,8 +13,8 @@ use formula::Kind;
 use formula::Opening;
 use formula::heads::KERN_BYTES;
 use formula::heads::opening;
-use rules::classes::Neighbour;
-use rules::classes::class_of;
+use spacing::classes::Neighbour;
+use spacing::classes::class_of;
 
 // The class of the next atom, where it matters: what follows an item changes a Bin alone (rule 6). `beyond` is the class that
 // follows the list.

@@ -6,8 +6,8 @@ use borrow.Author.Tests.{not-true, not-false}
 use borrow.Author.Needs.{needs}
 use Rattle.font.specs.Table.{goodTable}
 use Rattle.formula.specs.PlacesLaws.{formula-good, formula-fault}
-use Rattle.rules.specs.Styles.{styleOf}
-use Rattle.rules.specs.Values.{numberedAs}
+use Rattle.boxes.specs.Styles.{styleOf}
+use Rattle.boxes.specs.Values.{numberedAs}
 use Rattle.layout.proofs.AnsweringLaws.{style-refused, table-refused, fault-refused, formula-reads}
 use Rattle.layout.proofs.read.Statement.{statement}
 use Rattle.layout.proofs.read.Tie as tie

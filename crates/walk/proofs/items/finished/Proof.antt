@@ -8,9 +8,10 @@ use lib.IntN.{ℤ, _+ℤ_}
 use borrow.Author.Needs.{needs}
 use Rattle.scaled.specs.Signed.{Within}
 use Rattle.scaled.specs.Linear.{#, _⊕_, within-by}
-use Rattle.rules.specs.Spacing.{spaceBefore}
-use Rattle.rules.specs.Values.{parametersIn, neighbourAs, arrangedAs}
-use Rattle.rules.specs.Bounds.{words}
+use Rattle.spacing.specs.Spacing.{spaceBefore}
+use Rattle.boxes.specs.Values.{parametersIn, arrangedAs}
+use Rattle.spacing.specs.Values.{neighbourAs}
+use Rattle.boxes.specs.Bounds.{words}
 use Rattle.nodes.specs.Hull.{joined}
 use Rattle.nodes.specs.Runs.{hullOf, isLarge}
 use Rattle.walk.specs.Bounds.{longest, stride}

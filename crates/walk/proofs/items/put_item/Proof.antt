@@ -8,7 +8,7 @@ use native.Mathlib.Omega.{arith}
 use lib.IntN.{pos, _+ℤ_}
 use lib.ListN.{length}
 use borrow.Author.Needs.{needs}
-use Rattle.rules.specs.Values.{arrangedAs}
+use Rattle.boxes.specs.Values.{arrangedAs}
 use Rattle.nodes.specs.Nodes.{moved}
 use Rattle.nodes.specs.Buffer.{movedFront, behindNodes}
 use Rattle.nodes.specs.Hull.{Hull, joined, movedHull, hull}

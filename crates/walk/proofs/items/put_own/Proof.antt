@@ -6,7 +6,7 @@ use mathlib.Core.List.{[], _∷_}
 use native.Mathlib.Omega.{arith}
 use lib.IntN.{pos, _+ℤ_}
 use borrow.Author.Needs.{needs}
-use Rattle.rules.specs.Values.{ruleAs}
+use Rattle.boxes.specs.Values.{ruleAs}
 use Rattle.nodes.specs.Nodes.{Node, rule, moved, movedNode}
 use Rattle.nodes.specs.Buffer.{put, behindNodes}
 use Rattle.nodes.specs.Hull.{joined, hull}

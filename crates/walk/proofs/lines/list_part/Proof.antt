@@ -6,8 +6,8 @@ use Prim.Native.Nat.{ℕ}
 use native.Mathlib.Omega.{arith}
 use borrow.Author.Needs.{needs}
 use borrow.Author.Tests.{not-true}
-use Rattle.rules.specs.declared.boxes.Shape.the-variants.{Nothing, Box}
-use Rattle.rules.specs.Values.{sizeAs}
+use Rattle.boxes.specs.declared.Shape.the-variants.{Nothing, Box}
+use Rattle.boxes.specs.Values.{sizeAs}
 use Rattle.nodes.specs.declared.run.Run.{Run}
 use Rattle.nodes.specs.Bounds.{within}
 use Rattle.nodes.specs.Hull.{hullFits}

@@ -26,14 +26,14 @@ use Rattle.formula.proofs.heads.field_head.Reads as field-head-reads
 use Rattle.formula.proofs.heads.has_third.Reads as has-third-reads
 use Rattle.formula.proofs.heads.opening.Reads as opening-reads
 use Rattle.formula.proofs.heads.opening_bytes.Reads as opening-bytes-reads
-use Rattle.rules.specs.Parameters.{Parameters}
-use Rattle.rules.specs.Arrange.{ownCounts}
-use Rattle.rules.specs.Values.{neighbourAs}
-use Rattle.rules.proofs.arrange.enlarges.Reads as enlarges-reads
-use Rattle.rules.proofs.arrange.first_style.Reads as first-style-reads
-use Rattle.rules.proofs.arrange.own_counts.Reads as own-counts-reads
-use Rattle.rules.proofs.arrange.second_style.Reads as second-style-reads
-use Rattle.rules.proofs.arrange.third_style.Reads as third-style-reads
+use Rattle.boxes.specs.Parameters.{Parameters}
+use Rattle.arrange.specs.Arrange.{ownCounts}
+use Rattle.spacing.specs.Values.{neighbourAs}
+use Rattle.arrange.proofs.enlarges.Reads as enlarges-reads
+use Rattle.arrange.proofs.first_style.Reads as first-style-reads
+use Rattle.arrange.proofs.own_counts.Reads as own-counts-reads
+use Rattle.arrange.proofs.second_style.Reads as second-style-reads
+use Rattle.arrange.proofs.third_style.Reads as third-style-reads
 use Rattle.nodes.proofs.room.Reads as room-reads
 use Rattle.setting.specs.Missing.{missingItems}
 use Rattle.walk.specs.declared.parts.FieldSet.{FieldSet}

@@ -4,7 +4,7 @@ use mathlib.Core.Path.{_≡_, sym, ap, _∙_}
 use mathlib.Core.Option.{none, some}
 use borrow.Author.Needs.{needs}
 use Rattle.font.specs.Font.{fontOf}
-use Rattle.rules.specs.Styles.{fontSize}
+use Rattle.boxes.specs.Styles.{fontSize}
 use Rattle.setting.specs.Setting.{symbolIn}
 use Rattle.walk.specs.Values.{symbolAs, soughtAs}
 use Rattle.walk.proofs.PartLaws.{symbol-whole, symbol-missing}

@@ -6,7 +6,7 @@ use Prim.Native.Nat.{_-_}
 use native.Mathlib.Omega.{arith}
 use lib.ListN.{length}
 use borrow.Author.Needs.{needs}
-use Rattle.rules.specs.Values.{neighbourAs}
+use Rattle.spacing.specs.Values.{neighbourAs}
 use Rattle.walk.proofs.PlaceLaws.{Passing, started, opens, passed, atom-next, finished}
 use Rattle.walk.proofs.places.next_class.Statement.{statement}
 use Rattle.walk.proofs.places.next_class.Tie as tie

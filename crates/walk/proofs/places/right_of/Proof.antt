@@ -8,7 +8,7 @@ use types.Run.{OneOf, miss}
 use Rattle.formula.specs.declared.Class.{Class}
 use Rattle.formula.specs.declared.Class.the-variants.{Ord, Op, Bin, Rel, Open, Close, Punct, Inner}
 use Rattle.formula.proofs.Class.{the-type}
-use Rattle.rules.specs.Classes.{Neighbour, changedClass}
+use Rattle.spacing.specs.Classes.{Neighbour, changedClass}
 use Rattle.walk.proofs.places.right_of.Statement.{statement}
 use Rattle.walk.proofs.places.right_of.Tie as tie
 

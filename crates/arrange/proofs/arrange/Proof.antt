@@ -1,0 +1,102 @@
+-- `arrange` meets its contract: each arm is a clause of the definition. `at-limits` is the clause of a base,
+-- in the code's values.
+-- Assumes nothing.
+use mathlib.Core.Path.{_≡_}
+use borrow.Author.Needs.{needs}
+use Rattle.arrange.specs.Arrange.{setScripts, arrange}
+use Rattle.boxes.specs.Values.{parametersIn, shapeAs, scriptAs}
+use Rattle.nucleus.specs.Values.{nucleusAs}
+use Rattle.arrange.proofs.arrange.Statement.{statement}
+use Rattle.arrange.proofs.arrange.Tie as tie
+
+at-limits : (c : tie.After-sets-limits) →
+    let n = c .before in
+    let lower = n .before .before in
+    let upper = lower .before in
+    let args = upper .before .before .before .before .args in
+    arrange (parametersIn (args .p .now)) (args .style) (args .kind) (shapeAs (args .x)) (shapeAs (args .y)) (shapeAs (args .z))
+    ≡ setScripts (parametersIn (args .p .now)) (args .style) (c .sets-limits .result) (nucleusAs (n .nucleus-of .result)) (scriptAs (upper .given .result)) (scriptAs (lower .given2 .result))
+unfolding arrange
+at-limits c =
+    let n = c .before in
+    let lower = n .before .before in
+    let upper = lower .before in
+    rw (n .nucleus-of .ensures .0, n .before .is-given .ensures, lower .given2 .ensures .0, upper .given .ensures .0, c .sets-limits .ensures, upper .before .before .kind .given .1)
+
+enum-known-kind : tie.Need-enum-known-kind
+enum-known-kind c = search needs
+
+given-requires : tie.Need-given-requires
+given-requires c κs = search needs
+
+given-requires-2 : tie.Need-given-requires-2
+given-requires-2 c κs = search needs
+
+is-given-requires : tie.Need-is-given-requires
+is-given-requires c κs = search needs
+
+nucleus-of-requires : tie.Need-nucleus-of-requires
+nucleus-of-requires c κs = search needs
+
+sets-limits-requires : tie.Need-sets-limits-requires
+sets-limits-requires c κs = search needs
+
+font-size-requires : tie.Need-font-size-requires
+font-size-requires c κs = search needs
+
+limited-requires : tie.Need-limited-requires
+limited-requires c κs = search needs
+
+scripted-requires : tie.Need-scripted-requires
+scripted-requires c κs = search needs
+
+enum-known-kind-2 : tie.Need-enum-known-kind-2
+enum-known-kind-2 c = search needs
+
+size-of-requires : tie.Need-size-of-requires
+size-of-requires c κs = search needs
+
+size-of-requires-2 : tie.Need-size-of-requires-2
+size-of-requires-2 c κs = search needs
+
+fraction-requires : tie.Need-fraction-requires
+fraction-requires c κs = search needs
+
+returns : tie.Need-returns
+returns c =
+    let size = c .before in
+    let tested = size .before in
+    (rw (at-limits (tested .before), tested .if1 .taken, ← size .font-size .ensures .0) (c .limited .ensures .0), c .limited .ensures .1)
+
+returns-2 : tie.Need-returns-2
+returns-2 c =
+    let tested = c .before in
+    (rw (at-limits (tested .before), tested .if1 .left) (c .scripted .ensures .0), c .scripted .ensures .1)
+
+returns-3 : tie.Need-returns-3
+unfolding arrange
+returns-3 c =
+    let lower = c .before in
+    let arm = lower .before .before .before in
+    (rw (arm .kind2 .given .1) (rw (lower .size-of2 .ensures .0, lower .before .size-of .ensures .0) at (c .fraction .ensures .0)), c .fraction .ensures .1)
+
+pub arrange-spec : {M : Type 1} → statement M
+arrange-spec =
+    tie.close
+    (tie.spec
+    enum-known-kind
+    given-requires
+    given-requires-2
+    is-given-requires
+    nucleus-of-requires
+    sets-limits-requires
+    font-size-requires
+    limited-requires
+    scripted-requires
+    enum-known-kind-2
+    size-of-requires
+    size-of-requires-2
+    fraction-requires
+    returns
+    returns-2
+    returns-3)

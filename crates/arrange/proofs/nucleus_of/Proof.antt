@@ -1,0 +1,97 @@
+-- `nucleus_of` meets its contract: each arm is a clause of the definition.
+-- Assumes nothing.
+use mathlib.Core.Path.{ap₂, _∙_}
+use borrow.Author.Needs.{needs}
+use Rattle.nucleus.specs.Nucleus.{overline, underline}
+use Rattle.arrange.specs.Arrange.{nucleusOf}
+use Rattle.arrange.proofs.nucleus_of.Statement.{statement}
+use Rattle.arrange.proofs.nucleus_of.Tie as tie
+
+enum-known-base : tie.Need-enum-known-base
+enum-known-base c = search needs
+
+font-size-requires : tie.Need-font-size-requires
+font-size-requires c κs = search needs
+
+parameter-requires : tie.Need-parameter-requires
+parameter-requires c κs = search needs
+
+has-limits-requires : tie.Need-has-limits-requires
+has-limits-requires c κs = search needs
+
+is-op-requires : tie.Need-is-op-requires
+is-op-requires c κs = search needs
+
+atom-nucleus-requires : tie.Need-atom-nucleus-requires
+atom-nucleus-requires c κs = search needs
+
+enum-told : tie.Need-enum-told
+enum-told c = search needs
+
+rule-thickness-requires : tie.Need-rule-thickness-requires
+rule-thickness-requires c κs = search needs
+
+size-of-requires : tie.Need-size-of-requires
+size-of-requires c κs = search needs
+
+overline-requires : tie.Need-overline-requires
+overline-requires c κs = search needs
+
+enum-told-2 : tie.Need-enum-told-2
+enum-told-2 c = search needs
+
+rule-thickness-requires-2 : tie.Need-rule-thickness-requires-2
+rule-thickness-requires-2 c κs = search needs
+
+size-of-requires-2 : tie.Need-size-of-requires-2
+size-of-requires-2 c κs = search needs
+
+underline-requires : tie.Need-underline-requires
+underline-requires c κs = search needs
+
+returns : tie.Need-returns
+unfolding nucleusOf
+returns c =
+    let op = c .before in
+    let limits = op .before in
+    let axis = limits .before in
+    let arm = axis .before .before .before in (
+      rw (arm .base .given .1) (rw (op .is-op .ensures, limits .has-limits .ensures, axis .parameter .ensures .0 .is, axis .before .font-size .ensures .0) at (c .atom-nucleus .ensures .0)),
+      c .atom-nucleus .ensures .1,
+    )
+
+returns-2 : tie.Need-returns-2
+unfolding nucleusOf
+returns-2 c =
+    let theta = c .before .before in
+    let line = ap₂ overline (theta .rule-thickness .ensures .0) (c .before .size-of .ensures .0) in
+    (rw (theta .before .enum-told .given .1) (c .overline .ensures .0 ∙ line), c .overline .ensures .1)
+
+returns-3 : tie.Need-returns-3
+unfolding nucleusOf
+returns-3 c =
+    let theta = c .before .before in
+    let line = ap₂ underline (theta .rule-thickness2 .ensures .0) (c .before .size-of2 .ensures .0) in
+    (rw (theta .before .enum-told2 .given .1) (c .underline .ensures .0 ∙ line), c .underline .ensures .1)
+
+pub nucleus-of-spec : {M : Type 1} → statement M
+nucleus-of-spec =
+    tie.close
+    (tie.spec
+    enum-known-base
+    font-size-requires
+    parameter-requires
+    has-limits-requires
+    is-op-requires
+    atom-nucleus-requires
+    enum-told
+    rule-thickness-requires
+    size-of-requires
+    overline-requires
+    enum-told-2
+    rule-thickness-requires-2
+    size-of-requires-2
+    underline-requires
+    returns
+    returns-2
+    returns-3)

@@ -1,0 +1,2 @@
+-- The numbers that the worked examples compute with. Assumes nothing.
+pub mod Bench

@@ -1,0 +1,36 @@
+-- `given` meets its contract: each arm is a clause of the definition.
+-- Assumes nothing.
+use mathlib.Core.Path.{refl, ap}
+use mathlib.Core.Option.{some}
+use borrow.Author.Needs.{needs}
+use Rattle.boxes.proofs.given.Statement.{statement}
+use Rattle.boxes.proofs.given.Tie as tie
+
+enum-told : tie.Need-enum-told
+enum-told c = search needs
+
+enum-known-x : tie.Need-enum-known-x
+enum-known-x c = search needs
+
+char-size-requires : tie.Need-char-size-requires
+char-size-requires c κs = search needs
+
+enum-known-x-2 : tie.Need-enum-known-x-2
+enum-known-x-2 c = search needs
+
+returns : tie.Need-returns
+returns c = search needs
+
+returns-2 : tie.Need-returns-2
+returns-2 c =
+    (rw (c .before .before .x .given .1) (ap some (c .char-size .ensures .0)), c .char-size .ensures .1)
+
+returns-3 : tie.Need-returns-3
+returns-3 c =
+    let known = c .before .x2 .given .1 in
+    (rw known refl, rw known at (c .before .before .before .pre))
+
+pub given-spec : {M : Type 1} → statement M
+given-spec =
+    tie.close
+    (tie.spec enum-told enum-known-x char-size-requires enum-known-x-2 returns returns-2 returns-3)

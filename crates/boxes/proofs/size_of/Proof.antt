@@ -1,0 +1,46 @@
+-- `size_of` meets its contract: each arm is a clause of the definition.
+-- Assumes nothing.
+use mathlib.Core.Path.{refl}
+use borrow.Author.Needs.{needs}
+use Rattle.boxes.proofs.size_of.Statement.{statement}
+use Rattle.boxes.proofs.size_of.Tie as tie
+
+enum-told : tie.Need-enum-told
+enum-told c = search needs
+
+zero-size-requires : tie.Need-zero-size-requires
+zero-size-requires c κs = search needs
+
+enum-known-x : tie.Need-enum-known-x
+enum-known-x c = search needs
+
+char-size-requires : tie.Need-char-size-requires
+char-size-requires c κs = search needs
+
+enum-known-x-2 : tie.Need-enum-known-x-2
+enum-known-x-2 c = search needs
+
+returns : tie.Need-returns
+returns c = (cc, search needs)
+
+returns-2 : tie.Need-returns-2
+returns-2 c =
+    (rw (c .before .before .x .given .1) (c .char-size .ensures .0), c .char-size .ensures .1)
+
+returns-3 : tie.Need-returns-3
+returns-3 c =
+    let known = c .before .x2 .given .1 in
+    (rw known refl, rw known at (c .before .before .before .pre))
+
+pub size-of-spec : {M : Type 1} → statement M
+size-of-spec =
+    tie.close
+    (tie.spec
+    enum-told
+    zero-size-requires
+    enum-known-x
+    char-size-requires
+    enum-known-x-2
+    returns
+    returns-2
+    returns-3)

@@ -1,0 +1,54 @@
+-- `bar_of` meets its contract, by whether the thickness is above 0.
+-- Assumes nothing.
+use mathlib.Core.Path.{sym, _∙_}
+use borrow.Author.Needs.{needs}
+use Rattle.fractions.proofs.bar_of.Statement.{statement}
+use Rattle.fractions.proofs.bar_of.Tie as tie
+
+has-bar-requires : tie.Need-has-bar-requires
+has-bar-requires c κs = search needs
+
+half-requires : tie.Need-half-requires
+half-requires c κs = search needs
+
+plus-requires : tie.Need-plus-requires
+plus-requires c κs = search needs
+
+minus-requires : tie.Need-minus-requires
+minus-requires c κs = search needs
+
+ruled-behind-requires : tie.Need-ruled-behind-requires
+ruled-behind-requires c κs = search needs
+
+unruled-requires : tie.Need-unruled-requires
+unruled-requires c κs = search needs
+
+returns : tie.Need-returns
+returns c =
+    let low = c .before in
+    let top = low .before in
+    let half = top .before in
+    let tested = half .before in
+    let yes = sym (tested .before .has-bar .ensures) ∙ tested .if1 .taken in (
+      rw (yes) (rw (low .minus .ensures .is, top .plus .ensures .is, half .half .ensures .is) at (c .ruled-behind .ensures .0)),
+      c .ruled-behind .ensures .1,
+    )
+
+returns-2 : tie.Need-returns-2
+returns-2 c =
+    let tested = c .before in
+    let no = sym (tested .before .has-bar .ensures) ∙ tested .if1 .left in
+    (rw no (c .unruled .ensures .0), c .unruled .ensures .1)
+
+pub bar-of-spec : {M : Type 1} → statement M
+bar-of-spec =
+    tie.close
+    (tie.spec
+    has-bar-requires
+    half-requires
+    plus-requires
+    minus-requires
+    ruled-behind-requires
+    unruled-requires
+    returns
+    returns-2)

@@ -1,0 +1,33 @@
+-- `cleared` meets its contract, by whether what is free is too little.
+-- Assumes nothing.
+use mathlib.Core.Path.{refl, sym, _∙_}
+use borrow.Author.Needs.{needs}
+use Rattle.scaled.specs.Made.{pick-yes, pick-no}
+use Rattle.fractions.specs.Fractions.{cleared}
+use Rattle.fractions.proofs.cleared.Statement.{statement}
+use Rattle.fractions.proofs.cleared.Tie as tie
+
+less-requires : tie.Need-less-requires
+less-requires c κs = search needs
+
+minus-requires : tie.Need-minus-requires
+minus-requires c κs = search needs
+
+plus-requires : tie.Need-plus-requires
+plus-requires c κs = search needs
+
+returns : tie.Need-returns
+unfolding cleared
+returns c =
+    let tested = c .before .before in (
+      pick-yes _ (sym (tested .before .less .ensures .is) ∙ tested .if1 .taken)
+          (rw (c .plus .ensures .is, c .before .minus .ensures .is)),
+      search needs,
+    )
+
+returns-2 : tie.Need-returns-2
+unfolding cleared
+returns-2 c = (pick-no _ (sym (c .before .less .ensures .is) ∙ c .if1 .left) refl, search needs)
+
+pub cleared-spec : {M : Type 1} → statement M
+cleared-spec = tie.close (tie.spec less-requires minus-requires plus-requires returns returns-2)

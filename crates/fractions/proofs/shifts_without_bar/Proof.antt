@@ -1,0 +1,23 @@
+-- `shifts_without_bar` meets its contract: the clearances are those of the definition.
+-- Assumes nothing.
+use borrow.Author.Needs.{needs}
+use Rattle.fractions.specs.Fractions.{shiftsWithoutBar}
+use Rattle.fractions.proofs.shifts_without_bar.Statement.{statement}
+use Rattle.fractions.proofs.shifts_without_bar.Tie as tie
+
+least-clearance-requires : tie.Need-least-clearance-requires
+least-clearance-requires c κs = search needs
+
+clearance-requires : tie.Need-clearance-requires
+clearance-requires c κs = search needs
+
+parted-requires : tie.Need-parted-requires
+parted-requires c κs = search needs
+
+returns : tie.Need-returns
+unfolding shiftsWithoutBar
+returns c = (rw (c .before .clearance .ensures .0, c .before .before .least-clearance .ensures .0) at (c .parted .ensures .0), c .parted .ensures .1)
+
+pub shifts-without-bar-spec : {M : Type 1} → statement M
+shifts-without-bar-spec =
+    tie.close (tie.spec least-clearance-requires clearance-requires parted-requires returns)

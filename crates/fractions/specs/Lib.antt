@@ -1,0 +1,2 @@
+-- Fractions. Assumes nothing.
+pub mod Fractions

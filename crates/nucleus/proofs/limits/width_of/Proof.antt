@@ -1,0 +1,24 @@
+-- `width_of` meets its contract: a script has its own width.
+-- Assumes nothing.
+use mathlib.Core.Path.{refl}
+use borrow.Author.Needs.{needs}
+use Rattle.nucleus.proofs.limits.width_of.Statement.{statement}
+use Rattle.nucleus.proofs.limits.width_of.Tie as tie
+
+enum-told : tie.Need-enum-told
+enum-told c = search needs
+
+enum-known-script : tie.Need-enum-known-script
+enum-known-script c = search needs
+
+returns : tie.Need-returns
+returns c = search needs
+
+returns-2 : tie.Need-returns-2
+returns-2 c =
+    let arm = c .before .before in
+    let known = arm .script .given .1 in
+    (rw known refl, (rw known at (arm .before .before .pre)) .width)
+
+pub width-of-spec : {M : Type 1} → statement M
+width-of-spec = tie.close (tie.spec enum-told enum-known-script returns returns-2)

@@ -1,0 +1,34 @@
+-- `assembled` meets its contract: sum and maxima are those of the definition.
+-- Assumes nothing.
+use borrow.Author.Needs.{needs}
+use Rattle.scripts.proofs.assembled.Statement.{statement}
+use Rattle.scripts.proofs.assembled.Tie as tie
+
+plus-requires : tie.Need-plus-requires
+plus-requires c κs = search needs
+
+max-requires : tie.Need-max-requires
+max-requires c κs = search needs
+
+max-requires-2 : tie.Need-max-requires-2
+max-requires-2 c κs = search needs
+
+returns : tie.Need-returns
+returns c =
+    let high = c .before in
+    let wide = high .before in
+    let pre = wide .before .before .before .pre in (
+      rw (c .max2 .ensures .is, high .max .ensures .is, wide .plus .ensures .is),
+      record {
+        width = search needs;
+        height = search needs;
+        depth = search needs;
+        first = search needs;
+        second = pre .1;
+        third = pre .2;
+        own = pre .0 .own;
+      },
+    )
+
+pub assembled-spec : {M : Type 1} → statement M
+assembled-spec = tie.close (tie.spec plus-requires max-requires max-requires-2 returns)

@@ -1,0 +1,30 @@
+-- `gap_down` meets its contract: sum and differences are those of the definition.
+-- Assumes nothing.
+use borrow.Author.Needs.{needs}
+use Rattle.scripts.specs.Scripts.{gapDown}
+use Rattle.scripts.proofs.gap_down.Statement.{statement}
+use Rattle.scripts.proofs.gap_down.Tie as tie
+
+four-rules-requires : tie.Need-four-rules-requires
+four-rules-requires c κs = search needs
+
+minus-requires : tie.Need-minus-requires
+minus-requires c κs = search needs
+
+minus-requires-2 : tie.Need-minus-requires-2
+minus-requires-2 c κs = search needs
+
+plus-requires : tie.Need-plus-requires
+plus-requires c κs = search needs
+
+returns : tie.Need-returns
+unfolding gapDown
+returns c =
+    let rest = c .before in (
+      rw (c .plus .ensures .is, rest .minus2 .ensures .is, rest .before .minus .ensures .is, rest .before .before .four-rules .ensures .0),
+      search needs,
+    )
+
+pub gap-down-spec : {M : Type 1} → statement M
+gap-down-spec =
+    tie.close (tie.spec four-rules-requires minus-requires minus-requires-2 plus-requires returns)

@@ -1,0 +1,25 @@
+-- `psi_of` meets its contract: the differences are those of the definition.
+-- Assumes nothing.
+use borrow.Author.Needs.{needs}
+use Rattle.scripts.specs.Scripts.{ψOf}
+use Rattle.scripts.proofs.psi_of.Statement.{statement}
+use Rattle.scripts.proofs.psi_of.Tie as tie
+
+four-fifths-x-height-requires : tie.Need-four-fifths-x-height-requires
+four-fifths-x-height-requires c κs = search needs
+
+minus-requires : tie.Need-minus-requires
+minus-requires c κs = search needs
+
+minus-requires-2 : tie.Need-minus-requires-2
+minus-requires-2 c κs = search needs
+
+returns : tie.Need-returns
+unfolding ψOf
+returns c =
+    let bottom = c .before in
+    (rw (c .minus2 .ensures .is, bottom .minus .ensures .is, bottom .before .four-fifths-x-height .ensures .0), search needs)
+
+pub psi-of-spec : {M : Type 1} → statement M
+psi-of-spec =
+    tie.close (tie.spec four-fifths-x-height-requires minus-requires minus-requires-2 returns)

@@ -1,0 +1,2 @@
+-- Superscripts and subscripts. Assumes nothing.
+pub mod Scripts

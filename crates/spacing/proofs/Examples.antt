@@ -1,0 +1,39 @@
+-- The spaces and classes of the worked examples P3 to P6 of document 01, on numbers alone. An edit of a rule is refused here,
+-- by the row that it changes.
+-- Assumes nothing.
+use mathlib.Core.Path.{_≡_, refl}
+use mathlib.Core.List.{List, [], _∷_}
+use mathlib.Core.Option.{none, some}
+use lib.IntN.{ℤ, pos}
+use Rattle.scaled.specs.Length.{atQuad}
+use Rattle.formula.specs.declared.Class.{Class}
+use Rattle.formula.specs.declared.Class.the-variants.{Ord, Bin, Rel}
+use Rattle.boxes.specs.declared.styles.Level.the-variants.{Text, Script}
+use Rattle.boxes.specs.Styles.{plain}
+use Rattle.boxes.proofs.Bench.{bench}
+use Rattle.spacing.specs.Classes.{changedClass}
+use Rattle.spacing.specs.Spacing.{row, chart, spaceBefore}
+
+-- the space before an atom behind its left neighbour
+spaces : List ℤ
+spaces =
+    spaceBefore bench (plain Text) (some Ord) Bin  -- P3
+    ∷ spaceBefore bench (plain Script) (some Ord) Bin  -- P4
+    ∷ spaceBefore bench (plain Text) (some Ord) Rel  -- P6
+    ∷ []
+
+spaces-are : spaces ≡ pos 220 ∷ pos 0 ∷ pos 275 ∷ []
+unfolding spaces bench atQuad row chart spaceBefore
+spaces-are = refl
+
+-- the class of an atom between its neighbours
+classes : List Class
+classes =
+    changedClass (some Ord) Bin (some Ord)  -- P3
+    ∷ changedClass none Bin (some Ord)  -- P5
+    ∷ changedClass (some Ord) Bin (some Rel)  -- P6
+    ∷ []
+
+classes-are : classes ≡ Bin ∷ Ord ∷ Ord ∷ []
+unfolding classes changedClass
+classes-are = refl
