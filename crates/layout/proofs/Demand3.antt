@@ -1,22 +1,29 @@
--- Demand 3: a list field stands in the whole as it stands alone. It is shown from bytes (`demand-3`), for every style, table
--- and formula that setting accepts with room enough (`Accepted`), and for every list field in it, at any depth: the list l at
--- the path `into p t`, which is in the list at p, past the items before, into one field of the next item.
+-- Demand 3: a list field stands in the whole as it stands alone. It is shown from bytes, for every style, table and formula that
+-- setting accepts with room enough, and for every list field in it, at any depth: by the place of its kind byte (`demand-3-at`,
+-- with `ListFieldAt` of `ListFields`), and by a path (`demand-3`): the list l at `into p t`, which is in the list at p, past the
+-- items before, into one field of the next item.
 --     fieldPart, fieldStyleNumber     the field's bytes, in the middle of the formula, and the style that the rules give it
 --     Alone        1: with those bytes as the formula and in that style, measuring accepts, and setting with room enough
---     InPlace      2: the buffer of the whole has nodes before, the field's nodes as alone but for one distance, nodes after
+--     InPlace      2: the buffer of the whole has nodes before, the field's nodes as alone but for one distance, nodes after;
+--                  of each of the field's nodes only the bytes of x and y change (`OnlyPlaceMoved` of `MovedBytes`)
+--     run          the field's nodes are those that its items give
 --     SizeUsed     3: the rules take the field for a box of the size measured alone
 --     FieldAsAlone 1 to 3, and 4: nodes before, distance and nodes after are the same for any other formula that reads as
 --                  this one but for that field's items, and has there a list of the same size
--- It comes of the trees (`FieldInPlace` and `FieldAlone` of crate setting) and of the reading (`FieldBytes`).
+-- It comes of the trees (`FieldInPlace` and `FieldAlone` of crate setting) and of the reading (`FieldBytes`, `ListFields`).
 -- Assumes nothing.
 use mathlib.Core.Path.{_≡_, refl, sym, ap, _∙_}
 use mathlib.Core.Bool.{Bool, true, false}
 use mathlib.Core.List.{List, _++_, append-assoc}
 use mathlib.Core.Option.{some}
-use Prim.Native.Nat.{ℕ, _+_, _*_, _≤_}
+use Prim.Native.Nat.{ℕ, _+_, _*_, _≤_, _<_}
+use native.Mathlib.Omega.{arith}
 use lib.ListN.{length, drop, length-append}
 use Rattle.font.specs.Font.{Font, fontOf}
-use Rattle.formula.specs.Tree.{Items, list}
+use Rattle.formula.specs.Tree.{Items, list, listOpeningBytes}
+use Rattle.formula.specs.Reading.{good}
+use Rattle.formula.specs.Places.{treeOf}
+use Rattle.formula.specs.PlacesLaws.{readable-of, tree-is}
 use Rattle.boxes.specs.declared.styles.Level.{Level}
 use Rattle.boxes.specs.declared.styles.Level.the-variants.{Display, Text, Script, Scriptscript}
 use Rattle.boxes.specs.declared.styles.Style.{Style}
@@ -27,12 +34,14 @@ use Rattle.nodes.specs.Nodes.{Node, bytesOf, bytesInNode}
 use Rattle.nodes.specs.NodeLaws.{length-moved, bytes-append}
 use Rattle.setting.specs.Setting.{Box, Line, placed, setItem, setField, setList}
 use Rattle.setting.specs.Frames.{Frame, movedBy, framed}
-use Rattle.setting.specs.Paths.{Step, holder, stepStyle, Path, into, fill, styleAt}
+use Rattle.setting.specs.Paths.{Step, holder, stepStyle, Path, into, fill, styleAt, placeOf}
 use Rattle.setting.specs.FieldInPlace.{sized, itemAround, size-used, frame, field-in-place}
 use Rattle.setting.specs.FieldAlone.{missing-alone, fits-alone}
 use Rattle.layout.specs.Answers.{Answered, acceptedNumber, accepted, measured, setting, bufferAfter, resultOf, boxed}
-use Rattle.layout.proofs.Accepting.{Accepted, Passed, passed, boxed-of, measured-boxed, set-boxed, buffer-boxed}
-use Rattle.layout.proofs.FieldBytes.{fieldPart, field-reads}
+use Rattle.layout.proofs.Accepting.{Accepted, accepted-reads, Passed, passed, boxed-of, measured-boxed, set-boxed, buffer-boxed}
+use Rattle.layout.proofs.MovedBytes.{OnlyPlaceMoved, nodeAt, nodes-passed, moved-as, moved-at}
+use Rattle.layout.proofs.FieldBytes.{fieldPart, read-formula, field-reads}
+use Rattle.layout.proofs.ListFields.{ListFieldAt, reached}
 
 -- ---- the number of a style
 
@@ -72,8 +81,8 @@ pub record Alone (style : ℕ) (table field : List ℕ) : Type 0 where
       setting style table field room ≡ measured style table field
 
 -- the same nodes, in the buffer of the field alone and, moved, in the buffer of the whole
-pub record InPlace (style : ℕ) (table formula : List ℕ) (fieldStyle : ℕ) (field : List ℕ) (f : Frame) : Type 0 where
-  pub nodes : List Node
+pub record InPlace (style : ℕ) (table formula : List ℕ) (fieldStyle : ℕ) (field : List ℕ) (f : Frame) (nodes : List Node) :
+    Type 0 where
   pub buffer-alone : (buffer : List ℕ) →
       let bytes = bytesInNode * measured fieldStyle table field .count in
       bytes ≤ length buffer → bufferAfter fieldStyle table field buffer ≡ bytesOf nodes ++ drop bytes buffer
@@ -84,6 +93,12 @@ pub record InPlace (style : ℕ) (table formula : List ℕ) (fieldStyle : ℕ) (
       ≡ bytesOf (f .before) ++ (bytesOf (movedBy (f .distance) nodes) ++ (bytesOf (f .after) ++ drop bytes buffer))
   pub count-alone : measured fieldStyle table field .count ≡ length nodes
   pub count-of-whole : measured style table formula .count ≡ length (f .before) + (length nodes + length (f .after))
+  pub only-places-moved : (own buffer : List ℕ) (k : ℕ) →
+      bytesInNode * measured fieldStyle table field .count ≤ length own →
+      bytesInNode * measured style table formula .count ≤ length buffer →
+      k < measured fieldStyle table field .count →
+      OnlyPlaceMoved (f .distance) (nodeAt k (bufferAfter fieldStyle table field own))
+      (nodeAt (length (f .before) + k) (bufferAfter style table formula buffer))
 
 -- the field's shape, and the item that holds it, which is in the style s: it is set from that shape and the other two
 pub record SizeUsed (F : Font) (s : Style) (t : Step) (l : Items) (size : Size) : Type 0 where
@@ -100,12 +115,16 @@ fieldStyleNumber s p t = numberOf (styleAt s (into p t))
 abbrev pub around : List ℕ → Style → Path → Step → Size → Frame
 around table s p t size = frame (fontOf table) s (into p t) size
 
+-- the nodes that the list's items give, with all they hold
+abbrev pub run : List ℕ → Style → Path → Step → Items → List Node
+run table s p t l = setList (fontOf table) (styleAt s (into p t)) l .nodes
+
 pub record FieldAsAlone (style : ℕ) (table formula : List ℕ) (s : Style) (p : Path) (t : Step) (l : Items) : Type 0 where
   pub alone : Alone (fieldStyleNumber s p t) table (fieldPart (into p t) l formula)
   pub in-place :
       let n = fieldStyleNumber s p t in
       let field = fieldPart (into p t) l formula in
-      InPlace style table formula n field (around table s p t (measured n table field .size))
+      InPlace style table formula n field (around table s p t (measured n table field .size)) (run table s p t l)
   pub size-used :
       let size = measured (fieldStyleNumber s p t) table (fieldPart (into p t) l formula) .size in
       SizeUsed (fontOf table) (styleAt s p) t l size
@@ -114,29 +133,43 @@ pub record FieldAsAlone (style : ℕ) (table formula : List ℕ) (s : Style) (p 
       let size = measured n table (fieldPart (into p t) l formula) .size in
       let field = fieldPart (into p t) m other in
       Accepted style table other s (fill (into p t) m) → measured n table field .size ≡ size →
-      InPlace style table other n field (around table s p t size)
+      InPlace style table other n field (around table s p t size) (run table s p t m)
 
 -- ---- the proof
 
 -- from the boxes of the whole and of the field
 in-place-by : (style : ℕ) (table formula : List ℕ) (n : ℕ) (field : List ℕ) (w b : Box) (f : Frame) →
     resultOf style table formula ≡ boxed w → resultOf n table field ≡ boxed b → w .nodes ≡ framed f (b .nodes) →
-    InPlace style table formula n field f
+    InPlace style table formula n field f (b .nodes)
 in-place-by style table formula n field w b f whole-is alone-is e =
     record {
-      nodes = b .nodes;
       buffer-alone = buffer-boxed n table field b alone-is;
-      buffer-of-whole = λ buffer enough.
-          let rest = drop (bytesInNode * measured style table formula .count) buffer in
-          buffer-boxed style table formula w whole-is buffer enough
-          ∙ ap (λ (ns : List Node). bytesOf ns ++ rest) e
-          ∙ simp (bytes-append, append-assoc);
-      count-alone = ap (λ (a : Answered). a .count) (measured-boxed n table field b alone-is);
+      buffer-of-whole = whole-buffer;
+      count-alone = count-alone;
       count-of-whole =
           ap (λ (a : Answered). a .count) (measured-boxed style table formula w whole-is)
           ∙ ap length e
           ∙ simp (length-append, length-moved);
+      only-places-moved = λ own buffer k enough-alone enough within.
+          moved-as (f .distance)
+          (ap (nodeAt k) (buffer-boxed n table field b alone-is own enough-alone))
+          (ap (nodeAt (length (f .before) + k)) (whole-buffer buffer enough) ∙ nodes-passed (f .before) k _)
+          (moved-at (f .distance) (b .nodes) k _ _ (omega (arith, count-alone)));
     }
+  where
+    count-alone : measured n table field .count ≡ length (b .nodes)
+    count-alone = ap (λ (a : Answered). a .count) (measured-boxed n table field b alone-is)
+
+    whole-buffer : (buffer : List ℕ) →
+        let bytes = bytesInNode * measured style table formula .count in
+        bytes ≤ length buffer →
+        bufferAfter style table formula buffer
+        ≡ bytesOf (f .before) ++ (bytesOf (movedBy (f .distance) (b .nodes)) ++ (bytesOf (f .after) ++ drop bytes buffer))
+    whole-buffer buffer enough =
+        let rest = drop (bytesInNode * measured style table formula .count) buffer in
+        buffer-boxed style table formula w whole-is buffer enough
+        ∙ ap (λ (ns : List Node). bytesOf ns ++ rest) e
+        ∙ simp (bytes-append, append-assoc)
 
 module _ (style : ℕ) (table formula : List ℕ) (s : Style) (p : Path) (t : Step) (l : Items) where
   module _ (h : Accepted style table formula s (fill (into p t) l)) where
@@ -172,6 +205,7 @@ module _ (style : ℕ) (table formula : List ℕ) (s : Style) (p : Path) (t : St
     -- for any size that is the one measured
     field-stands : (size : Size) → measured (fieldStyleNumber s p t) table (fieldPart (into p t) l formula) .size ≡ size →
         InPlace style table formula (fieldStyleNumber s p t) (fieldPart (into p t) l formula) (around table s p t size)
+        (run table s p t l)
     field-stands size e =
         let F = fontOf table in
         let b = setList F (styleAt s (into p t)) l in
@@ -200,4 +234,37 @@ demand-3 style table formula s p t l h =
       in-place = field-stands style table formula s p t l h _ refl;
       size-used = field-used style table formula s p t l h;
       same-outside = λ other m k e. field-stands style table other s p t m k _ e;
+    }
+
+-- ---- by the place of a field's kind byte
+
+-- what `FieldAsAlone` says, of the list field that has its kind byte at this place of the formula and holds these bytes
+pub record ListFieldAsAlone (style : ℕ) (table formula : List ℕ) (place : ℕ) (field : List ℕ) : Type 0 where
+  pub s : Style
+  pub p : Path
+  pub t : Step
+  pub reads : Accepted style table formula s (fill (into p t) (treeOf field))
+  pub place-is : placeOf (into p t) ≡ place + listOpeningBytes
+  pub part-is : fieldPart (into p t) (treeOf field) formula ≡ field
+  pub as-alone : FieldAsAlone style table formula s p t (treeOf field)
+
+pub demand-3-at : (style : ℕ) (table formula : List ℕ) (room : ℕ) → setting style table formula room .number ≡ acceptedNumber →
+    (place : ℕ) (field : List ℕ) → ListFieldAt formula place field → ListFieldAsAlone style table formula place field
+demand-3-at style table formula room e place field f =
+    let a = accepted-reads style table formula room e in
+    let h = a .2 in
+    let read = read-formula formula (a .1) (h .reads) .1 in
+    let w = reached formula (readable-of formula _ (a .1) read) place field f in
+    let tree : a .1 ≡ fill (into (w .p) (w .t)) (treeOf field) = sym (tree-is formula _ (a .1) read) ∙ w .tree in
+    let reads : Accepted style table formula (a .0) (fill (into (w .p) (w .t)) (treeOf field)) =
+    record { style-is = h .style-is; reads = h .reads ∙ ap good tree; room = room; is-accepted = e }
+    in
+    record {
+      s = a .0;
+      p = w .p;
+      t = w .t;
+      reads = reads;
+      place-is = w .there;
+      part-is = w .bytes;
+      as-alone = demand-3 style table formula (a .0) (w .p) (w .t) (treeOf field) reads;
     }

@@ -1,5 +1,7 @@
 -- The bytes of a list field, as a formula: they read to the field's list.
 --     fieldPart        the bytes of the formula from the field's place on, as many as its list is written in
+--     part-of-part     a part of a part is a part
+--     read-formula     a formula that reads is short enough, and reads with the levels below the first
 --     field-reads      if the formula reads to the tree that has the list l at the path p, those bytes read to l
 -- A list at the path's end is read with fewer levels than the formula, and reads to the same tree with as many (`agree`).
 -- Assumes nothing.
@@ -39,7 +41,7 @@ take-within (suc k) n (suc N) [] h = refl
 take-within (suc k) n (suc N) (a ∷ s) h = take-within k n N s (omega arith)
 
 -- the n bytes at k of the N bytes at K, where there are n
-part-of-part : (s : List ℕ) (K k N n : ℕ) → n ≡ length (take n (drop k (take N (drop K s)))) →
+pub part-of-part : (s : List ℕ) (K k N n : ℕ) → n ≡ length (take n (drop k (take N (drop K s)))) →
     take n (drop k (take N (drop K s))) ≡ take n (drop (K + k) s)
 part-of-part s K k N zero long = refl
 part-of-part s K k N (suc n) long =
@@ -218,8 +220,7 @@ module _ (levels : ℕ) where
 
 -- ---- a formula
 
--- a formula that reads is not too long
-read-formula : (s : List ℕ) (l : Items) → readFormula s ≡ good l →
+pub read-formula : (s : List ℕ) (l : Items) → readFormula s ≡ good l →
     (length s ≤ formulaLimit) × (read (depthLimit - 1) s ≡ good l)
 unfolding readFormula
 read-formula s l e = go (ltb formulaLimit (length s)) refl e

@@ -6,6 +6,7 @@ mod Agreement
 mod Accepting
 mod MovedBytes
 mod FieldBytes
+mod ListFields
 mod Demand3
 mod FieldExample
 mod AnsweringLaws

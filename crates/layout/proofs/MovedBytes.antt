@@ -1,31 +1,103 @@
--- Of a moved node's 18 bytes, only those of x and y change: the mark and the last eight stay (`moved-node-bytes`).
+-- The k-th node of a moved run, in bytes: of its 18, only those of x and y change.
+--     OnlyPlaceMoved      a node's bytes in two buffers: the mark and the last eight are the same, x and y are moved
+--     moved-node-bytes    of one node
+--     moved-at            of the k-th node of a run at the front of a buffer
+--     nodes-passed        the nodes behind others
 -- Assumes nothing.
-use mathlib.Core.Path.{_≡_, refl}
-use mathlib.Core.List.{List, _++_}
-use Prim.Native.Nat.{ℕ}
+use mathlib.Core.Path.{_≡_, refl, sym, subst₂, ap, _∙_}
+use mathlib.Core.List.{List, [], _∷_, _++_, append-assoc}
+use Prim.Native.Nat.{ℕ, zero, suc, _+_, _*_, _<_}
+use native.Mathlib.Omega.{arith}
 use lib.IntN.{ℤ, _+ℤ_}
-use lib.ListN.{take, drop}
+use lib.ListN.{length, take, drop}
+use lib.Seq.{take-append-seam, drop-append-add}
 use Rattle.scaled.specs.Words.{fourBytes}
-use Rattle.nodes.specs.Nodes.{Node, glyph, rule, movedNode, signedBytes, nodeBytes}
+use Rattle.boxes.specs.Boxes.{Place}
+use Rattle.nodes.specs.Nodes.{Node, glyph, rule, movedNode, moved, signedBytes, nodeBytes, bytesOf, bytesInNode}
+use Rattle.nodes.specs.NodeLaws.{length-node-bytes, length-bytes}
+use Rattle.setting.specs.Frames.{movedBy}
 
-abbrev pub xOf : Node → ℤ
-xOf (glyph x y size family code) = x
-xOf (rule x y width thickness) = x
+-- x at the bytes 2 to 5, y at the bytes 6 to 9
+pub record OnlyPlaceMoved (d : Place) (alone placed : List ℕ) : Type 0 where
+  pub x : ℤ
+  pub y : ℤ
+  pub whole-alone : length alone ≡ bytesInNode
+  pub whole-placed : length placed ≡ bytesInNode
+  pub same-mark : take 2 placed ≡ take 2 alone
+  pub same-last : drop 10 placed ≡ drop 10 alone
+  pub x-alone : take 4 (drop 2 alone) ≡ signedBytes x
+  pub y-alone : take 4 (drop 6 alone) ≡ signedBytes y
+  pub x-placed : take 4 (drop 2 placed) ≡ signedBytes (x +ℤ d .across)
+  pub y-placed : take 4 (drop 6 placed) ≡ signedBytes (y +ℤ d .up)
 
-abbrev pub yOf : Node → ℤ
-yOf (glyph x y size family code) = y
-yOf (rule x y width thickness) = y
-
--- a node's bytes, but x and y for its own
-abbrev pub bytesAt : ℤ → ℤ → Node → List ℕ
-bytesAt x y n = take 2 (nodeBytes n) ++ (signedBytes x ++ signedBytes y) ++ drop 10 (nodeBytes n)
-
-pub node-bytes : (n : Node) → nodeBytes n ≡ bytesAt (xOf n) (yOf n) n
+pub moved-node-bytes : (d : Place) (n : Node) → OnlyPlaceMoved d (nodeBytes n) (nodeBytes (movedNode (d .across) (d .up) n))
 unfolding nodeBytes signedBytes fourBytes
-node-bytes (glyph x y size family code) = refl
-node-bytes (rule x y width thickness) = refl
+moved-node-bytes d (glyph x y size family code) =
+    record {
+      x = x;
+      y = y;
+      whole-alone = refl;
+      whole-placed = refl;
+      same-mark = refl;
+      same-last = refl;
+      x-alone = refl;
+      y-alone = refl;
+      x-placed = refl;
+      y-placed = refl;
+    }
+moved-node-bytes d (rule x y width thickness) =
+    record {
+      x = x;
+      y = y;
+      whole-alone = refl;
+      whole-placed = refl;
+      same-mark = refl;
+      same-last = refl;
+      x-alone = refl;
+      y-alone = refl;
+      x-placed = refl;
+      y-placed = refl;
+    }
 
-pub moved-node-bytes : (dx dy : ℤ) (n : Node) → nodeBytes (movedNode dx dy n) ≡ bytesAt (xOf n +ℤ dx) (yOf n +ℤ dy) n
-unfolding nodeBytes signedBytes fourBytes
-moved-node-bytes dx dy (glyph x y size family code) = refl
-moved-node-bytes dx dy (rule x y width thickness) = refl
+-- ---- in a buffer
+
+abbrev pub nodeAt : ℕ → List ℕ → List ℕ
+nodeAt k buffer = take bytesInNode (drop (bytesInNode * k) buffer)
+
+bytes-passed : (xs r : List ℕ) (j k : ℕ) → bytesInNode * j ≡ length xs + bytesInNode * k → nodeAt j (xs ++ r) ≡ nodeAt k r
+bytes-passed xs r j k e =
+    ap (λ (m : ℕ). take bytesInNode (drop m (xs ++ r))) e ∙ ap (take bytesInNode) (drop-append-add xs r (bytesInNode * k))
+
+pub nodes-passed : (ns : List Node) (k : ℕ) (r : List ℕ) → nodeAt (length ns + k) (bytesOf ns ++ r) ≡ nodeAt k r
+nodes-passed ns k r = bytes-passed (bytesOf ns) r (length ns + k) k (omega (arith, length-bytes ns))
+
+module _ (n : Node) (ns : List Node) (r : List ℕ) where
+  regrouped : bytesOf (n ∷ ns) ++ r ≡ nodeBytes n ++ (bytesOf ns ++ r)
+  unfolding bytesOf
+  regrouped = append-assoc (nodeBytes n) (bytesOf ns) r
+
+  first-node : nodeAt 0 (bytesOf (n ∷ ns) ++ r) ≡ nodeBytes n
+  first-node =
+      let rest = bytesOf ns ++ r in
+      ap (nodeAt 0) regrouped
+      ∙ ap (λ (k : ℕ). take k (nodeBytes n ++ rest)) (sym (length-node-bytes n))
+      ∙ take-append-seam (nodeBytes n) rest
+
+  next-node : (k : ℕ) → nodeAt (suc k) (bytesOf (n ∷ ns) ++ r) ≡ nodeAt k (bytesOf ns ++ r)
+  next-node k =
+      ap (nodeAt (suc k)) regrouped
+      ∙ bytes-passed (nodeBytes n) (bytesOf ns ++ r) (suc k) k (omega (arith, length-node-bytes n))
+
+pub moved-as : (d : Place) {a a′ b b′ : List ℕ} → a ≡ a′ → b ≡ b′ → OnlyPlaceMoved d a′ b′ → OnlyPlaceMoved d a b
+moved-as d e f h = subst₂ (OnlyPlaceMoved d) (sym e) (sym f) h
+
+pub moved-at : (d : Place) (ns : List Node) (k : ℕ) (r q : List ℕ) → k < length ns →
+    OnlyPlaceMoved d (nodeAt k (bytesOf ns ++ r)) (nodeAt k (bytesOf (movedBy d ns) ++ q))
+unfolding moved
+moved-at d [] k r q l = absurd (omega arith)
+moved-at d (n ∷ ns) zero r q l =
+    let m = movedNode (d .across) (d .up) n in
+    moved-as d (first-node n ns r) (first-node m (movedBy d ns) q) (moved-node-bytes d n)
+moved-at d (n ∷ ns) (suc k) r q l =
+    let m = movedNode (d .across) (d .up) n in
+    moved-as d (next-node n ns r k) (next-node m (movedBy d ns) q k) (moved-at d ns k r q (omega arith))
