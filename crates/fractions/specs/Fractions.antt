@@ -60,22 +60,17 @@ shiftsWithoutBar p s x z t = parted (leastClearance p s) (clearance x z t) t
 abbrev pub leastFromBar : Style → ℤ → ℤ
 leastFromBar s θ = θ *ℤ pick (isDisplay (s .level)) (pos 3) (pos 1)
 
--- a shift with `free` between the box and the bar
-unfoldable pub cleared : ℤ → ℤ → ℤ → ℤ
-cleared φ free shift = pick (ltZ free φ) (shift +ℤ (φ -ℤ free)) shift
-
--- from the bar's top to the numerator's bottom, and from the denominator's top to the bar's bottom
-abbrev pub freeAbove : ℤ → ℤ → Size → ℤ → ℤ
-freeAbove axis θ x up = (up -ℤ x .depth) -ℤ (axis +ℤ half θ)
-
-abbrev pub freeBelow : ℤ → ℤ → Size → ℤ → ℤ
-freeBelow axis θ z down = (axis -ℤ half θ) -ℤ (z .height -ℤ down)
+-- a shift of a box, where the free height between box and bar reaches from lower to upper
+unfoldable pub cleared : ℤ → ℤ → ℤ → ℤ → ℤ
+cleared φ upper lower shift =
+    let free = upper -ℤ lower in
+    pick (ltZ free φ) (shift +ℤ (φ -ℤ free)) shift
 
 unfoldable pub shiftsWithBar : ℤ → ℤ → ℤ → Size → Size → Shifts → Shifts
 shiftsWithBar axis θ φ x z t =
     record {
-      up = cleared φ (freeAbove axis θ x (t .up)) (t .up);
-      down = cleared φ (freeBelow axis θ z (t .down)) (t .down);
+      up = cleared φ (t .up -ℤ x .depth) (axis +ℤ half θ) (t .up);
+      down = cleared φ (axis -ℤ half θ) (z .height -ℤ t .down) (t .down);
     }
 
 -- ---- the item: both parts and the bar stand in the width of the wider part

@@ -30,7 +30,7 @@ ghost use lib.IntN.{pos, _*ℤ_};
 ghost use Rattle.scaled.specs.Signed.{Within};
 ghost use Rattle.scaled.specs.Length.{pick};
 ghost use Rattle.boxes.specs.Styles.{isDisplay};
-ghost use Rattle.fractions.specs.Fractions.{barThickness, hasBar, numeratorUp, denominatorDown, fractionShifts, leastClearance, shiftsWithoutBar, leastFromBar, freeAbove, freeBelow, shiftsWithBar, finalShifts, barOf};
+ghost use Rattle.fractions.specs.Fractions.{barThickness, hasBar, numeratorUp, denominatorDown, fractionShifts, leastClearance, shiftsWithoutBar, leastFromBar, shiftsWithBar, finalShifts, barOf};
 ghost use Rattle.fractions.specs.Fractions as rule;
 ghost use Rattle.boxes.specs.Values.{parametersIn, sizeAs, shiftsAs, ownAs, arrangedAs};
 ghost use Rattle.boxes.specs.Bounds.{words, itemWords, Moderate, ShiftsWithin, OwnWithin, Bounded};
@@ -159,9 +159,10 @@ fn shifts_with_bar(axis: Sp, theta: Sp, phi: Sp, x: Size, z: Size, t: Shifts) ->
     requires { ⌜ Within (words 1) (axis .0) × Within (words 1) (theta .0) × Within (words 7) (phi .0) × Moderate x × Moderate z × ShiftsWithin 1 t ⌝ }
     ensures { λ r. ⌜ (shiftsAs r ≡ shiftsWithBar (axis .0) (theta .0) (phi .0) (sizeAs x) (sizeAs z) (shiftsAs t)) × ShiftsWithin 12 r ⌝ }
 {
+    let half = theta.half();
     Shifts {
-        up: cleared(phi, free_above(axis, theta, x, t.up), t.up),
-        down: cleared(phi, free_below(axis, theta, z, t.down), t.down),
+        up: cleared(phi, t.up.minus(x.depth), axis.plus(half), t.up),
+        down: cleared(phi, axis.minus(half), z.height.minus(t.down), t.down),
     }
 }
 
@@ -173,27 +174,12 @@ fn least_from_bar(style: Style, theta: Sp) -> Sp
     rules_clear(style, theta, 3, 1)
 }
 
-// 15d: from the bar's top to the numerator's bottom.
-fn free_above(axis: Sp, theta: Sp, x: Size, up: Sp) -> Sp
-    requires { ⌜ Within (words 1) (axis .0) × Within (words 1) (theta .0) × Moderate x × Within (words 1) (up .0) ⌝ }
-    ensures { λ r. ⌜ (r .0 ≡ freeAbove (axis .0) (theta .0) (sizeAs x) (up .0)) × Within (words 4) (r .0) ⌝ }
+// 15d: a shift of a box, where the free height between box and bar reaches from lower to upper.
+fn cleared(phi: Sp, upper: Sp, lower: Sp, shift: Sp) -> Sp
+    requires { ⌜ Within (words 7) (phi .0) × Within (words 2) (upper .0) × Within (words 2) (lower .0) × Within (words 1) (shift .0) ⌝ }
+    ensures { λ r. ⌜ (r .0 ≡ rule.cleared (phi .0) (upper .0) (lower .0) (shift .0)) × Within (words 12) (r .0) ⌝ }
 {
-    up.minus(x.depth).minus(axis.plus(theta.half()))
-}
-
-// 15d: from the denominator's top to the bar's bottom.
-fn free_below(axis: Sp, theta: Sp, z: Size, down: Sp) -> Sp
-    requires { ⌜ Within (words 1) (axis .0) × Within (words 1) (theta .0) × Moderate z × Within (words 1) (down .0) ⌝ }
-    ensures { λ r. ⌜ (r .0 ≡ freeBelow (axis .0) (theta .0) (sizeAs z) (down .0)) × Within (words 4) (r .0) ⌝ }
-{
-    axis.minus(theta.half()).minus(z.height.minus(down))
-}
-
-// 15d: a shift with free between the box and the bar.
-fn cleared(phi: Sp, free: Sp, shift: Sp) -> Sp
-    requires { ⌜ Within (words 7) (phi .0) × Within (words 4) (free .0) × Within (words 1) (shift .0) ⌝ }
-    ensures { λ r. ⌜ (r .0 ≡ rule.cleared (phi .0) (free .0) (shift .0)) × Within (words 12) (r .0) ⌝ }
-{
+    let free = upper.minus(lower);
     if free.less(phi) {
         shift.plus(phi.minus(free))
     } else {

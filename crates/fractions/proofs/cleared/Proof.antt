@@ -7,11 +7,14 @@ use Rattle.fractions.specs.Fractions.{cleared}
 use Rattle.fractions.proofs.cleared.Statement.{statement}
 use Rattle.fractions.proofs.cleared.Tie as tie
 
+minus-requires : tie.Need-minus-requires
+minus-requires c κs = search needs
+
 less-requires : tie.Need-less-requires
 less-requires c κs = search needs
 
-minus-requires : tie.Need-minus-requires
-minus-requires c κs = search needs
+minus-requires-2 : tie.Need-minus-requires-2
+minus-requires-2 c κs = search needs
 
 plus-requires : tie.Need-plus-requires
 plus-requires c κs = search needs
@@ -19,15 +22,20 @@ plus-requires c κs = search needs
 returns : tie.Need-returns
 unfolding cleared
 returns c =
-    let tested = c .before .before in (
-      pick-yes _ (sym (tested .before .less .ensures .is) ∙ tested .if1 .taken)
-          (rw (c .plus .ensures .is, c .before .minus .ensures .is)),
+    let tested = c .before .before in
+    let free = tested .before .before .minus .ensures .is in (
+      pick-yes _ (rw free at (sym (tested .before .less .ensures .is)) ∙ tested .if1 .taken)
+          (rw (c .plus .ensures .is, c .before .minus2 .ensures .is, free)),
       search needs,
     )
 
 returns-2 : tie.Need-returns-2
 unfolding cleared
-returns-2 c = (pick-no _ (sym (c .before .less .ensures .is) ∙ c .if1 .left) refl, search needs)
+returns-2 c =
+    let free = c .before .before .minus .ensures .is in
+    (pick-no _ (rw free at (sym (c .before .less .ensures .is)) ∙ c .if1 .left) refl, search needs)
 
 pub cleared-spec : {M : Type 1} → statement M
-cleared-spec = tie.close (tie.spec less-requires minus-requires plus-requires returns returns-2)
+cleared-spec =
+    tie.close
+    (tie.spec minus-requires less-requires minus-requires-2 plus-requires returns returns-2)
