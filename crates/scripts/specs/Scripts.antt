@@ -26,20 +26,22 @@ quarterXHeight p size = shrZ (xHeight p size) 4
 abbrev pub fourFifthsXHeight : Parameters → ℕ → ℤ
 fourFifthsXHeight p size = shrZ (xHeight p size *ℤ pos 4) 5
 
--- ---- 18a: what a nucleus that is no plain symbol drops the scripts by, at the size of the superscript's style
+-- ---- 18a: u and v, the shifts that a nucleus which is no plain symbol asks for, at the size of the superscript's style
 
-unfoldable pub dropUp : Parameters → Style → Nucleus → ℤ
-dropUp p s n = pick (n .isPlain) (pos 0) (n .size .height -ℤ supDrop p (fontSize (superscriptStyle s)))
-
-unfoldable pub dropDown : Parameters → Style → Nucleus → ℤ
-dropDown p s n = pick (n .isPlain) (pos 0) (n .size .depth +ℤ subDrop p (fontSize (superscriptStyle s)))
+unfoldable pub drops : Parameters → Style → Nucleus → Shifts
+drops p s n =
+    let size = fontSize (superscriptStyle s) in
+    elim (n .isPlain) [
+      | true ↦ record { up = pos 0; down = pos 0 }
+      | false ↦ record { up = n .size .height -ℤ supDrop p size; down = n .size .depth +ℤ subDrop p size }
+    ]
 
 -- ---- 18b: a subscript y alone
 
 unfoldable pub subscriptDown : Parameters → Style → Nucleus → Size → ℤ
 subscriptDown p s n y =
     let size = fontSize s in
-    maxℤ (maxℤ (dropDown p s n) (sub1 p size)) (y .height -ℤ fourFifthsXHeight p size)
+    maxℤ (maxℤ (drops p s n .down) (sub1 p size)) (y .height -ℤ fourFifthsXHeight p size)
 
 -- ---- 18c: a superscript x
 
@@ -50,12 +52,12 @@ leastUp p s =
     pick (s .cramped) (sup3 p size) (pick (isDisplay (s .level)) (sup1 p size) (sup2 p size))
 
 unfoldable pub superscriptUp : Parameters → Style → Nucleus → Size → ℤ
-superscriptUp p s n x = maxℤ (maxℤ (dropUp p s n) (leastUp p s)) (x .depth +ℤ quarterXHeight p (fontSize s))
+superscriptUp p s n x = maxℤ (maxℤ (drops p s n .up) (leastUp p s)) (x .depth +ℤ quarterXHeight p (fontSize s))
 
 -- ---- 18d: the subscript of a pair, at first
 
 unfoldable pub pairDown : Parameters → Style → Nucleus → ℤ
-pairDown p s n = maxℤ (dropDown p s n) (sub2 p (fontSize s))
+pairDown p s n = maxℤ (drops p s n .down) (sub2 p (fontSize s))
 
 -- ---- 18e: superscript x and subscript y, with the shifts u and v so far
 

@@ -25,7 +25,7 @@ use scaled::Sp;
 ghost use mathlib.Core.Path.{_≡_};
 ghost use Prim.Native.Nat.{_<_};
 ghost use Rattle.scaled.specs.Signed.{Within};
-ghost use Rattle.scripts.specs.Scripts.{quarterXHeight, fourFifthsXHeight, dropUp, dropDown, subscriptDown, leastUp, superscriptUp, pairDown, fourRules, gapDown, ψOf, pairShifts, withoutScripts, withSuperscript, withSubscript, withPair, pairWidth, pairTop, pairBottom};
+ghost use Rattle.scripts.specs.Scripts.{quarterXHeight, fourFifthsXHeight, subscriptDown, leastUp, superscriptUp, pairDown, fourRules, gapDown, ψOf, pairShifts, withoutScripts, withSuperscript, withSubscript, withPair, pairWidth, pairTop, pairBottom};
 ghost use Rattle.scripts.specs.Scripts as rule;
 ghost use Rattle.boxes.specs.Values.{parametersIn, sizeAs, scriptAs, placeAs, shiftsAs, arrangedAs};
 ghost use Rattle.nucleus.specs.Values.{nucleusAs};
@@ -57,28 +57,22 @@ pub fn scripted(
     }
 }
 
-// 18a: what a nucleus that is no plain symbol drops a superscript by, at the size of the superscript's style.
-fn drop_up(p: &Parameters, style: Style, n: Nucleus) -> Sp
+// 18a: the shifts that a nucleus which is no plain symbol asks for, at the size of the superscript's style.
+fn drops(p: &Parameters, style: Style, n: Nucleus) -> Shifts
     requires { ⌜ ModerateNucleus n ⌝ }
-    ensures { λ r. ⌜ (r .0 ≡ dropUp (parametersIn (now (p .entry))) style (nucleusAs n)) × Within (words 8) (r .0) ⌝ }
+    ensures { λ r. ⌜ (shiftsAs r ≡ rule.drops (parametersIn (now (p .entry))) style (nucleusAs n)) × ShiftsWithin 8 r ⌝ }
 {
     if n.plain {
-        return Sp(0);
+        return Shifts {
+            up: Sp(0),
+            down: Sp(0),
+        };
     }
     let size = font_size(superscript_style(style));
-    n.size.height.minus(parameter(p, size, SUP_DROP))
-}
-
-// 18a: the same for a subscript.
-fn drop_down(p: &Parameters, style: Style, n: Nucleus) -> Sp
-    requires { ⌜ ModerateNucleus n ⌝ }
-    ensures { λ r. ⌜ (r .0 ≡ dropDown (parametersIn (now (p .entry))) style (nucleusAs n)) × Within (words 8) (r .0) ⌝ }
-{
-    if n.plain {
-        return Sp(0);
+    Shifts {
+        up: n.size.height.minus(parameter(p, size, SUP_DROP)),
+        down: n.size.depth.plus(parameter(p, size, SUB_DROP)),
     }
-    let size = font_size(superscript_style(style));
-    n.size.depth.plus(parameter(p, size, SUB_DROP))
 }
 
 // 18b: a subscript y alone.
@@ -87,7 +81,7 @@ fn subscript_down(p: &Parameters, style: Style, n: Nucleus, y: Size) -> Sp
     ensures { λ r. ⌜ (r .0 ≡ subscriptDown (parametersIn (now (p .entry))) style (nucleusAs n) (sizeAs y)) × Within (words 8) (r .0) ⌝ }
 {
     let size = font_size(style);
-    let dropped = drop_down(p, style, n);
+    let dropped = drops(p, style, n).down;
     let least = parameter(p, size, SUB1);
     let free = y.height.minus(four_fifths_x_height(p, size));
     dropped.max(least).max(free)
@@ -98,7 +92,7 @@ fn superscript_up(p: &Parameters, style: Style, n: Nucleus, x: Size) -> Sp
     requires { ⌜ ModerateNucleus n × Moderate x ⌝ }
     ensures { λ r. ⌜ (r .0 ≡ superscriptUp (parametersIn (now (p .entry))) style (nucleusAs n) (sizeAs x)) × Within (words 8) (r .0) ⌝ }
 {
-    let dropped = drop_up(p, style, n);
+    let dropped = drops(p, style, n).up;
     let least = least_up(p, style);
     let free = x.depth.plus(quarter_x_height(p, font_size(style)));
     dropped.max(least).max(free)
@@ -123,7 +117,7 @@ fn pair_down(p: &Parameters, style: Style, n: Nucleus) -> Sp
     requires { ⌜ ModerateNucleus n ⌝ }
     ensures { λ r. ⌜ (r .0 ≡ pairDown (parametersIn (now (p .entry))) style (nucleusAs n)) × Within (words 8) (r .0) ⌝ }
 {
-    let dropped = drop_down(p, style, n);
+    let dropped = drops(p, style, n).down;
     let least = parameter(p, font_size(style), SUB2);
     dropped.max(least)
 }

@@ -1,7 +1,9 @@
 -- `subscript_down` meets its contract: the maxima are those of the definition.
 -- Assumes nothing.
+use mathlib.Core.Path.{ap}
 use native.Mathlib.Omega.{arith}
 use borrow.Author.Needs.{needs}
+use Rattle.boxes.specs.Boxes.{Shifts}
 use Rattle.scripts.specs.Scripts.{subscriptDown}
 use Rattle.scripts.proofs.subscript_down.Statement.{statement}
 use Rattle.scripts.proofs.subscript_down.Tie as tie
@@ -9,8 +11,8 @@ use Rattle.scripts.proofs.subscript_down.Tie as tie
 font-size-requires : tie.Need-font-size-requires
 font-size-requires c κs = search needs
 
-drop-down-requires : tie.Need-drop-down-requires
-drop-down-requires c κs = search needs
+drops-requires : tie.Need-drops-requires
+drops-requires c κs = search needs
 
 parameter-requires : tie.Need-parameter-requires
 parameter-requires c κs = search needs
@@ -33,9 +35,9 @@ returns c =
     let both = c .before in
     let free = both .before in
     let least = free .before .before in
-    let dropped = least .before in (
-      rw (c .max2 .ensures .is, both .max .ensures .is, free .minus .ensures .is, free .before .four-fifths-x-height .ensures .0, least .parameter .ensures .0 .is, dropped .drop-down .ensures .0, dropped .before .font-size .ensures .0),
-      omega (arith, both .max .ensures .parts, free .minus .ensures .parts, free .before .four-fifths-x-height .ensures .1, least .parameter .ensures, dropped .drop-down .ensures .1, dropped .before .before .pre .1),
+    let dropped = least .before .before in (
+      rw (c .max2 .ensures .is, both .max .ensures .is, free .minus .ensures .is, free .before .four-fifths-x-height .ensures .0, least .parameter .ensures .0 .is, ap (λ (t : Shifts). t .down) (dropped .drops .ensures .0), dropped .before .font-size .ensures .0),
+      omega (arith, both .max .ensures .parts, free .minus .ensures .parts, free .before .four-fifths-x-height .ensures .1, least .parameter .ensures, dropped .drops .ensures .1, dropped .before .before .pre .1),
     )
 
 pub subscript-down-spec : {M : Type 1} → statement M
@@ -43,7 +45,7 @@ subscript-down-spec =
     tie.close
     (tie.spec
     font-size-requires
-    drop-down-requires
+    drops-requires
     parameter-requires
     four-fifths-x-height-requires
     minus-requires

@@ -1,13 +1,15 @@
 -- `superscript_up` meets its contract: the maxima are those of the definition.
 -- Assumes nothing.
+use mathlib.Core.Path.{ap}
 use native.Mathlib.Omega.{arith}
 use borrow.Author.Needs.{needs}
+use Rattle.boxes.specs.Boxes.{Shifts}
 use Rattle.scripts.specs.Scripts.{superscriptUp}
 use Rattle.scripts.proofs.superscript_up.Statement.{statement}
 use Rattle.scripts.proofs.superscript_up.Tie as tie
 
-drop-up-requires : tie.Need-drop-up-requires
-drop-up-requires c κs = search needs
+drops-requires : tie.Need-drops-requires
+drops-requires c κs = search needs
 
 least-up-requires : tie.Need-least-up-requires
 least-up-requires c κs = search needs
@@ -34,15 +36,15 @@ returns c =
     let free = both .before in
     let size = free .before .before in
     let least = size .before in (
-      rw (c .max2 .ensures .is, both .max .ensures .is, free .plus .ensures .is, free .before .quarter-x-height .ensures .0, size .font-size .ensures .0, least .least-up .ensures .0, least .before .drop-up .ensures .0),
-      omega (arith, both .max .ensures .parts, free .plus .ensures .parts, free .before .quarter-x-height .ensures .1, least .least-up .ensures .1, least .before .drop-up .ensures .1, least .before .before .pre .1),
+      rw (c .max2 .ensures .is, both .max .ensures .is, free .plus .ensures .is, free .before .quarter-x-height .ensures .0, size .font-size .ensures .0, least .least-up .ensures .0, ap (λ (t : Shifts). t .up) (least .before .before .drops .ensures .0)),
+      omega (arith, both .max .ensures .parts, free .plus .ensures .parts, free .before .quarter-x-height .ensures .1, least .least-up .ensures .1, least .before .before .drops .ensures .1, least .before .before .before .pre .1),
     )
 
 pub superscript-up-spec : {M : Type 1} → statement M
 superscript-up-spec =
     tie.close
     (tie.spec
-    drop-up-requires
+    drops-requires
     least-up-requires
     font-size-requires
     quarter-x-height-requires
