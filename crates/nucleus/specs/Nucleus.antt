@@ -57,7 +57,7 @@ operatorNucleus axis m subscriptBeside =
       size = operatorSize m subscriptBeside down;
       raise = negℤ down;
       δ = pos (m .italic);
-      isPlain = false;
+      isPlain = false;  -- centred on the axis, it counts as a box
       own = noOwn;
     }
 
