@@ -6,6 +6,9 @@ ghost use lib.ListN.{length};
 ghost use Rattle.walk.specs.Walked.{ListGiven};
 ghost use Rattle.layout.specs.Answers.{faultNumber, refusal, measured, setting, bufferAfter};
 ghost use Rattle.layout.specs.Answering.{answeredAs, ReadDone, Examined, Weighed};
+
+pub mod parts;
+
 use boxes::Size;
 use boxes::parameters::Parameters;
 use boxes::styles::Numbered;
