@@ -1,5 +1,5 @@
 -- What the parts of an answer stand for. Assumes nothing.
-use Rattle.rules.specs.Values.{sizeAs}
+use Rattle.boxes.specs.Values.{sizeAs}
 use Rattle.layout.specs.declared.parts.Parts.{Parts}
 use Rattle.layout.specs.Answers.{Answered}
 

@@ -1,135 +1,191 @@
-ghost use Prim.Native.Nat.{_<_};
-// The text that shows an answer: a line with the sizes and the count, a line for each node, or one line for a refusal.
+// The text that shows an answer: a line with the sizes and the count and a line for each node, or one line for a refusal.
+// It is defined in specs/Lines.antt. A line is written into a lent buffer; `write_answer` prints what these functions give.
 
+ghost use mathlib.Core.Path.{_≡_};
+ghost use mathlib.Core.List.{_++_};
+ghost use Prim.Native.Nat.{_+_, _*_, _<_, _≤_};
+ghost use lib.IntN.{pos, natAbs};
+ghost use lib.ListN.{length, getD};
+ghost use Rattle.scaled.specs.Words.{signedWord};
+ghost use Rattle.boxes.specs.Values.{sizeAs};
+ghost use Rattle.layout.specs.Answers.{refusal};
+ghost use Rattle.layout.specs.Answering.{answeredAs};
+ghost use Rattle.listing.specs.Decimals.{decimalOf, textOf};
+ghost use Rattle.listing.specs.Lines.{sizesLine, refusalLine, answerLine, nodeLine, numberAt, glyphIn, ruleIn, nodeIn};
+ghost use Rattle.listing.specs.Written.{Written, Put, PutNear, numberText, placeText};
 use boxes::Size;
 use layout::Answer;
+use layout::parts::parts_of;
 use libc::STDOUT_FILENO;
+use nodes::BYTES_IN_NODE;
 use scaled::Sp;
 
-// Writes an answer; the nodes of an acceptance are at the front of the buffer.
+// Room for the longest line.
+const LINE_SPACE: usize = 128;
+
+// A number by its sign and how far it lies from zero.
+pub struct Number {
+    minus: bool,
+    size: u64,
+}
+
+// Prints an answer; the nodes of an acceptance are at the front of the buffer.
 pub fn write_answer(answer: Answer, nodes: &[u8]) {
-    match answer {
-        Answer::Accepted(size, count) => {
-            write_sizes(size, count);
-            write_nodes(nodes, count);
-        }
-        Answer::NoStyle => write_refusal(1, 0),
-        Answer::BadTable => write_refusal(2, 0),
-        Answer::Unreadable(place) => write_refusal(3, place),
-        Answer::TooDeep(place) => write_refusal(4, place),
-        Answer::Missing(place) => write_refusal(5, place),
-        Answer::TooLarge => write_refusal(6, 0),
-        Answer::NoRoom => write_refusal(7, 0),
-    }
-}
-
-fn write_refusal(number: u64, place: usize) {
-    write(b"refused ");
-    io::print_decimal(STDOUT_FILENO, number);
-    write(b" at ");
-    io::print_decimal(STDOUT_FILENO, place as u64);
-    write(b"\n");
-}
-
-fn write_sizes(size: Size, count: usize) {
-    write(b"w ");
-    write_length(size.width);
-    write(b" h ");
-    write_length(size.height);
-    write(b" d ");
-    write_length(size.depth);
-    write(b" n ");
-    io::print_decimal(STDOUT_FILENO, count as u64);
-    write(b"\n");
+    let mut line = [0u8; LINE_SPACE];
+    let end = answer_line(answer, &mut line);
+    print(&line, end);
+    let parts = parts_of(answer);
+    write_nodes(nodes, parts.count);
 }
 
 // The first `count` nodes, as far as the buffer has them.
 fn write_nodes(nodes: &[u8], count: usize) {
     let mut left = count;
     let mut at: usize = 0;
-    while 18 <= nodes.len() - at {
+    while BYTES_IN_NODE <= nodes.len() - at {
         if left == 0 {
             return;
         }
-        let end = at + 18;
+        let end = at + BYTES_IN_NODE;
         write_node(&nodes[at..end]);
         at = end;
         left -= 1;
     }
 }
 
-// A glyph: x, y, size, family, code. A rule: x, y, width, thickness.
-fn write_node(node: &[u8]) {
-    if node.len() < 18 {
-        return;
+fn write_node(node: &[u8])
+    requires { ⌜ 18 ≤ length (now node) ⌝ }
+{
+    let mut line = [0u8; LINE_SPACE];
+    let end = node_line(node, &mut line);
+    print(&line, end);
+}
+
+fn print(line: &[u8], end: usize) {
+    if end <= line.len() {
+        io::write_all(STDOUT_FILENO, &line[..end]);
     }
+}
+
+// Writes the first line of an answer at the front of the buffer, and gives its length.
+pub fn answer_line(answer: Answer, out: &mut [u8]) -> usize
+    requires { ⌜ 128 ≤ length (now out) ⌝ }
+    ensures { λ r. ⌜ Written (answerLine (answeredAs answer)) (now (out .entry)) (now (out .exit)) r ⌝ }
+{
+    let parts = parts_of(answer);
+    let size = parts.size;
+    if parts.number == 0 {
+        return sizes_line(size, parts.count, out);
+    }
+    refusal_line(parts.number, parts.place, out)
+}
+
+fn sizes_line(size: Size, count: usize, out: &mut [u8]) -> usize
+    requires { ⌜ 128 ≤ length (now out) ⌝ }
+    ensures { λ r. ⌜ Written (sizesLine (sizeAs size) count) (now (out .entry)) (now (out .exit)) r ⌝ }
+{
+    let a = put_number(b"w ", of_length(size.width), out, 0);
+    let b = put_number(b" h ", of_length(size.height), out, a);
+    let c = put_number(b" d ", of_length(size.depth), out, b);
+    let d = put_number(b" n ", of_count(count as u64), out, c);
+    put_bytes(b"\n", out, d)
+}
+
+fn refusal_line(number: u8, place: usize, out: &mut [u8]) -> usize
+    requires { ⌜ 128 ≤ length (now out) ⌝ }
+    ensures { λ r. ⌜ Written (refusalLine number place) (now (out .entry)) (now (out .exit)) r ⌝ }
+{
+    let a = put_number(b"refused ", of_count(number as u64), out, 0);
+    let b = put_number(b" at ", of_count(place as u64), out, a);
+    put_bytes(b"\n", out, b)
+}
+
+// Writes the line of the node at the front of some bytes at the front of the buffer, and gives its length.
+pub fn node_line(node: &[u8], out: &mut [u8]) -> usize
+    requires { ⌜ (18 ≤ length (now node)) × (128 ≤ length (now out)) ⌝ }
+    ensures { λ r. ⌜ Written (nodeLine (nodeIn (now (node .entry)))) (now (out .entry)) (now (out .exit)) r ⌝ }
+{
     if node[0] == b'G' {
-        write(b"glyph ");
-        write_place(node);
-        write_byte(node[10]);
-        write_byte(node[11]);
-        write_byte(node[12]);
-    } else {
-        write(b"rule ");
-        write_place(node);
-        write(b" ");
-        write_word(&node[10..]);
-        write(b" ");
-        write_word(&node[14..]);
+        return glyph_line(node, out);
     }
-    write(b"\n");
+    rule_line(node, out)
 }
 
-fn write_place(node: &[u8]) {
-    if node.len() < 10 {
-        return;
-    }
-    write_word(&node[2..]);
-    write(b" ");
-    write_word(&node[6..]);
-}
-
-fn write_byte(byte: u8) {
-    write(b" ");
-    io::print_decimal(STDOUT_FILENO, byte as u64);
-}
-
-// The signed word of the first four bytes.
-fn write_word(bytes: &[u8]) {
-    if bytes.len() < 4 {
-        return;
-    }
-    let word = word_of(bytes[0], bytes[1], bytes[2], bytes[3]);
-    if word < 2147483648 {
-        io::print_decimal(STDOUT_FILENO, word);
-    } else {
-        write(b"-");
-        io::print_decimal(STDOUT_FILENO, 4294967296 - word);
-    }
-}
-
-fn word_of(a: u8, b: u8, c: u8, d: u8) -> u64
-    ensures { λ r. ⌜ r < 4294967296 ⌝ }
+fn glyph_line(node: &[u8], out: &mut [u8]) -> usize
+    requires { ⌜ (18 ≤ length (now node)) × (128 ≤ length (now out)) ⌝ }
+    ensures { λ r. ⌜ Written (nodeLine (glyphIn (now (node .entry)))) (now (out .entry)) (now (out .exit)) r ⌝ }
 {
-    wide(a) + wide(b) * 256 + wide(c) * 65536 + wide(d) * 16777216
+    let a = put_place(b"glyph ", node, out);
+    let b = put_number(b" ", of_byte(node[10]), out, a);
+    let c = put_number(b" ", of_byte(node[11]), out, b);
+    let d = put_number(b" ", of_byte(node[12]), out, c);
+    put_bytes(b"\n", out, d)
 }
 
-fn wide(byte: u8) -> u64
-    ensures { λ r. ⌜ r < 256 ⌝ }
+fn rule_line(node: &[u8], out: &mut [u8]) -> usize
+    requires { ⌜ (18 ≤ length (now node)) × (128 ≤ length (now out)) ⌝ }
+    ensures { λ r. ⌜ Written (nodeLine (ruleIn (now (node .entry)))) (now (out .entry)) (now (out .exit)) r ⌝ }
 {
-    byte as u64
+    let a = put_place(b"rule ", node, out);
+    let b = put_number(b" ", number_at(node, 10), out, a);
+    let c = put_number(b" ", number_at(node, 14), out, b);
+    put_bytes(b"\n", out, c)
 }
 
-// A length in decimal, with its sign.
-fn write_length(length: Sp) {
-    if length.less(Sp(0)) {
-        write(b"-");
+// Writes what every node's line opens with: its mark, its x and its y.
+fn put_place(mark: &[u8], node: &[u8], out: &mut [u8]) -> usize
+    requires { ⌜ (length (now mark) ≤ 6) × (18 ≤ length (now node)) × (128 ≤ length (now out)) ⌝ }
+    ensures { λ r. ⌜ PutNear 49 (placeText (now (mark .entry)) (now (node .entry))) (now (out .entry)) (now (out .exit)) 0 r ⌝ }
+{
+    let a = put_number(mark, number_at(node, 2), out, 0);
+    put_number(b" ", number_at(node, 6), out, a)
+}
+
+// The signed word at `at`.
+fn number_at(node: &[u8], at: usize) -> Number
+    requires { ⌜ at + 4 ≤ length (now node) ⌝ }
+    ensures { λ r. ⌜ numberText r ≡ textOf (numberAt at (now (node .entry))) ⌝ }
+{
+    of_word(word(node[at], node[at + 1], node[at + 2], node[at + 3]))
+}
+
+fn word(a: u8, b: u8, c: u8, d: u8) -> u32
+    ensures { λ r. ⌜ r ≡ a + 256 * (b + 256 * (c + 256 * d)) ⌝ }
+{
+    (a as u32) + (b as u32) * 256 + (c as u32) * 65_536 + (d as u32) * 16_777_216
+}
+
+// The number whose four-byte two's complement is w.
+fn of_word(w: u32) -> Number
+    ensures { λ r. ⌜ numberText r ≡ textOf (signedWord w) ⌝ }
+{
+    let wide = w as u64;
+    if wide < 2_147_483_648 {
+        return Number {
+            minus: false,
+            size: wide,
+        };
     }
-    io::print_decimal(STDOUT_FILENO, magnitude(length));
+    Number {
+        minus: true,
+        size: 4_294_967_296 - wide,
+    }
+}
+
+fn of_length(length: Sp) -> Number
+    ensures { λ r. ⌜ numberText r ≡ textOf (length .0) ⌝ }
+{
+    let minus = length.less(Sp(0));
+    Number {
+        minus: minus,
+        size: magnitude(length),
+    }
 }
 
 // How far a length lies from zero.
-fn magnitude(length: Sp) -> u64 {
+fn magnitude(length: Sp) -> u64
+    ensures { λ r. ⌜ r ≡ natAbs (length .0) ⌝ }
+{
     if length.less(Sp(0)) {
         let m = -1 - length.0;
         m as u64 + 1
@@ -138,6 +194,51 @@ fn magnitude(length: Sp) -> u64 {
     }
 }
 
-fn write(text: &[u8]) {
-    io::write_all(STDOUT_FILENO, text);
+fn of_byte(byte: u8) -> Number
+    ensures { λ r. ⌜ numberText r ≡ decimalOf byte ⌝ }
+{
+    of_count(byte as u64)
+}
+
+fn of_count(n: u64) -> Number
+    ensures { λ r. ⌜ numberText r ≡ decimalOf n ⌝ }
+{
+    Number {
+        minus: false,
+        size: n,
+    }
+}
+
+// Writes a mark and a number at `at`, and gives the place behind them.
+fn put_number(mark: &[u8], n: Number, out: &mut [u8], at: usize) -> usize
+    requires { ⌜ at + length (now mark) + 21 ≤ length (now out) ⌝ }
+    ensures { λ r. ⌜ PutNear (length (now (mark .entry)) + 21) (now (mark .entry) ++ numberText n) (now (out .entry)) (now (out .exit)) at r ⌝ }
+{
+    let next = put_bytes(mark, out, at);
+    if n.minus {
+        let behind = put_bytes(b"-", out, next);
+        return put_decimal(n.size, out, behind);
+    }
+    put_decimal(n.size, out, next)
+}
+
+fn put_decimal(n: u64, out: &mut [u8], at: usize) -> usize
+    requires { ⌜ at + 20 ≤ length (now out) ⌝ }
+    ensures { λ r. ⌜ PutNear 20 (decimalOf n) (now (out .entry)) (now (out .exit)) at r ⌝ }
+{
+    let mut digits = [0u8; 20];
+    let k = io::decimal(n, &mut digits);
+    put_bytes(&digits[..k], out, at)
+}
+
+fn put_bytes(text: &[u8], out: &mut [u8], at: usize) -> usize
+    requires { ⌜ at + length (now text) ≤ length (now out) ⌝ }
+    ensures { λ r. ⌜ Put (now (text .entry)) (now (out .entry)) (now (out .exit)) at r ⌝ }
+{
+    let mut i = 0;
+    while i < text.len() {
+        out[at + i] = text[i];
+        i += 1;
+    }
+    at + i
 }

@@ -1,4 +1,4 @@
--- `magnitude` takes no number out of its range: `below` and `not-below` of `SignedBits`.
+-- `magnitude` takes no number out of its range, and gives how far the length lies from zero: `below` and `not-below`. Assumes nothing.
 use mathlib.Core.Path.{sym, _∙_}
 use Rattle.listing.proofs.SignedBits.{below, not-below}
 use borrow.Author.Needs.{needs}
@@ -9,19 +9,19 @@ less-requires : tie.Need-less-requires
 less-requires c κs = search needs
 
 sub-m : tie.Need-sub-m
-sub-m c = (below (c .before .before .before .before .args .length .0) (search needs) (sym (c .before .before .before .less .ensures .is) ∙ c .before .before .if1 .taken)) .0
+sub-m c = below (c .before .before .before .before .args .length .0) (search needs) (sym (c .before .before .before .less .ensures .is) ∙ c .before .before .if1 .taken) .sub
 
 cast-result : tie.Need-cast-result
-cast-result c = (below (c .before .before .before .before .args .length .0) (search needs) (sym (c .before .before .before .less .ensures .is) ∙ c .before .before .if1 .taken)) .1
+cast-result c = below (c .before .before .before .before .args .length .0) (search needs) (sym (c .before .before .before .less .ensures .is) ∙ c .before .before .if1 .taken) .cast
 
 add-result : tie.Need-add-result
-add-result c = (below (c .before .before .before .before .args .length .0) (search needs) (sym (c .before .before .before .less .ensures .is) ∙ c .before .before .if1 .taken)) .2
+add-result c = below (c .before .before .before .before .args .length .0) (search needs) (sym (c .before .before .before .less .ensures .is) ∙ c .before .before .if1 .taken) .add
 
 cast-result-2 : tie.Need-cast-result-2
-cast-result-2 c = not-below (c .before .before .before .before .args .length .0) (search needs) (sym (c .before .before .before .less .ensures .is) ∙ c .before .before .if1 .left)
+cast-result-2 c = not-below (c .before .before .before .before .args .length .0) (search needs) (sym (c .before .before .before .less .ensures .is) ∙ c .before .before .if1 .left) .cast
 
 returns : tie.Need-returns
-returns c = search needs
+returns c = below (c .before .before .before .before .args .length .0) (search needs) (sym (c .before .before .before .less .ensures .is) ∙ c .before .before .if1 .taken) .out
 
 returns-2 : tie.Need-returns-2
 returns-2 c = search needs

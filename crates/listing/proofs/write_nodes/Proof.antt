@@ -1,7 +1,7 @@
 -- The loop goes from node to node and stays within the buffer.
 use Prim.Native.Nat.{_≤_, _-_}
 use native.Mathlib.Omega.{arith}
-use lib.ListN.{length}
+use lib.ListN.{length, length-take, length-drop}
 use Rattle.listing.proofs.write_nodes.Statement.{statement}
 use Rattle.listing.proofs.write_nodes.Tie as tie
 
@@ -33,7 +33,7 @@ part-write-node-end : tie.Need-part-write-node-end Inv-loop μ-loop
 part-write-node-end c = omega arith
 
 write-node-requires : tie.Need-write-node-requires Inv-loop μ-loop
-write-node-requires c κs = tt
+write-node-requires c κs = simp (length-take, length-drop) (omega arith)
 
 sub-left : tie.Need-sub-left Inv-loop μ-loop
 sub-left c = omega arith

@@ -1,0 +1,95 @@
+-- The text of an answer and of its nodes, a line each.
+--     answerLine    an acceptance, as `w 500 h 430 d 200 n 2`, or a refusal, as `refused 5 at 4`
+--     nodeLine      a node: `glyph x y size family code`, or `rule x y width thickness`
+--     nodeIn        the node that stands at the front of some bytes
+-- Assumes nothing.
+use mathlib.Core.Bool.{cond}
+use mathlib.Core.List.{List, [], _∷_, _++_}
+use Prim.Native.Nat.{ℕ}
+use lib.Dec.{eqb}
+use lib.IntN.{ℤ}
+use lib.ListN.{drop, getD}
+use Rattle.scaled.specs.Words.{littleEndian, signedWord}
+use Rattle.boxes.specs.Boxes.{Size}
+use Rattle.nodes.specs.Nodes.{Node, glyph, rule}
+use Rattle.layout.specs.Answers.{Answered, acceptedNumber}
+use Rattle.listing.specs.Decimals.{decimalOf, textOf}
+
+-- ---- what stands between the numbers
+
+abbrev pub newline : List ℕ
+newline = 10 ∷ []
+
+abbrev pub space : List ℕ
+space = 32 ∷ []
+
+-- a letter and a space; a space before them but for the first
+abbrev pub widthMark : List ℕ
+widthMark = 119 ∷ 32 ∷ []
+
+abbrev pub heightMark : List ℕ
+heightMark = 32 ∷ 104 ∷ 32 ∷ []
+
+abbrev pub depthMark : List ℕ
+depthMark = 32 ∷ 100 ∷ 32 ∷ []
+
+abbrev pub countMark : List ℕ
+countMark = 32 ∷ 110 ∷ 32 ∷ []
+
+-- `refused ` and ` at `
+abbrev pub refusedMark : List ℕ
+refusedMark = 114 ∷ 101 ∷ 102 ∷ 117 ∷ 115 ∷ 101 ∷ 100 ∷ 32 ∷ []
+
+abbrev pub atMark : List ℕ
+atMark = 32 ∷ 97 ∷ 116 ∷ 32 ∷ []
+
+-- `glyph ` and `rule `
+abbrev pub glyphMark : List ℕ
+glyphMark = 103 ∷ 108 ∷ 121 ∷ 112 ∷ 104 ∷ 32 ∷ []
+
+abbrev pub ruleMark : List ℕ
+ruleMark = 114 ∷ 117 ∷ 108 ∷ 101 ∷ 32 ∷ []
+
+-- ---- the first line
+
+abbrev pub sizesLine : Size → ℕ → List ℕ
+sizesLine z count =
+    widthMark ++ textOf (z .width)
+    ++ (heightMark ++ textOf (z .height))
+    ++ (depthMark ++ textOf (z .depth))
+    ++ (countMark ++ decimalOf count)
+    ++ newline
+
+abbrev pub refusalLine : ℕ → ℕ → List ℕ
+refusalLine number place = refusedMark ++ decimalOf number ++ (atMark ++ decimalOf place) ++ newline
+
+unfoldable pub answerLine : Answered → List ℕ
+answerLine a =
+    cond (eqb (a .number) acceptedNumber) (sizesLine (a .size) (a .count)) (refusalLine (a .number) (a .place))
+
+-- ---- a node
+
+unfoldable pub nodeLine : Node → List ℕ
+nodeLine (glyph x y size family code) =
+    glyphMark ++ textOf x
+    ++ (space ++ textOf y)
+    ++ (space ++ decimalOf size)
+    ++ (space ++ decimalOf family)
+    ++ (space ++ decimalOf code)
+    ++ newline
+nodeLine (rule x y width thickness) =
+    ruleMark ++ textOf x ++ (space ++ textOf y) ++ (space ++ textOf width) ++ (space ++ textOf thickness) ++ newline
+
+-- the signed word at a place
+abbrev pub numberAt : ℕ → List ℕ → ℤ
+numberAt k s = signedWord (littleEndian 4 (drop k s))
+
+abbrev pub glyphIn : List ℕ → Node
+glyphIn s = glyph (numberAt 2 s) (numberAt 6 s) (getD s 10 0) (getD s 11 0) (getD s 12 0)
+
+abbrev pub ruleIn : List ℕ → Node
+ruleIn s = rule (numberAt 2 s) (numberAt 6 s) (numberAt 10 s) (numberAt 14 s)
+
+-- `G` opens a glyph
+unfoldable pub nodeIn : List ℕ → Node
+nodeIn s = cond (eqb (getD s 0 0) 71) (glyphIn s) (ruleIn s)
