@@ -8,7 +8,7 @@ use mathlib.Core.Path.{_≡_}
 use mathlib.Core.Bool.{Bool, _&&_, _||_}
 use mathlib.Core.List.{List, []}
 use mathlib.Core.Option.{Option, none, some}
-use Prim.Native.Nat.{ℕ, _+_, _<_}
+use Prim.Native.Nat.{ℕ, _+_}
 use lib.Dec.{ltb}
 use lib.ListN.{length, getD, take, drop}
 use Rattle.font.specs.declared.Metrics as declared
@@ -16,7 +16,7 @@ use Rattle.font.specs.declared.Successor.{Successor}
 use Rattle.font.specs.declared.Successor.the-variants.{Nothing, Code}
 use Rattle.font.specs.declared.Found.{Found}
 use Rattle.font.specs.declared.Found.the-variants.{Symbol, Absent}
-use Rattle.font.specs.Table.{sizeCount, parameterCount, characterBytes, every, goodCharacter, before, rising}
+use Rattle.font.specs.Table.{characterBytes, every, goodCharacter, before, rising}
 use Rattle.font.specs.Font.{Metrics, fontOf}
 
 -- ---- a lookup

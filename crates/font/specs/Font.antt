@@ -6,7 +6,7 @@
 use mathlib.Core.Bool.{Bool, true, false, _&&_}
 use mathlib.Core.List.{List, [], _∷_, map}
 use mathlib.Core.Option.{Option, none, some}
-use Prim.Native.Nat.{ℕ, zero, suc}
+use Prim.Native.Nat.{ℕ}
 use lib.Dec.{eqb}
 use lib.ListN.{getD}
 use Rattle.font.specs.Table.{parameterRecords, parameterWords, characterRecords, sizeByte, familyByte, codeByte, flagByte, successorByte, metricWords}

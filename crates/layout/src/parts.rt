@@ -4,8 +4,8 @@ ghost use mathlib.Core.Path.{_≡_};
 ghost use Rattle.layout.specs.Answers.{refusal};
 ghost use Rattle.layout.specs.Answering.{answeredAs};
 ghost use Rattle.layout.specs.Parts.{partsAs};
-use boxes::Size;
 use crate::Answer;
+use boxes::Size;
 use scaled::Sp;
 
 pub struct Parts {

@@ -1,5 +1,5 @@
 -- A number below 2 ^ 63 is itself as a word.
-use mathlib.Core.Path.{_≡_, sym, ap, _∙_}
+use mathlib.Core.Path.{sym, ap, _∙_}
 use mathlib.Core.Bool.{Bool, cond}
 use Prim.Native.Nat.{_^_}
 use native.Mathlib.Omega.{arith}

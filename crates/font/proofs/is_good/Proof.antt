@@ -1,7 +1,7 @@
 -- `is_good` makes the tests of `good-table`, one after the other: the length, the PA records, the CH records.
 use mathlib.Core.Path.{sym, ap, _∙_}
 use mathlib.Core.List.{List}
-use Prim.Native.Nat.{ℕ, _-_}
+use Prim.Native.Nat.{ℕ}
 use borrow.Author.Tests.{not-true, not-false}
 use borrow.Author.Needs.{needs}
 use Rattle.font.specs.Answers.{soundCharacters}

@@ -1,8 +1,6 @@
 -- `either` meets its contract: a mark that is not 0 marks, and 0 does not (`RunCases`).
 -- Assumes nothing.
-use mathlib.Core.Path.{sym}
 use Rattle.nodes.proofs.RunCases.{marked-some}
-use borrow.Author.Needs.{needs}
 use Rattle.nodes.proofs.run.either.Statement.{statement}
 use Rattle.nodes.proofs.run.either.Tie as tie
 
