@@ -3,11 +3,11 @@
 ghost use mathlib.Core.Path.{_≡_};
 ghost use Prim.Native.Nat.{_≤_};
 ghost use lib.ListN.{length};
-ghost use Rattle.layout.specs.Answers.{measured, setting, bufferAfter, refusal};
+ghost use Rattle.layout.specs.Answers.{measured, setting, bufferAfter};
 ghost use Rattle.layout.specs.Answering.{answeredAs};
 ghost use Rattle.capi.specs.Words.{numberBy, wordsBy, bufferBy, answerWords, countWord};
-use boxes::Size;
 use layout::Answer;
+use layout::parts::parts_of;
 
 // How many words an answer takes.
 const ANSWER_SPACE: usize = 5;
@@ -56,45 +56,19 @@ fn report(answer: Answer, words: &mut [i64]) -> u8
     requires { ⌜ 5 ≤ length (now words) ⌝ }
     ensures { λ r. ⌜ (r ≡ answeredAs answer .number) × (now (words .exit) ≡ answerWords (answeredAs answer) (now (words .entry))) ⌝ }
 {
-    match answer {
-        Answer::Accepted(size, count) => accept(size, count, words),
-        Answer::NoStyle => refuse(1, 0, words),
-        Answer::BadTable => refuse(2, 0, words),
-        Answer::Unreadable(place) => refuse(3, place, words),
-        Answer::TooDeep(place) => refuse(4, place, words),
-        Answer::Missing(place) => refuse(5, place, words),
-        Answer::TooLarge => refuse(6, 0, words),
-        Answer::NoRoom => refuse(7, 0, words),
-    }
-}
-
-// An acceptance has the place 0.
-fn accept(size: Size, count: usize, words: &mut [i64]) -> u8
-    requires { ⌜ 5 ≤ length (now words) ⌝ }
-    ensures { λ r. ⌜ (r ≡ 0) × (now (words .exit) ≡ answerWords (answeredAs (Answer.Accepted size count)) (now (words .entry))) ⌝ }
-{
+    let parts = parts_of(answer);
+    let size = parts.size;
+    let place = count_word(parts.place);
+    let count = count_word(parts.count);
     let width = size.width.0;
     let height = size.height.0;
     let depth = size.depth.0;
-    words[0] = 0;
+    words[0] = place;
     words[1] = width;
     words[2] = height;
     words[3] = depth;
-    words[4] = count_word(count);
-    0
-}
-
-// A refusal has sizes and count 0.
-fn refuse(number: u8, place: usize, words: &mut [i64]) -> u8
-    requires { ⌜ 5 ≤ length (now words) ⌝ }
-    ensures { λ r. ⌜ (r ≡ number) × (now (words .exit) ≡ answerWords (refusal number place) (now (words .entry))) ⌝ }
-{
-    words[0] = count_word(place);
-    words[1] = 0;
-    words[2] = 0;
-    words[3] = 0;
-    words[4] = 0;
-    number
+    words[4] = count;
+    parts.number
 }
 
 fn count_word(n: usize) -> i64

@@ -1,137 +1,65 @@
--- Each constructor is reported as what it stands for.
+-- `report` meets its contract: five stores, by `five-stores`, of the parts that `parts_of` gives. Assumes nothing.
+use mathlib.Core.Path.{refl, ap, _∙_}
+use native.Mathlib.Omega.{arith}
+use lib.ListN.{length-set}
+use Rattle.layout.specs.Answers.{Answered}
+use Rattle.capi.specs.Words.{answerWords}
+use Rattle.capi.proofs.Stores.{five-stores, kept, count-kept}
 use borrow.Author.Needs.{needs}
 use Rattle.capi.proofs.report.Statement.{statement}
 use Rattle.capi.proofs.report.Tie as tie
 
-enum-known-answer : tie.Need-enum-known-answer
-enum-known-answer c = search needs
+parts-of-requires : tie.Need-parts-of-requires
+parts-of-requires c κs = search needs
 
-accept-requires : tie.Need-accept-requires
-accept-requires c κs = search needs
+count-word-requires : tie.Need-count-word-requires
+count-word-requires c κs = search needs
 
-enum-told : tie.Need-enum-told
-enum-told c = search needs
+count-word-requires-2 : tie.Need-count-word-requires-2
+count-word-requires-2 c κs = search needs
 
-refuse-requires : tie.Need-refuse-requires
-refuse-requires c κs = search needs
+slice-set-from-place : tie.Need-slice-set-from-place
+slice-set-from-place c = search needs
 
-enum-told-2 : tie.Need-enum-told-2
-enum-told-2 c = search needs
+slice-set-from-width : tie.Need-slice-set-from-width
+slice-set-from-width c = simp length-set (omega arith)
 
-refuse-requires-2 : tie.Need-refuse-requires-2
-refuse-requires-2 c κs = search needs
+slice-set-from-height : tie.Need-slice-set-from-height
+slice-set-from-height c = simp length-set (omega arith)
 
-enum-known-answer-2 : tie.Need-enum-known-answer-2
-enum-known-answer-2 c = search needs
+slice-set-from-depth : tie.Need-slice-set-from-depth
+slice-set-from-depth c = simp length-set (omega arith)
 
-refuse-requires-3 : tie.Need-refuse-requires-3
-refuse-requires-3 c κs = search needs
-
-enum-known-answer-3 : tie.Need-enum-known-answer-3
-enum-known-answer-3 c = search needs
-
-refuse-requires-4 : tie.Need-refuse-requires-4
-refuse-requires-4 c κs = search needs
-
-enum-known-answer-4 : tie.Need-enum-known-answer-4
-enum-known-answer-4 c = search needs
-
-refuse-requires-5 : tie.Need-refuse-requires-5
-refuse-requires-5 c κs = search needs
-
-enum-told-3 : tie.Need-enum-told-3
-enum-told-3 c = search needs
-
-refuse-requires-6 : tie.Need-refuse-requires-6
-refuse-requires-6 c κs = search needs
-
-enum-told-4 : tie.Need-enum-told-4
-enum-told-4 c = search needs
-
-refuse-requires-7 : tie.Need-refuse-requires-7
-refuse-requires-7 c κs = search needs
+slice-set-from-count : tie.Need-slice-set-from-count
+slice-set-from-count c = search needs
 
 same-length : tie.Need-same-length
 same-length c = search needs
 
 returns : tie.Need-returns
-returns c = rw (c .before .before .before .before .answer .given .1) (c .before .accept .ensures)
-
-same-length-2 : tie.Need-same-length-2
-same-length-2 c = search needs
-
-returns-2 : tie.Need-returns-2
-returns-2 c = rw (c .before .before .before .enum-told .given .1) (c .before .refuse .ensures)
-
-same-length-3 : tie.Need-same-length-3
-same-length-3 c = search needs
-
-returns-3 : tie.Need-returns-3
-returns-3 c = rw (c .before .before .before .enum-told2 .given .1) (c .before .refuse2 .ensures)
-
-same-length-4 : tie.Need-same-length-4
-same-length-4 c = search needs
-
-returns-4 : tie.Need-returns-4
-returns-4 c = rw (c .before .before .before .before .answer2 .given .1) (c .before .refuse3 .ensures)
-
-same-length-5 : tie.Need-same-length-5
-same-length-5 c = search needs
-
-returns-5 : tie.Need-returns-5
-returns-5 c = rw (c .before .before .before .before .answer3 .given .1) (c .before .refuse4 .ensures)
-
-same-length-6 : tie.Need-same-length-6
-same-length-6 c = search needs
-
-returns-6 : tie.Need-returns-6
-returns-6 c = rw (c .before .before .before .before .answer4 .given .1) (c .before .refuse5 .ensures)
-
-same-length-7 : tie.Need-same-length-7
-same-length-7 c = search needs
-
-returns-7 : tie.Need-returns-7
-returns-7 c = rw (c .before .before .before .enum-told3 .given .1) (c .before .refuse6 .ensures)
-
-same-length-8 : tie.Need-same-length-8
-same-length-8 c = search needs
-
-returns-8 : tie.Need-returns-8
-returns-8 c = rw (c .before .before .before .enum-told4 .given .1) (c .before .refuse7 .ensures)
+unfolding answerWords
+returns c =
+    let start = c .before .before .before .before .before .before .before in
+    let p = c .before .before .before .before .before .before .parts-of in
+    let z = p .result .size in
+    let w = start .args .words .now in (
+      ap (λ (a : Answered). a .number) (p .ensures),
+      five-stores w _ _ _ _ _ (start .pre)
+          ∙ rw (kept (z .width .0) (search needs), kept (z .height .0) (search needs), kept (z .depth .0) (search needs), c .before .before .before .before .count-word .ensures, c .before .before .before .count-word2 .ensures, count-kept (p .result .place), count-kept (p .result .count), answerWords) refl
+          ∙ ap (λ (a : Answered). answerWords a w) (p .ensures),
+    )
 
 pub report-spec : {M : Type 1} → statement M
 report-spec =
     tie.close
     (tie.spec
-    enum-known-answer
-    accept-requires
-    enum-told
-    refuse-requires
-    enum-told-2
-    refuse-requires-2
-    enum-known-answer-2
-    refuse-requires-3
-    enum-known-answer-3
-    refuse-requires-4
-    enum-known-answer-4
-    refuse-requires-5
-    enum-told-3
-    refuse-requires-6
-    enum-told-4
-    refuse-requires-7
+    parts-of-requires
+    count-word-requires
+    count-word-requires-2
+    slice-set-from-place
+    slice-set-from-width
+    slice-set-from-height
+    slice-set-from-depth
+    slice-set-from-count
     same-length
-    returns
-    same-length-2
-    returns-2
-    same-length-3
-    returns-3
-    same-length-4
-    returns-4
-    same-length-5
-    returns-5
-    same-length-6
-    returns-6
-    same-length-7
-    returns-7
-    same-length-8
-    returns-8)
+    returns)
