@@ -2,3 +2,4 @@
 pub mod Answers
 pub mod Answering
 pub mod Parts
+pub mod Small

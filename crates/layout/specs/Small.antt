@@ -1,0 +1,358 @@
+-- No place and no count of an answer passes the longest formula.
+--     ItemsIn, ItemIn, FieldIn         what is written in n bytes misses a symbol within them, and has at most n nodes
+--     read-in                          what reading gives of n bytes: a tree that is so, or a fault within them
+--     Small                            an answer whose place and count are small
+--     measured-small, setting-small    every answer is
+-- Assumes nothing.
+use mathlib.Core.Path.{_≡_, refl, sym, ap, subst, _∙_}
+use mathlib.Core.Bool.{Bool, true, false}
+use mathlib.Core.List.{List, [], _∷_}
+use mathlib.Core.Option.{Option, none, some}
+use Prim.Native.Nat.{ℕ, zero, suc, _+_, _-_, _≤_}
+use native.Mathlib.Omega.{arith}
+use lib.Dec.{ltb}
+use lib.ListN.{length, drop, length-append, length-drop}
+use borrow.Author.Tests.{ltb-false}
+use Rattle.font.specs.Table.{goodTable}
+use Rattle.font.specs.Font.{Font, fontOf}
+use Rattle.formula.specs.declared.Base.the-variants.{Atom, Over, Under}
+use Rattle.formula.specs.declared.Fault.the-variants.{Unreadable}
+use Rattle.formula.specs.declared.FieldHead.{FieldHead}
+use Rattle.formula.specs.declared.FieldHead.the-variants.{NoField, Empty, Symbol, Sublist, CutSublist}
+use Rattle.formula.specs.declared.Kind.{Kind}
+use Rattle.formula.specs.declared.Kind.the-variants.{Scripted, Fraction}
+use Rattle.formula.specs.declared.Opening.{Opening}
+use Rattle.formula.specs.declared.Opening.the-variants.{NoItem, Fields, Kern}
+use Rattle.formula.specs.Tree.{Items, Item, Field, nil, cons, noad, kern, empty, symbol, list, openingBytes, thirdBytes, itemsBytes, itemBytes, fieldBytes}
+use Rattle.formula.specs.Heads.{openingOf, fieldHead}
+use Rattle.formula.specs.HeadLaws.{head-fits, list-opening, contents-shorter, opening-fits}
+use Rattle.formula.specs.Places.{contents, openedBytes}
+use Rattle.formula.specs.Reading.{Read, good, fault, Got, got, stopped, _thenAt_, formulaLimit, depthLimit, listGot, fieldBy, fieldAt, thirdAt, noadAt, openedBy, itemBy, before, restBy, listBy, readBy, read, readFormula}
+use Rattle.rules.specs.declared.Style.{Style}
+use Rattle.rules.specs.Styles.{styleOf, fontSize}
+use Rattle.rules.specs.Classes.{Neighbour}
+use Rattle.rules.specs.Boxes.{Rule}
+use Rattle.rules.specs.Arrange.{arrange, firstStyle, secondStyle, thirdStyle, enlarges}
+use Rattle.rules.specs.ArrangeLaws.{own-before, own-behind, few-own}
+use Rattle.nodes.specs.NodeLaws.{length-moved}
+use Rattle.walk.specs.Setting.{Box, Line, Symbol as SetSymbol, Part, symbolIn, symbolPart, ruleNodes, itemNodes, itemBox, placed, nextClass, start, setItems, setItem, setField, setList}
+use Rattle.walk.specs.Missing.{_orElse_, later, absentAt, missingItems, missingItem, missingField}
+use Rattle.walk.specs.Fitting.{listFits}
+use Rattle.layout.specs.Answers.{Answered, Result, boxed, refused, refusal, accepted, noRoomNumber, ifFits, ifPresent, ifRead, ifGood, ifStyle, resultOf, measuredBy, measured, hasRoom, setBy, setting}
+
+-- ---- what is written in n bytes
+
+pub record ItemsIn (n : ℕ) (l : Items) : Type 0 where
+  pub bytes : itemsBytes l ≡ n
+  pub missing : (F : Font) (s : Style) (place : ℕ) → missingItems F s l ≡ some place → place ≤ n
+  pub few : (F : Font) (s : Style) (beyond : Neighbour) (line : Line) →
+      length (setItems F s beyond line l .box .nodes) ≤ length (line .box .nodes) + n
+
+pub record ItemIn (n : ℕ) (i : Item) : Type 0 where
+  pub bytes : itemBytes i ≡ n
+  pub missing : (F : Font) (s : Style) (place : ℕ) → missingItem F s i ≡ some place → place ≤ n
+  pub few : (F : Font) (s : Style) (right : Neighbour) (line : Line) →
+      length (setItem F s right line i .box .nodes) ≤ length (line .box .nodes) + n
+
+-- from one place of its item to another, k bytes
+pub record FieldIn (at end k : ℕ) (f : Field) : Type 0 where
+  pub bytes : end ≡ at + k
+  pub missing : (F : Font) (s : Style) (enlarge : Bool) (place : ℕ) → missingField F s enlarge at f ≡ some place → place ≤ end
+  pub few : (F : Font) (s : Style) (enlarge : Bool) → at + length (setField F s enlarge f .nodes) ≤ end
+
+abbrev pub ReadIn : ℕ → Read → Type 0
+ReadIn n (good l) = ItemsIn n l
+ReadIn n (fault why place) = place ≤ n
+
+abbrev GotIn : {A : Type 0} → (A → ℕ → Type 0) → ℕ → Got A → Type 0
+GotIn P hi (got a m) = P a m × (m ≤ hi)
+GotIn P hi (stopped why place) = place ≤ hi
+
+then-in : {A B : Type 0} (P : A → ℕ → Type 0) (Q : B → ℕ → Type 0) (hi : ℕ) (g : Got A) (k : A → ℕ → Got B) → GotIn P hi g →
+    ((a : A) (m : ℕ) → P a m → m ≤ hi → GotIn Q hi (k a m)) → GotIn Q hi (g thenAt k)
+then-in P Q hi (got a m) k h f = f a m (h .0) (h .1)
+then-in P Q hi (stopped why place) k h f = h
+
+-- ---- a field
+
+none-some : {B : Type 0} {place : ℕ} → none ≡ some place → B
+none-some e = let z : _≡_ {A = ℕ} 0 1 = cc in absurd (omega arith)
+
+absent-place : (at place : ℕ) (o : Option SetSymbol) → absentAt at o ≡ some place → place ≡ at
+unfolding absentAt
+absent-place at place none e = cc
+absent-place at place (some s) e = none-some e
+
+later-place : (at n place : ℕ) (o : Option ℕ) → ((p : ℕ) → o ≡ some p → p ≤ n) → later at o ≡ some place → place ≤ at + n
+unfolding later
+later-place at n place none h e = none-some e
+later-place at n place (some p) h e = let is : at + p ≡ place = cc in omega (arith, h p refl)
+
+symbol-few : (size family : ℕ) (o : Option SetSymbol) → length (symbolPart size family o .nodes) ≤ 1
+unfolding symbolPart
+symbol-few size family none = omega arith
+symbol-few size family (some s) = omega arith
+
+empty-in : (at end k : ℕ) → end ≡ at + k → FieldIn at end k empty
+unfolding missingField setField
+empty-in at end k e =
+    record { bytes = e; missing = λ F s enlarge place q. none-some q; few = λ F s enlarge. omega arith }
+
+symbol-in : (at family code : ℕ) → FieldIn at (at + 3) 3 (symbol family code)
+unfolding missingField setField
+symbol-in at family code =
+    record {
+      bytes = refl;
+      missing = λ F s enlarge place q. omega (arith, absent-place at place (symbolIn F (fontSize s) enlarge family code) q);
+      few = λ F s enlarge. omega (arith, symbol-few (fontSize s) family (symbolIn F (fontSize s) enlarge family code));
+    }
+
+list-in : (at n : ℕ) (l : Items) → ItemsIn n l → FieldIn at (at + 3 + n) (fieldBytes (list l)) (list l)
+unfolding missingField setField fieldBytes
+list-in at n l h =
+    record {
+      bytes = omega (arith, h .bytes);
+      missing = λ F s enlarge place q. later-place (at + 3) n place (missingItems F s l) (h .missing F s) q;
+      few = λ F s enlarge. omega (arith, h .few F s none start);
+    }
+
+abbrev FieldFrom : ℕ → Field → ℕ → Type 0
+FieldFrom at f end = FieldIn at end (fieldBytes f) f
+
+module _ (R : ℕ → List ℕ → Read) (ih : (levels : ℕ) (r : List ℕ) → ReadIn (length r) (R levels r)) where
+  module _ (levels : ℕ) (s : List ℕ) where
+    field-in : (at : ℕ) → at ≤ length s → GotIn (FieldFrom at) (length s) (fieldAt R levels s at)
+    unfolding fieldAt fieldBy listGot fieldBytes
+    field-in at l = go levels (fieldHead (drop at s)) refl
+      where
+        inside : (opening n : ℕ) (x : Read) → opening ≡ 3 → at + (opening + n) ≤ length s → ReadIn n x →
+            GotIn (FieldFrom at) (length s) (listGot at opening n x)
+        inside opening n (good l) three h p =
+            (subst (λ (k : ℕ). FieldFrom at (list l) (at + k + n)) (sym three) (list-in at n l p), omega arith)
+        inside opening n (fault why place) three h p = omega arith
+
+        go : (levels : ℕ) (h : FieldHead) → fieldHead (drop at s) ≡ h →
+            GotIn (FieldFrom at) (length s) (fieldBy R levels at (drop at s) h)
+        go levels NoField e = omega arith
+        go levels Empty e = (empty-in at (at + 1) 1 refl, omega (arith, length-drop at s, head-fits (drop at s) Empty e))
+        go levels (Symbol family code) e =
+            (symbol-in at family code, omega (arith, length-drop at s, head-fits (drop at s) (Symbol family code) e))
+        go zero (Sublist opening n) e = l
+        go (suc levels) (Sublist opening n) e =
+            let r = contents opening n (drop at s) in
+            inside opening n (R levels r) (list-opening (drop at s) opening n e)
+            (omega (arith, length-drop at s, head-fits (drop at s) (Sublist opening n) e))
+            (subst (λ (k : ℕ). ReadIn k (R levels r)) (contents-shorter (drop at s) opening n e .0) (ih levels r))
+        go zero CutSublist e = l
+        go (suc levels) CutSublist e = omega arith
+
+    abbrev ThirdFrom : Kind → ℕ → Field → ℕ → Type 0
+    ThirdFrom kind at f end = FieldIn at end (thirdBytes kind (fieldBytes f)) f
+
+    third-in : (kind : Kind) (at : ℕ) → at ≤ length s → GotIn (ThirdFrom kind at) (length s) (thirdAt R levels s kind at)
+    unfolding thirdAt
+    third-in (Scripted base) at l = field-in at l
+    third-in (Fraction bar) at l = (empty-in at at 0 (omega arith), l)
+
+-- ---- an item
+
+either-place : (n place : ℕ) (x y : Option ℕ) → ((p : ℕ) → x ≡ some p → p ≤ n) → ((p : ℕ) → y ≡ some p → p ≤ n) →
+    (x orElse y) ≡ some place → place ≤ n
+either-place n place none y f g e = g place e
+either-place n place (some p) y f g e = f place e
+
+length-rules : (rs : List Rule) → length (ruleNodes rs) ≡ length rs
+unfolding ruleNodes
+length-rules [] = refl
+length-rules (r ∷ rs) = ap suc (length-rules rs)
+
+opened : (kind : Kind) → 2 ≤ openingBytes kind
+opened (Scripted (Atom class limits)) = omega arith
+opened (Scripted Over) = omega arith
+opened (Scripted Under) = omega arith
+opened (Fraction bar) = omega arith
+
+-- an item's own nodes are no more than the bytes that it opens with
+item-few : (F : Font) (s : Style) (kind : Kind) (x y z : Part) →
+    length (itemBox F s kind x y z .nodes) ≤ openingBytes kind + length (x .nodes) + length (y .nodes) + length (z .nodes)
+unfolding itemBox itemNodes
+item-few F s kind x y z =
+    let p = F .parameter in
+    let ahead = own-before p s kind (x .shape) (y .shape) (z .shape) in
+    let owned = own-behind p s kind (x .shape) (y .shape) (z .shape) in
+    simp (length-append, length-moved, length-rules) (omega (arith, ahead, owned, few-own p s kind, opened kind))
+
+module _ (kind : Kind) (x y z : Field) (m₁ m₂ m₃ : ℕ) (a : FieldIn (openingBytes kind) m₁ (fieldBytes x) x)
+    (b : FieldIn m₁ m₂ (fieldBytes y) y) (c : FieldIn m₂ m₃ (thirdBytes kind (fieldBytes z)) z) where
+  noad-missing : (F : Font) (s : Style) (place : ℕ) → missingItem F s (noad kind x y z) ≡ some place → place ≤ m₃
+  unfolding missingItem
+  noad-missing F s place e =
+      let second : m₁ ≡ openingBytes kind + fieldBytes x = a .bytes in
+      let third : m₂ ≡ openingBytes kind + fieldBytes x + fieldBytes y = omega (arith, a .bytes, b .bytes) in
+      let in-first = a .missing F (firstStyle kind s) (enlarges kind s) in
+      let in-second = subst (λ (k : ℕ). (p : ℕ) → missingField F (secondStyle kind s) false k y ≡ some p → p ≤ m₂) second (b .missing F (secondStyle kind s) false) in
+      let in-third = subst (λ (k : ℕ). (p : ℕ) → missingField F (thirdStyle s) false k z ≡ some p → p ≤ m₃) third (c .missing F (thirdStyle s) false) in
+      either-place m₃ place (missingField F (firstStyle kind s) (enlarges kind s) (openingBytes kind) x) _
+      (λ p q. omega (arith, in-first p q, b .bytes, c .bytes))
+      (λ p q.
+      either-place m₃ p (missingField F (secondStyle kind s) false (openingBytes kind + fieldBytes x) y) _
+      (λ p q. omega (arith, in-second p q, c .bytes))
+      in-third
+      q)
+      e
+
+  noad-few : (F : Font) (s : Style) (right : Neighbour) (line : Line) →
+      length (setItem F s right line (noad kind x y z) .box .nodes) ≤ length (line .box .nodes) + m₃
+  unfolding setItem placed
+  noad-few F s right line =
+      let X = setField F (firstStyle kind s) (enlarges kind s) x in
+      let Y = setField F (secondStyle kind s) false y in
+      let Z = setField F (thirdStyle s) false z in
+      simp (length-append, length-moved)
+      (omega (arith, item-few F s kind X Y Z, a .few F (firstStyle kind s) (enlarges kind s), b .few F (secondStyle kind s) false, c .few F (thirdStyle s) false))
+
+  noad-in : ItemIn m₃ (noad kind x y z)
+  unfolding itemBytes
+  noad-in = record { bytes = omega (arith, a .bytes, b .bytes, c .bytes); missing = noad-missing; few = noad-few }
+
+kern-in : (n : ℕ) (i : Item) → itemBytes i ≡ n → ((F : Font) (s : Style) → missingItem F s i ≡ none) →
+    ((F : Font) (s : Style) (right : Neighbour) (line : Line) → setItem F s right line i .box .nodes ≡ line .box .nodes) → ItemIn n i
+kern-in n i bytes present same =
+    record {
+      bytes = bytes;
+      missing = λ F s place q. none-some (sym (present F s) ∙ q);
+      few = λ F s right line. omega (arith, ap length (same F s right line));
+    }
+
+abbrev ItemTo : Item → ℕ → Type 0
+ItemTo i end = ItemIn end i
+
+module _ (R : ℕ → List ℕ → Read) (ih : (levels : ℕ) (r : List ℕ) → ReadIn (length r) (R levels r)) (levels : ℕ) where
+  item-in : (s : List ℕ) → GotIn ItemTo (length s) (itemBy R levels s)
+  unfolding itemBy openedBy noadAt itemBytes missingItem setItem
+  item-in s = go (openingOf s) (opening-fits s (openingOf s) refl)
+    where
+      go : (o : Opening) → openedBytes o ≤ length s → GotIn ItemTo (length s) (openedBy R levels s o)
+      go NoItem h = omega arith
+      go (Fields kind) h =
+          let n = length s in
+          let first = openingBytes kind in
+          then-in (FieldFrom first) ItemTo n (fieldAt R levels s first) _ (field-in R ih levels s first h) (λ x m₁ a l₁.
+          then-in (FieldFrom m₁) ItemTo n (fieldAt R levels s m₁) _ (field-in R ih levels s m₁ l₁) (λ y m₂ b l₂.
+          then-in (ThirdFrom R ih levels s kind m₂) ItemTo n (thirdAt R levels s kind m₂) _ (third-in R ih levels s kind m₂ l₂) (λ z m₃ c l₃.
+          (noad-in kind x y z m₁ m₂ m₃ a b c, l₃))))
+      go (Kern n) h = (kern-in 6 (kern (n .0)) refl (λ F s. refl) (λ F s right line. refl), h)
+
+  -- ---- a list
+
+  cons-in : (size n : ℕ) (i : Item) (l : Items) → ItemIn size i → ItemsIn n l → ItemsIn (size + n) (cons i l)
+  unfolding itemsBytes missingItems setItems
+  cons-in size n i l a b =
+      record {
+        bytes = omega (arith, a .bytes, b .bytes);
+        missing = λ F s place q.
+            either-place (size + n) place (missingItem F s i) _
+            (λ p e. omega (arith, a .missing F s p e))
+            (λ p e. omega (arith, a .bytes, later-place (itemBytes i) n p (missingItems F s l) (b .missing F s) e))
+            q;
+        few = λ F s beyond line. omega (arith, a .few F s (nextClass beyond l) line, b .few F s beyond (setItem F s (nextClass beyond l) line i));
+      }
+
+  list-read : (s : List ℕ) → ReadIn (length s) (listBy R levels s)
+  unfolding listBy restBy before itemsBytes missingItems setItems
+  list-read [] =
+      record { bytes = refl; missing = λ F s place q. none-some q; few = λ F s beyond line. omega arith }
+  list-read (x ∷ s) = go (itemBy R levels (x ∷ s)) (item-in (x ∷ s))
+    where
+      on : (size : ℕ) (i : Item) (r : Read) → ItemIn size i → size ≤ length (x ∷ s) → ReadIn (length (drop size (x ∷ s))) r →
+          ReadIn (length (x ∷ s)) (before i size r)
+      on size i (good l) a h b =
+          let all : size + length (drop size (x ∷ s)) ≡ length (x ∷ s) = omega (arith, length-drop size (x ∷ s)) in
+          subst (λ (n : ℕ). ItemsIn n (cons i l)) all (cons-in size (length (drop size (x ∷ s))) i l a b)
+      on size i (fault why place) a h b = omega (arith, length-drop size (x ∷ s))
+
+      go : (g : Got Item) → GotIn ItemTo (length (x ∷ s)) g → ReadIn (length (x ∷ s)) (restBy R levels (x ∷ s) g)
+      go (got i size) h = on size i (R levels (drop size (x ∷ s))) (h .0) (h .1) (ih levels (drop size (x ∷ s)))
+      go (stopped why place) h = h
+
+read-by-in : (f levels : ℕ) (s : List ℕ) → ReadIn (length s) (readBy f levels s)
+unfolding readBy
+read-by-in zero levels s = omega arith
+read-by-in (suc f) levels s = list-read (readBy f) (read-by-in f) levels s
+
+pub read-in : (levels : ℕ) (s : List ℕ) → ReadIn (length s) (read levels s)
+unfolding read
+read-in levels s = read-by-in (suc (length s)) levels s
+
+-- ---- a formula, and what is found of it
+
+abbrev FoundSmall : Result → Type 0
+FoundSmall (boxed b) = length (b .nodes) ≤ formulaLimit
+FoundSmall (refused number place) = place ≤ formulaLimit
+
+module _ (F : Font) (s : Style) where
+  tree-small : (n : ℕ) (l : Items) → n ≤ formulaLimit → ItemsIn n l → FoundSmall (ifRead F s (good l))
+  unfolding ifRead ifPresent ifFits setList
+  tree-small n l short h = present (missingItems F s l) refl
+    where
+      fits : (t : Bool) → FoundSmall (ifFits t (setList F s l))
+      fits true = omega (arith, h .few F s none start)
+      fits false = omega arith
+
+      present : (o : Option ℕ) → missingItems F s l ≡ o → FoundSmall (ifPresent F s l o)
+      present none e = fits (listFits F s l)
+      present (some place) e = omega (arith, h .missing F s place e)
+
+  reading-small : (n : ℕ) (r : Read) → n ≤ formulaLimit → ReadIn n r → FoundSmall (ifRead F s r)
+  unfolding ifRead
+  reading-small n (good l) short h = tree-small n l short h
+  reading-small n (fault why place) short h = omega arith
+
+  formula-small : (formula : List ℕ) → FoundSmall (ifRead F s (readFormula formula))
+  unfolding readFormula ifRead
+  formula-small formula = go (ltb formulaLimit (length formula)) refl
+    where
+      go : (t : Bool) → ltb formulaLimit (length formula) ≡ t →
+          FoundSmall (ifRead F s (elim t [ true ↦ fault Unreadable 0 | false ↦ read (depthLimit - 1) formula ]))
+      go true e = omega arith
+      go false e =
+          reading-small (length formula) (read (depthLimit - 1) formula) (ltb-false formulaLimit (length formula) e) (read-in (depthLimit - 1) formula)
+
+found-small : (style : ℕ) (table formula : List ℕ) → FoundSmall (resultOf style table formula)
+unfolding resultOf ifStyle ifGood
+found-small style table formula = styled (styleOf style)
+  where
+    tabled : (s : Style) (t : Bool) → FoundSmall (ifGood t (fontOf table) s (readFormula formula))
+    tabled s true = formula-small (fontOf table) s formula
+    tabled s false = omega arith
+
+    styled : (o : Option Style) → FoundSmall (ifStyle table formula o)
+    styled none = omega arith
+    styled (some s) = tabled s (goodTable table)
+
+-- ---- the answers
+
+pub record Small (a : Answered) : Type 0 where
+  pub place : a .place ≤ formulaLimit
+  pub count : a .count ≤ formulaLimit
+
+pub measured-small : (style : ℕ) (table formula : List ℕ) → Small (measured style table formula)
+unfolding measured measuredBy
+measured-small style table formula = go (resultOf style table formula) (found-small style table formula)
+  where
+    go : (r : Result) → FoundSmall r → Small (measuredBy r)
+    go (boxed b) h = record { place = omega arith; count = h }
+    go (refused number place) h = record { place = h; count = omega arith }
+
+pub setting-small : (style : ℕ) (table formula : List ℕ) (room : ℕ) → Small (setting style table formula room)
+unfolding setting setBy
+setting-small style table formula room = go (resultOf style table formula) (found-small style table formula)
+  where
+    roomy : (b : Box) (t : Bool) → length (b .nodes) ≤ formulaLimit →
+        Small (elim t [ true ↦ accepted b | false ↦ refusal noRoomNumber 0 ])
+    roomy b true h = record { place = omega arith; count = h }
+    roomy b false h = record { place = omega arith; count = omega arith }
+
+    go : (r : Result) → FoundSmall r → Small (setBy room r)
+    go (boxed b) h = roomy b (hasRoom room b) h
+    go (refused number place) h = record { place = h; count = omega arith }
