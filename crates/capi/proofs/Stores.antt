@@ -1,23 +1,26 @@
 -- Five words stored at the front of a lent answer, and the words that a caller finds.
 --     five-stores     the five stores, one after the other
 --     kept            a word that was stored is read back as it was
---     count-kept      the same of a place or a count
+--     count-kept      the same of a place or a count; `parts-small`, both are small
 --     enough, short   what an answer with room, and one without, is given
 -- Assumes nothing.
-use mathlib.Core.Path.{_≡_, refl, sym, ap}
-use mathlib.Core.Bool.{Bool, true, false, cond}
+use mathlib.Core.Path.{_≡_, refl, sym, ap, subst}
+use mathlib.Core.Bool.{Bool, cond}
 use mathlib.Core.List.{List, [], _∷_}
-use Prim.Native.Nat.{ℕ, _≤_, _<_, _^_}
+use Prim.Native.Nat.{ℕ, _≤_, _<_}
 use native.Mathlib.Omega.{arith}
-use lib.Dec.{ltb}
 use lib.IntN.{ℤ, pos}
 use lib.ListN.{length, drop, set}
-use borrow.Author.Tests.{ltb-true, le-leb, lt-leb}
+use borrow.Author.Tests.{le-leb, lt-leb}
 use mir.Syntax.{w64}
 use mir.Val.{SFits, toZ, ofZ}
 use mir.ValLaws.{toZ-ofZ}
+use Rattle.formula.specs.Reading.{formulaLimit}
+use Rattle.layout.specs.declared.parts.Parts.{Parts}
 use Rattle.layout.specs.Answers.{Answered}
-use Rattle.capi.specs.Words.{countWord, answerSpace, noAnswer, answerWords, numberBy, wordsBy, bufferBy}
+use Rattle.layout.specs.Parts.{partsAs}
+use Rattle.layout.specs.Small.{Small}
+use Rattle.capi.specs.Words.{answerSpace, noAnswer, answerWords, numberBy, wordsBy, bufferBy}
 
 pub five-stores : (w : List ℤ) (a b c d e : ℤ) → 5 ≤ length w →
     set (set (set (set (set w 0 a) 1 b) 2 c) 3 d) 4 e ≡ a ∷ b ∷ c ∷ d ∷ e ∷ drop 5 w
@@ -31,12 +34,11 @@ five-stores (_ ∷ _ ∷ _ ∷ _ ∷ _ ∷ w) a b c d e h = refl
 pub kept : (z : ℤ) → SFits w64 z → toZ w64 (ofZ w64 z) ≡ z
 kept z h = toZ-ofZ w64 z h
 
-count-fits : (n : ℕ) (t : Bool) → ltb n (2 ^ 63) ≡ t → SFits w64 (cond t (pos n) (pos 0))
-count-fits n true e = record { sfits = ltb-true n (2 ^ 63) e }
-count-fits n false e = record { sfits = omega arith }
+pub count-kept : (n : ℕ) → n ≤ formulaLimit → toZ w64 (ofZ w64 (pos n)) ≡ pos n
+count-kept n h = kept (pos n) (record { sfits = omega arith })
 
-pub count-kept : (n : ℕ) → toZ w64 (ofZ w64 (countWord n)) ≡ countWord n
-count-kept n = kept (countWord n) (count-fits n (ltb n (2 ^ 63)) refl)
+pub parts-small : (a : Answered) (p : Parts) → partsAs p ≡ a → Small a → Small (partsAs p)
+parts-small a p e h = subst Small (sym e) h
 
 module _ (a : Answered) (w : List ℤ) where
   pub number-enough : answerSpace ≤ length w → a .number ≡ numberBy a w

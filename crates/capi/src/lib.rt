@@ -2,10 +2,13 @@
 
 ghost use mathlib.Core.Path.{_≡_};
 ghost use Prim.Native.Nat.{_≤_};
+ghost use lib.IntN.{pos};
 ghost use lib.ListN.{length};
 ghost use Rattle.layout.specs.Answers.{measured, setting, bufferAfter};
+ghost use Rattle.formula.specs.Reading.{formulaLimit};
 ghost use Rattle.layout.specs.Answering.{answeredAs};
-ghost use Rattle.capi.specs.Words.{numberBy, wordsBy, bufferBy, answerWords, countWord};
+ghost use Rattle.layout.specs.Small.{Small};
+ghost use Rattle.capi.specs.Words.{numberBy, wordsBy, bufferBy, answerWords};
 use layout::Answer;
 use layout::parts::parts_of;
 
@@ -53,7 +56,7 @@ pub extern "C" fn torfianka_set(
 
 // Writes an answer's place, sizes and count, and gives its number.
 fn report(answer: Answer, words: &mut [i64]) -> u8
-    requires { ⌜ 5 ≤ length (now words) ⌝ }
+    requires { ⌜ (5 ≤ length (now words)) × Small (answeredAs answer) ⌝ }
     ensures { λ r. ⌜ (r ≡ answeredAs answer .number) × (now (words .exit) ≡ answerWords (answeredAs answer) (now (words .entry))) ⌝ }
 {
     let parts = parts_of(answer);
@@ -71,8 +74,10 @@ fn report(answer: Answer, words: &mut [i64]) -> u8
     parts.number
 }
 
+// A place or a count as a word.
 fn count_word(n: usize) -> i64
-    ensures { λ r. ⌜ r ≡ countWord n ⌝ }
+    requires { ⌜ n ≤ formulaLimit ⌝ }
+    ensures { λ r. ⌜ r ≡ pos n ⌝ }
 {
-    if n < 9223372036854775808 { n as i64 } else { 0 }
+    n as i64
 }

@@ -341,7 +341,7 @@ unfolding measured measuredBy
 measured-small style table formula = go (resultOf style table formula) (found-small style table formula)
   where
     go : (r : Result) → FoundSmall r → Small (measuredBy r)
-    go (boxed b) h = record { place = omega arith; count = h }
+    go (boxed b) h = record { place = omega arith; count = omega arith }
     go (refused number place) h = record { place = h; count = omega arith }
 
 pub setting-small : (style : ℕ) (table formula : List ℕ) (room : ℕ) → Small (setting style table formula room)
@@ -350,7 +350,7 @@ setting-small style table formula room = go (resultOf style table formula) (foun
   where
     roomy : (b : Box) (t : Bool) → length (b .nodes) ≤ formulaLimit →
         Small (elim t [ true ↦ accepted b | false ↦ refusal noRoomNumber 0 ])
-    roomy b true h = record { place = omega arith; count = h }
+    roomy b true h = record { place = omega arith; count = omega arith }
     roomy b false h = record { place = omega arith; count = omega arith }
 
     go : (r : Result) → FoundSmall r → Small (setBy room r)

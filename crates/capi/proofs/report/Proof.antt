@@ -4,7 +4,7 @@ use native.Mathlib.Omega.{arith}
 use lib.ListN.{length-set}
 use Rattle.layout.specs.Answers.{Answered}
 use Rattle.capi.specs.Words.{answerWords}
-use Rattle.capi.proofs.Stores.{five-stores, kept, count-kept}
+use Rattle.capi.proofs.Stores.{five-stores, kept, count-kept, parts-small}
 use borrow.Author.Needs.{needs}
 use Rattle.capi.proofs.report.Statement.{statement}
 use Rattle.capi.proofs.report.Tie as tie
@@ -13,10 +13,10 @@ parts-of-requires : tie.Need-parts-of-requires
 parts-of-requires c κs = search needs
 
 count-word-requires : tie.Need-count-word-requires
-count-word-requires c κs = search needs
+count-word-requires c κs = parts-small _ (c .before .parts-of .result) (c .before .parts-of .ensures) (c .before .before .pre .1) .place
 
 count-word-requires-2 : tie.Need-count-word-requires-2
-count-word-requires-2 c κs = search needs
+count-word-requires-2 c κs = parts-small _ (c .before .before .parts-of .result) (c .before .before .parts-of .ensures) (c .before .before .before .pre .1) .count
 
 slice-set-from-place : tie.Need-slice-set-from-place
 slice-set-from-place c = search needs
@@ -41,11 +41,12 @@ unfolding answerWords
 returns c =
     let start = c .before .before .before .before .before .before .before in
     let p = c .before .before .before .before .before .before .parts-of in
+    let small = parts-small _ (p .result) (p .ensures) (start .pre .1) in
     let z = p .result .size in
     let w = start .args .words .now in (
       ap (λ (a : Answered). a .number) (p .ensures),
-      five-stores w _ _ _ _ _ (start .pre)
-          ∙ rw (kept (z .width .0) (search needs), kept (z .height .0) (search needs), kept (z .depth .0) (search needs), c .before .before .before .before .count-word .ensures, c .before .before .before .count-word2 .ensures, count-kept (p .result .place), count-kept (p .result .count), answerWords) refl
+      five-stores w _ _ _ _ _ (start .pre .0)
+          ∙ rw (kept (z .width .0) (search needs), kept (z .height .0) (search needs), kept (z .depth .0) (search needs), c .before .before .before .before .count-word .ensures, c .before .before .before .count-word2 .ensures, count-kept (p .result .place) (small .place), count-kept (p .result .count) (small .count), answerWords) refl
           ∙ ap (λ (a : Answered). answerWords a w) (p .ensures),
     )
 

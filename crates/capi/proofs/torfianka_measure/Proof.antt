@@ -1,5 +1,6 @@
 -- The answer of measuring, where there is room for it.
-use mathlib.Core.Path.{_∙_}
+use mathlib.Core.Path.{sym, subst, _∙_}
+use Rattle.layout.specs.Small.{Small, measured-small}
 use Rattle.capi.proofs.Stores.{number-short, words-short, number-enough, words-enough}
 use borrow.Author.Needs.{needs}
 use Rattle.capi.proofs.torfianka_measure.Statement.{statement}
@@ -12,7 +13,7 @@ measure-requires : tie.Need-measure-requires
 measure-requires c κs = tt
 
 report-requires : tie.Need-report-requires
-report-requires c κs = search needs
+report-requires c κs = (search needs, subst Small (sym (c .before .measure .ensures)) (measured-small _ _ _))
 
 same-length : tie.Need-same-length
 same-length c = search needs

@@ -1,5 +1,6 @@
 -- The answer of setting, and the buffer, where there is room for the answer.
-use mathlib.Core.Path.{_∙_}
+use mathlib.Core.Path.{sym, subst, _∙_}
+use Rattle.layout.specs.Small.{Small, setting-small}
 use Rattle.capi.proofs.Stores.{number-short, words-short, buffer-short, number-enough, words-enough, buffer-enough}
 use borrow.Author.Needs.{needs}
 use Rattle.capi.proofs.torfianka_set.Statement.{statement}
@@ -14,7 +15,7 @@ set-requires : tie.Need-set-requires
 set-requires c κs = tt
 
 report-requires : tie.Need-report-requires
-report-requires c κs = search needs
+report-requires c κs = (search needs, subst Small (sym (c .before .before .before .set .ensures .0)) (setting-small _ _ _ _))
 
 same-length : tie.Need-same-length
 same-length c = search needs
