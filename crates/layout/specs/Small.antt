@@ -23,21 +23,21 @@ use Rattle.formula.specs.declared.Kind.{Kind}
 use Rattle.formula.specs.declared.Kind.the-variants.{Scripted, Fraction}
 use Rattle.formula.specs.declared.Opening.{Opening}
 use Rattle.formula.specs.declared.Opening.the-variants.{NoItem, Fields, Kern}
-use Rattle.formula.specs.Tree.{Items, Item, Field, nil, cons, noad, kern, empty, symbol, list, openingBytes, thirdBytes, itemsBytes, itemBytes, fieldBytes}
+use Rattle.formula.specs.Tree.{Items, Item, Field, cons, noad, kern, empty, symbol, list, openingBytes, thirdBytes, itemsBytes, itemBytes, fieldBytes}
 use Rattle.formula.specs.Heads.{openingOf, fieldHead}
 use Rattle.formula.specs.HeadLaws.{head-fits, list-opening, contents-shorter, opening-fits}
 use Rattle.formula.specs.Places.{contents, openedBytes}
 use Rattle.formula.specs.Reading.{Read, good, fault, Got, got, stopped, _thenAt_, formulaLimit, depthLimit, listGot, fieldBy, fieldAt, thirdAt, noadAt, openedBy, itemBy, before, restBy, listBy, readBy, read, readFormula}
-use Rattle.rules.specs.declared.Style.{Style}
-use Rattle.rules.specs.Styles.{styleOf, fontSize}
-use Rattle.rules.specs.Classes.{Neighbour}
-use Rattle.rules.specs.Boxes.{Rule}
-use Rattle.rules.specs.Arrange.{arrange, firstStyle, secondStyle, thirdStyle, enlarges}
-use Rattle.rules.specs.ArrangeLaws.{own-before, own-behind, few-own}
+use Rattle.boxes.specs.declared.styles.Style.{Style}
+use Rattle.boxes.specs.Styles.{styleOf, fontSize}
+use Rattle.spacing.specs.Classes.{Neighbour}
+use Rattle.boxes.specs.Boxes.{Rule}
+use Rattle.arrange.specs.Arrange.{firstStyle, secondStyle, thirdStyle, enlarges}
+use Rattle.arrange.specs.ArrangeLaws.{own-before, own-behind, few-own}
 use Rattle.nodes.specs.NodeLaws.{length-moved}
-use Rattle.walk.specs.Setting.{Box, Line, Symbol as SetSymbol, Part, symbolIn, symbolPart, ruleNodes, itemNodes, itemBox, placed, nextClass, start, setItems, setItem, setField, setList}
-use Rattle.walk.specs.Missing.{_orElse_, later, absentAt, missingItems, missingItem, missingField}
-use Rattle.walk.specs.Fitting.{listFits}
+use Rattle.setting.specs.Setting.{Box, Line, Symbol as SetSymbol, Part, symbolIn, symbolPart, ruleNodes, itemNodes, itemBox, placed, nextClass, start, setItems, setItem, setField, setList}
+use Rattle.setting.specs.Missing.{_orElse_, later, absentAt, missingItems, missingItem, missingField}
+use Rattle.setting.specs.Fitting.{listFits}
 use Rattle.layout.specs.Answers.{Answered, Result, boxed, refused, refusal, accepted, noRoomNumber, ifFits, ifPresent, ifRead, ifGood, ifStyle, resultOf, measuredBy, measured, hasRoom, setBy, setting}
 
 -- ---- what is written in n bytes
