@@ -4,3 +4,4 @@ mod SignedBits
 mod NumberLaws
 mod PutLaws
 mod LineLaws
+mod Examples

@@ -3,12 +3,11 @@
 
 ghost use mathlib.Core.Path.{_≡_};
 ghost use mathlib.Core.List.{_++_};
-ghost use Prim.Native.Nat.{_+_, _*_, _<_, _≤_};
-ghost use lib.IntN.{pos, natAbs};
-ghost use lib.ListN.{length, getD};
+ghost use Prim.Native.Nat.{_+_, _*_, _≤_};
+ghost use lib.IntN.{natAbs};
+ghost use lib.ListN.{length};
 ghost use Rattle.scaled.specs.Words.{signedWord};
 ghost use Rattle.boxes.specs.Values.{sizeAs};
-ghost use Rattle.layout.specs.Answers.{refusal};
 ghost use Rattle.layout.specs.Answering.{answeredAs};
 ghost use Rattle.listing.specs.Decimals.{decimalOf, textOf};
 ghost use Rattle.listing.specs.Lines.{sizesLine, refusalLine, answerLine, nodeLine, numberAt, glyphIn, ruleIn, nodeIn};
