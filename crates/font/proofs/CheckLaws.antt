@@ -1,10 +1,7 @@
 -- The check of a table, test by test.
 --     pass, stop                            tests joined by `&&`, after one that holds, or does not
 --     good-table, length-..                 the tests of a table, for `is_good`
---     parametersFrom, charactersFrom        the rules for the records from one on: the loops of `are_parameters` and
---                                           `are_characters`, with a law for a turn and one for the end of each
---     smallFrom                             the same for words: the loop of `are_small`
---     front-..                              the first CH record with the second, for `is_front`
+--     front-.., sound-front                 the first CH record with the second, for `is_front`, and with those behind it
 --     good-character, flag-..               the tests of a CH record, for `is_character` and `is_successor`
 --     before-size, before-family, before-code    the order of two, by the first byte that differs, for `is_before`
 -- The idea: each definition is brought into the order of the code's tests, as a && (b && ..), and is then followed by
@@ -17,14 +14,11 @@ use Prim.Native.Nat.{ℕ, zero, suc, _+_, _-_, _*_, _/_, _<_, _≤_}
 use native.Mathlib.Omega.{arith}
 use borrow.Author.Tests.{lt-ltb, le-ltb, le-leb, lt-leb, eq-eqb, ne-eqb}
 use lib.Dec.{ltb, leb, eqb}
-use lib.ListN.{length, take, drop, length-drop}
-use lib.Seq.{drop-drop}
-use Rattle.scaled.specs.Words.{littleEndian}
-use Rattle.font.specs.Table.{wordBytes, parameterBytes, headerBytes, characterBytes, sizeCount, mostCharacters, greatestSize, greatestFamily}
-use Rattle.font.specs.Table.{pieces, words, parameterRecords, characterRecords, characterCount, metricWords, sizeByte, familyByte, codeByte, flagByte, successorByte}
+use lib.ListN.{length, take, drop}
+use Rattle.font.specs.Table.{headerBytes, characterBytes, mostCharacters, greatestSize, greatestFamily}
+use Rattle.font.specs.Table.{pieces, parameterRecords, characterRecords, characterCount, metricWords, sizeByte, familyByte, codeByte, flagByte, successorByte}
 use Rattle.font.specs.Table.{every, marked, goodWord, goodParameters, goodCharacter, before, rising, goodLength, goodTable}
 use Rattle.font.specs.Answers.{soundCharacters, soundFront}
-use Rattle.font.proofs.WordLaws.{words-turn, words-done, pieces-turn, pieces-done}
 
 -- ---- tests joined by `&&`
 
@@ -70,44 +64,6 @@ module _ (t : List ℕ) where
   unfolding goodLength characterCount
   length-good e h = pass _ _ (eq-eqb _ _ e) ∙ le-leb _ _ h
 
--- ---- words
-
--- of n words from a place on, those from the k-th on are small
-abbrev pub smallFrom : List ℕ → ℕ → ℕ → ℕ → Bool
-smallFrom s at n k = every goodWord (words (n - k) (drop (at + wordBytes * k) s))
-
-module _ (s : List ℕ) (at n k : ℕ) where
-  pub small-turn : k < n →
-      smallFrom s at n k ≡ (goodWord (littleEndian wordBytes (drop (at + wordBytes * k) s)) && smallFrom s at n (k + 1))
-  unfolding every
-  small-turn h =
-      let a = at + wordBytes * k in
-      ap (every goodWord) (words-turn s (n - k) (n - (k + 1)) a (at + wordBytes * (k + 1)) (omega arith) (omega arith))
-
-  pub small-done : n ≤ k → smallFrom s at n k ≡ true
-  unfolding every
-  small-done h = ap (every goodWord) (words-done (drop (at + wordBytes * k) s) (n - k) (omega arith))
-
--- ---- PA records
-
--- the PA records from a size on are good
-abbrev pub parametersFrom : List ℕ → ℕ → Bool
-parametersFrom t size = every goodParameters (pieces parameterBytes (sizeCount - size) (drop (parameterBytes * size) t))
-
-module _ (t : List ℕ) (size : ℕ) where
-  pub parameters-turn : size < sizeCount →
-      parametersFrom t size ≡ (goodParameters (take parameterBytes (drop (parameterBytes * size) t)) && parametersFrom t (size + 1))
-  unfolding every
-  parameters-turn h =
-      let a = parameterBytes * size in
-      let b = parameterBytes * (size + 1) in
-      ap (every goodParameters) (pieces-turn parameterBytes t (sizeCount - size) (sizeCount - (size + 1)) a b (omega arith) (omega arith))
-
-  pub parameters-done : sizeCount ≤ size → parametersFrom t size ≡ true
-  unfolding every
-  parameters-done h =
-      ap (every goodParameters) (pieces-done parameterBytes (drop (parameterBytes * size) t) (sizeCount - size) (omega arith))
-
 -- ---- CH records
 
 abbrev twoCharacters : ℕ
@@ -135,28 +91,11 @@ regroup true false true r = refl
 regroup true false false r = refl
 
 -- the rules for some records are those for the first, with its order, and for the others
-sound-front : (u : List ℕ) (m : ℕ) → length u ≡ characterBytes * suc m →
+pub sound-front : (u : List ℕ) (m : ℕ) → length u ≡ characterBytes * suc m →
     soundCharacters (pieces characterBytes (suc m) u) ≡ (soundFront u && soundCharacters (pieces characterBytes m (drop characterBytes u)))
 unfolding soundCharacters soundFront pieces every rising
 sound-front u zero h = rw (lt-ltb (length u) twoCharacters (omega arith))
 sound-front u (suc m) h = rw (le-ltb (length u) twoCharacters (omega arith)) (regroup (goodCharacter (take characterBytes u)) _ _ _)
-
--- of n CH records, those from the i-th on are good and rise
-abbrev pub charactersFrom : List ℕ → ℕ → ℕ → Bool
-charactersFrom s n i = soundCharacters (pieces characterBytes (n - i) (drop (characterBytes * i) s))
-
-module _ (s : List ℕ) (n i : ℕ) where
-  pub characters-turn : length s ≡ characterBytes * n → i < n →
-      charactersFrom s n i ≡ (soundFront (drop (characterBytes * i) s) && charactersFrom s n (i + 1))
-  characters-turn e h =
-      let m = n - (i + 1) in
-      let left : n - i ≡ suc m = omega arith in
-      let next : characterBytes * (i + 1) ≡ characterBytes * i + characterBytes = omega arith in
-      rw (left, next, ← drop-drop) (sound-front (drop (characterBytes * i) s) m (length-drop (characterBytes * i) s ∙ omega arith))
-
-  pub characters-done : n ≤ i → charactersFrom s n i ≡ true
-  unfolding soundCharacters every rising
-  characters-done h = ap soundCharacters (pieces-done characterBytes (drop (characterBytes * i) s) (n - i) (omega arith))
 
 -- ---- the tests of a CH record
 

@@ -1,12 +1,12 @@
 -- The lookup of a symbol, record by record.
---     recordsFrom                          the CH records from a place on, where the loop of `symbol` stands
+--     lookupFrom                           the lookup among the CH records from a place on, where the loop of `symbol` stands
 --     lookup-start, lookup-hit, lookup-miss, lookup-done    where it starts, each turn, and the end
 --     is-of-code, is-of-family, is-of-size    whether a record is that of a symbol, byte by byte, for `is_of`
 --     metrics-of, successor-some, successor-none    what a record says, for `metrics_of` and `successor_of`
 -- Assumes nothing.
 use mathlib.Core.Path.{_≡_, refl, ap, _∙_}
 use mathlib.Core.Bool.{Bool, true, false, _&&_, and-true, and-false}
-use mathlib.Core.List.{List, _∷_}
+use mathlib.Core.List.{List}
 use mathlib.Core.Option.{Option, none, some}
 use Prim.Native.Nat.{ℕ, _+_, _-_, _/_, _<_, _≤_}
 use native.Mathlib.Omega.{arith}
@@ -14,49 +14,55 @@ use borrow.Author.Tests.{eq-eqb, ne-eqb}
 use lib.Dec.{eqb}
 use lib.ListN.{length, take, drop}
 use lib.Seq.{drop-drop}
-use Rattle.scaled.specs.Words.{littleEndian}
+use Rattle.words.specs.Words.{littleEndian}
 use Rattle.font.specs.Table.{wordBytes, headerBytes, characterBytes, pieces, words, characterRecords, characterCount, metricWords, sizeByte, familyByte, codeByte, flagByte, successorByte}
 use Rattle.font.specs.Font.{Metrics, isOf, lookup, metricsOf, successorOf, fontOf}
-use Rattle.font.proofs.WordLaws.{pieces-turn, pieces-done}
+use Rattle.font.proofs.WordLaws.{turn}
 
 -- ---- the loop
 
-abbrev pub recordsFrom : List ℕ → ℕ → List (List ℕ)
-recordsFrom t at = pieces characterBytes ((length t - at) / characterBytes) (drop at t)
+module _ (size family code : ℕ) where
+  -- among the first m CH records
+  abbrev among : ℕ → List ℕ → Option Metrics
+  among m s = lookup size family code (pieces characterBytes m s)
 
-module _ (size family code : ℕ) (t : List ℕ) where
-  pub lookup-start : fontOf t .symbol size family code ≡ lookup size family code (recordsFrom t headerBytes)
-  unfolding fontOf characterRecords characterCount
-  lookup-start = refl
+  module _ (t : List ℕ) where
+    -- among the CH records from a place on
+    abbrev pub lookupFrom : ℕ → Option Metrics
+    lookupFrom at = among ((length t - at) / characterBytes) (drop at t)
 
-  pub lookup-done : (at : ℕ) → length t < at + characterBytes → lookup size family code (recordsFrom t at) ≡ none
-  unfolding lookup
-  lookup-done at h = ap (lookup size family code) (pieces-done characterBytes (drop at t) ((length t - at) / characterBytes) (omega arith))
+    pub lookup-start : fontOf t .symbol size family code ≡ lookupFrom headerBytes
+    unfolding fontOf characterRecords characterCount
+    lookup-start = refl
 
-module _ (size family code : ℕ) (t : List ℕ) (at : ℕ) (fits : at + characterBytes ≤ length t) where
-  -- the record at the place, and those after it
-  abbrev here : List ℕ
-  here = take characterBytes (drop at t)
+    pub lookup-done : (at : ℕ) → length t < at + characterBytes → lookupFrom at ≡ none
+    unfolding lookup pieces
+    lookup-done at h =
+        let done : (length t - at) / characterBytes ≡ 0 = omega arith in
+        ap (λ (m : ℕ). among m (drop at t)) done
 
-  abbrev after : List (List ℕ)
-  after = recordsFrom t (at + characterBytes)
+    module _ (at : ℕ) (fits : at + characterBytes ≤ length t) where
+      here : List ℕ
+      here = take characterBytes (drop at t)
 
-  first : recordsFrom t at ≡ here ∷ after
-  first =
-      let n = (length t - at) / characterBytes in
-      let m = (length t - (at + characterBytes)) / characterBytes in
-      pieces-turn characterBytes t n m at (at + characterBytes) (omega arith) refl
+      chosen : Option Metrics → Bool → Option Metrics
+      chosen rest b = elim b [ true ↦ some (metricsOf here) | false ↦ rest ]
 
-  chosen : Bool → Option Metrics
-  chosen b = elim b [ true ↦ some (metricsOf here) | false ↦ lookup size family code after ]
+      tried : lookupFrom at ≡ chosen (lookupFrom (at + characterBytes)) (isOf size family code here)
+      unfolding lookup pieces here chosen
+      tried =
+          let n = (length t - at) / characterBytes in
+          let m = (length t - (at + characterBytes)) / characterBytes in
+          turn among (λ (rest : Option Metrics). chosen rest (isOf size family code here)) characterBytes t n m at (at + characterBytes) refl (omega arith) refl refl
 
-  pub lookup-hit : isOf size family code here ≡ true → lookup size family code (recordsFrom t at) ≡ some (metricsOf here)
-  unfolding lookup chosen
-  lookup-hit e = ap (lookup size family code) first ∙ ap chosen e
+      pub lookup-hit : isOf size family code (take characterBytes (drop at t)) ≡ true →
+          lookupFrom at ≡ some (metricsOf (take characterBytes (drop at t)))
+      unfolding here chosen
+      lookup-hit e = tried ∙ ap (chosen (lookupFrom (at + characterBytes))) e
 
-  pub lookup-miss : isOf size family code here ≡ false → lookup size family code (recordsFrom t at) ≡ lookup size family code after
-  unfolding lookup chosen
-  lookup-miss e = ap (lookup size family code) first ∙ ap chosen e
+      pub lookup-miss : isOf size family code (take characterBytes (drop at t)) ≡ false → lookupFrom at ≡ lookupFrom (at + characterBytes)
+      unfolding here chosen
+      lookup-miss e = tried ∙ ap (chosen (lookupFrom (at + characterBytes))) e
 
 -- ---- whether a record is that of a symbol
 

@@ -1,54 +1,24 @@
 -- Words and records in a list of bytes, for the loops that read them.
---     word-at, word-fits    a word is the sum of its four bytes, which fits: what `word` needs
 --     part-of, rest-of    what `&t[a..a + k]` and `&t[a..]` hold
---     words-turn        the words of the rest: a turn of `are_small`
---     pieces-turn       the records of the rest: a turn of the loops over records
+--     turn              a turn of a loop over records: the first of those that are left, and the others
+--     Passing           the invariant of a loop that tests records, `stopped` by one, going on to the next by `again`, or `finished`
 --     parameter-word    a parameter of a table's font, by where its word stands in the table: a turn of `row`
 --     number-beyond, size-beyond    beyond the last number and the last size it is 0
--- Each turn takes one element off the front; where it stands, and how many are left, is said by equations, so that each
--- loop may count in its own way.
+-- A turn takes one record off the front; where it stands, and how many are left, is said by equations, so that each loop may count
+-- in its own way.
 -- Assumes nothing.
-use mathlib.Core.Path.{_≡_, refl, sym, ap, _∙_}
+use mathlib.Core.Path.{_≡_, refl, ap, _∙_}
+use mathlib.Core.Bool.{Bool, true, false, _&&_}
 use mathlib.Core.List.{List, [], _∷_, map}
 use Prim.Native.Nat.{ℕ, zero, suc, _+_, _-_, _*_, _<_, _≤_}
-use native.Mathlib.Nat.{add-zero, add-comm, mul-zero, mul-suc}
+use native.Mathlib.Nat.{add-comm, mul-zero, mul-suc}
 use native.Mathlib.Omega.{arith}
-use mir.Syntax.{w8}
-use mir.Val.{Fits}
 use lib.ListN.{length, getD, take, drop, length-drop, length-map, List·getD-eq-default}
-use lib.Seq.{take-all, drop-drop, getD-take, getD-drop}
-use Rattle.scaled.specs.Words.{littleEndian, wordRange}
+use lib.Seq.{take-all, drop-drop}
+use Rattle.words.specs.Words.{littleEndian}
+use Rattle.words.specs.WordLaws.{word-take}
 use Rattle.font.specs.Table.{wordBytes, markBytes, parameterBytes, parameterCount, sizeCount, pieces, words, parameterRecords, parameterWords}
 use Rattle.font.specs.Font.{fontOf}
-
--- ---- a word
-
--- four bytes from a place on, added up as `word` does
-abbrev pub sumAt : List ℕ → ℕ → ℕ
-sumAt s at = getD s at 0 + getD s (at + 1) 0 * 256 + getD s (at + 2) 0 * 65_536 + getD s (at + 3) 0 * 16_777_216
-
-word-front : (s : List ℕ) → littleEndian wordBytes s ≡ sumAt s 0
-unfolding littleEndian
-word-front [] = refl
-word-front (a ∷ []) = omega arith
-word-front (a ∷ b ∷ []) = omega arith
-word-front (a ∷ b ∷ c ∷ []) = omega arith
-word-front (a ∷ b ∷ c ∷ d ∷ s) = omega arith
-
-pub word-at : (s : List ℕ) (at : ℕ) → littleEndian wordBytes (drop at s) ≡ sumAt s at
-word-at s at = word-front (drop at s) ∙ simp (getD-drop, add-zero)
-
-pub word-fits : (s : List ℕ) (at : ℕ) → ((i : ℕ) → Fits w8 (getD s i 0)) → sumAt s at < wordRange
-word-fits s at byte = omega (arith, byte at, byte (at + 1), byte (at + 2), byte (at + 3))
-
--- the front of a list has the words that end in it
-word-take : (k b : ℕ) (u : List ℕ) → b + wordBytes ≤ k → littleEndian wordBytes (drop b (take k u)) ≡ littleEndian wordBytes (drop b u)
-word-take k b u h =
-    let e0 = getD-take k u b 0 (omega arith) in
-    let e1 = getD-take k u (b + 1) 0 (omega arith) in
-    let e2 = getD-take k u (b + 2) 0 (omega arith) in
-    let e3 = getD-take k u (b + 3) 0 (omega arith) in
-    word-at (take k u) b ∙ (cc) ∙ sym (word-at u b)
 
 -- ---- a part of a slice, as the code takes it
 
@@ -58,23 +28,38 @@ part-of a k t = let size : a + k - a ≡ k = omega arith in rw size
 pub rest-of : (a : ℕ) (t : List ℕ) → take (length t - a) (drop a t) ≡ drop a t
 rest-of a t = take-all (length t - a) (drop a t) (simp length-drop (omega arith))
 
--- ---- one element off the front
+-- ---- records one after the other
 
-pub words-turn : (s : List ℕ) (m m′ a b : ℕ) → m ≡ suc m′ → b ≡ a + wordBytes → words m (drop a s) ≡ littleEndian wordBytes (drop a s) ∷ words m′ (drop b s)
-unfolding words
-words-turn s m m′ a b em eb = rw (em, eb, ← drop-drop)
+-- `whole` comes of m records of k bytes from a place on: by what the first of them does to what comes of the others
+pub turn : {B : Type 0} (P : ℕ → List ℕ → B) (f : B → B) {whole : B} (k : ℕ) (s : List ℕ) (m m′ a b : ℕ) →
+    whole ≡ P m (drop a s) → m ≡ suc m′ → b ≡ a + k → P (suc m′) (drop a s) ≡ f (P m′ (drop k (drop a s))) →
+    whole ≡ f (P m′ (drop b s))
+turn P f k s m m′ a b is left next first = is ∙ rw (left, next, ← drop-drop) first
 
-pub words-done : (s : List ℕ) (m : ℕ) → m ≡ 0 → words m s ≡ []
-unfolding words
-words-done s m e = rw e
+-- `whole` says that each of n records passes a test, as P does of so many from the front: the invariant of a loop over them, which
+-- has passed i of them and stands at a place
+pub record Passing (P : ℕ → List ℕ → Bool) (whole : Bool) (n : ℕ) (s : List ℕ) (at i : ℕ) : Type 0 where
+  pub passed : i ≤ n
+  pub rest : whole ≡ P (n - i) (drop at s)
 
-pub pieces-turn : (k : ℕ) (t : List ℕ) (m m′ a b : ℕ) → m ≡ suc m′ → b ≡ a + k → pieces k m (drop a t) ≡ take k (drop a t) ∷ pieces k m′ (drop b t)
-unfolding pieces
-pieces-turn k t m m′ a b em eb = rw (em, eb, ← drop-drop)
+module _ {P : ℕ → List ℕ → Bool} {whole : Bool} {n at i : ℕ} {s : List ℕ} (p : Passing P whole n s at i) where
+  pub finished : n ≤ i → ((u : List ℕ) → P 0 u ≡ true) → whole ≡ true
+  finished l none =
+      let done : n - i ≡ 0 = omega arith in
+      p .rest ∙ rw done (none (drop at s))
 
-pub pieces-done : (k : ℕ) (t : List ℕ) (m : ℕ) → m ≡ 0 → pieces k m t ≡ []
-unfolding pieces
-pieces-done k t m e = rw e
+  module _ (k : ℕ) (t : Bool) (more : i < n)
+      (first : (m : ℕ) → n - i ≡ suc m → P (suc m) (drop at s) ≡ (t && P m (drop k (drop at s)))) where
+    tested : (b : ℕ) → b ≡ at + k → whole ≡ (t && P (n - (i + 1)) (drop b s))
+    tested b next =
+        let left : n - i ≡ suc (n - (i + 1)) = omega arith in
+        turn P (λ (r : Bool). t && r) k s (n - i) (n - (i + 1)) at b (p .rest) left next (first (n - (i + 1)) left)
+
+    pub stopped : t ≡ false → whole ≡ false
+    stopped bad = tested (at + k) refl ∙ rw bad
+
+    pub again : {b : ℕ} → b ≡ at + k → t ≡ true → Passing P whole n s b (i + 1)
+    again {b} next good = record { passed = omega arith; rest = tested b next ∙ rw good }
 
 -- ---- the parameters of a table's font
 

@@ -9,7 +9,7 @@ use mathlib.Core.List.{List, [], _∷_}
 use Prim.Native.Nat.{ℕ, zero, suc, _+_, _-_, _*_, _/_}
 use lib.Dec.{ltb, leb, eqb}
 use lib.ListN.{length, getD, take, drop}
-use Rattle.scaled.specs.Words.{littleEndian}
+use Rattle.words.specs.Words.{littleEndian}
 
 -- ---- the numbers of the format
 

@@ -2,7 +2,6 @@
 // is defined in specs/Table.antt and specs/Font.antt; what these functions answer, in specs/Answers.antt.
 mod format;
 mod records;
-mod words;
 
 ghost use mathlib.Core.Path.{_≡_};
 ghost use Prim.Native.Nat.{ℕ, _<_, _≤_};

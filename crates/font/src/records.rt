@@ -1,12 +1,11 @@
 // The rules for the records of the font table.
 use crate::format;
-use crate::words;
 ghost use mathlib.Core.Path.{_≡_};
 ghost use mathlib.Core.Bool.{_&&_, _||_};
 ghost use Prim.Native.Nat.{_+_, _*_, _<_, _≤_};
 ghost use lib.Dec.{leb, eqb};
-ghost use lib.ListN.{length};
-ghost use Rattle.font.specs.Table.{markBytes, parameterBytes, headerBytes, characterBytes, parameterRecords, pieces, marked, every, goodParameters, goodCharacter, before};
+ghost use lib.ListN.{length, drop};
+ghost use Rattle.font.specs.Table.{wordBytes, markBytes, parameterBytes, headerBytes, characterBytes, parameterRecords, pieces, words, marked, every, goodWord, goodParameters, goodCharacter, before};
 ghost use Rattle.font.specs.Answers.{soundCharacters, soundFront};
 
 // The three PA records, one for each size.
@@ -34,7 +33,7 @@ fn is_parameters(r: &[u8]) -> bool
     if !is_marked(r, b'P', b'A') {
         return false;
     }
-    words::are_small(r, format::FIRST_PARAMETER, format::PARAMETER_COUNT)
+    are_small(r, format::FIRST_PARAMETER, format::PARAMETER_COUNT)
 }
 
 // n CH records, good and rising strictly.
@@ -87,7 +86,7 @@ fn is_character(r: &[u8]) -> bool
     if !is_successor(r[format::FLAG], r[format::SUCCESSOR]) {
         return false;
     }
-    words::are_small(r, format::WIDTH, format::METRIC_COUNT)
+    are_small(r, format::WIDTH, format::METRIC_COUNT)
 }
 
 // A flag of 0 or 1, and a successor code of 0 without it.
@@ -101,6 +100,21 @@ fn is_successor(flag: u8, code: u8) -> bool
         return code == 0;
     }
     false
+}
+
+// Whether none of n words from a place on is too great.
+fn are_small(s: &[u8], at: usize, n: usize) -> bool
+    requires { ⌜ at + wordBytes * n ≤ length (now s) ⌝ }
+    ensures { λ answer. ⌜ answer ≡ every goodWord (words n (drop at (now (s .entry)))) ⌝ }
+{
+    let mut k = 0;
+    while k < n {
+        if format::GREATEST_WORD < words::word(s, at + format::WORD_BYTES * k) {
+            return false;
+        }
+        k += 1;
+    }
+    true
 }
 
 // A record opens with the mark of the two letters a and b.

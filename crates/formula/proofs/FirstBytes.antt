@@ -17,7 +17,7 @@ use lib.ListN.{length, take, drop, getD, getElem?, length-drop}
 use lib.Dec.{leb}
 use borrow.Author.Tests.{le-leb, lt-leb, ne-eqb}
 use Rattle.scaled.specs.Signed.{above, below}
-use Rattle.scaled.specs.Words.{littleEndian, signedWord}
+use Rattle.words.specs.Words.{littleEndian, signedWord}
 use Rattle.formula.specs.declared.Class.{Class}
 use Rattle.formula.specs.declared.Opening.the-variants.{NoItem, Kern}
 use Rattle.formula.specs.declared.FieldHead.{FieldHead}
@@ -74,16 +74,13 @@ last h l = omega arith
 
 -- ---- a kern
 
-pub kern-said : (s : List ℕ) (w : ℕ) → 4 ≤ length s →
-    w ≡ getD s 0 0 + 256 * (getD s 1 0 + 256 * (getD s 2 0 + 256 * getD s 3 0)) → kernOpening s ≡ kernWithin (signedWord w)
-unfolding kernOpening littleEndian
-kern-said [] w h e = absurd (omega arith)
-kern-said (a ∷ []) w h e = absurd (omega arith)
-kern-said (a ∷ b ∷ []) w h e = absurd (omega arith)
-kern-said (a ∷ b ∷ c ∷ []) w h e = absurd (omega arith)
-kern-said (a ∷ b ∷ c ∷ d ∷ s) w h e =
-    let same : littleEndian 4 (a ∷ b ∷ c ∷ d ∷ s) ≡ w = omega arith in
-    ap (λ (w : ℕ). kernWithin (signedWord w)) same
+pub kern-said : (s : List ℕ) → 4 ≤ length s → kernOpening s ≡ kernWithin (signedWord (littleEndian 4 s))
+unfolding kernOpening
+kern-said [] h = absurd (omega arith)
+kern-said (a ∷ []) h = absurd (omega arith)
+kern-said (a ∷ b ∷ []) h = absurd (omega arith)
+kern-said (a ∷ b ∷ c ∷ []) h = absurd (omega arith)
+kern-said (a ∷ b ∷ c ∷ d ∷ s) h = refl
 
 pub kern-in : (n : ℤ) → above n ≤ below n + greatestKern → below n ≤ above n + greatestKern →
     kernWithin n ≡ Kern (record { 0 = n })

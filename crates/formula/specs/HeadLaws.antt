@@ -18,7 +18,7 @@ use lib.ListN.{length, drop, getElem?, length-take, length-drop}
 use borrow.Author.Tests.{leb-true}
 use Rattle.scaled.specs.declared.Sp.{Sp}
 use Rattle.scaled.specs.Signed.{Within}
-use Rattle.scaled.specs.Words.{littleEndian, signedWord}
+use Rattle.words.specs.Words.{littleEndian, signedWord}
 use Rattle.formula.specs.declared.Class.{Class}
 use Rattle.formula.specs.declared.Limits.{Limits}
 use Rattle.formula.specs.declared.Bar.{Bar}

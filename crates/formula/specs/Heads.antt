@@ -10,7 +10,7 @@ use Prim.Native.Nat.{ℕ}
 use lib.Dec.{leb, eqb}
 use lib.IntN.{ℤ, natAbs}
 use lib.ListN.{length, getElem?}
-use Rattle.scaled.specs.Words.{littleEndian, signedWord}
+use Rattle.words.specs.Words.{littleEndian, signedWord}
 use Rattle.formula.specs.declared.Class.{Class}
 use Rattle.formula.specs.declared.Class.the-variants.{Ord, Op, Bin, Rel, Open, Close, Punct, Inner}
 use Rattle.formula.specs.declared.Limits.{Limits}

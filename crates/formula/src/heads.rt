@@ -6,7 +6,6 @@ ghost use mathlib.Core.Option.{some};
 ghost use Prim.Native.Nat.{_+_, _*_, _^_, _<_};
 ghost use lib.Dec.{eqb};
 ghost use lib.ListN.{getElem?};
-ghost use Rattle.scaled.specs.Words.{signedWord};
 ghost use Rattle.formula.specs.Tree.{baseBytes, openingBytes};
 ghost use Rattle.formula.specs.Marks.{markOf};
 ghost use Rattle.formula.specs.Heads.{classes, limitKinds, isOp, isDisplayOnly, atomOf, atomOpening, fractionOpening, kernWithin, kernOpening, opens, openingOf, symbolHead, listHead, fieldHead};
@@ -222,7 +221,7 @@ fn kern_opening(s: &[u8]) -> Opening
     if s.len() < 4 {
         return Opening::NoItem;
     }
-    kern(signed(word(s[0], s[1], s[2], s[3])))
+    kern(words::signed(words::word(s, 0)))
 }
 
 fn kern(n: Sp) -> Opening
@@ -237,24 +236,7 @@ fn kern(n: Sp) -> Opening
     Opening::Kern(n)
 }
 
-// The number whose four-byte two's complement is w.
-fn signed(w: u32) -> Sp
-    ensures { λ r. ⌜ r .0 ≡ signedWord w ⌝ }
-{
-    if w < 2_147_483_648 {
-        Sp(w as i64)
-    } else {
-        Sp(w as i64 - 4_294_967_296)
-    }
-}
-
-// The number that four bytes make, the least significant first; `short`, that of two.
-fn word(a: u8, b: u8, c: u8, d: u8) -> u32
-    ensures { λ r. ⌜ r ≡ a + 256 * (b + 256 * (c + 256 * d)) ⌝ }
-{
-    (a as u32) + (b as u32) * 256 + (c as u32) * 65_536 + (d as u32) * 16_777_216
-}
-
+// The number that two bytes make, the least significant first.
 fn short(a: u8, b: u8) -> usize
     ensures { λ r. ⌜ r ≡ a + 256 * b ⌝ }
 {

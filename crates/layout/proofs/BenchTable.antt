@@ -3,7 +3,7 @@
 -- Assumes nothing.
 use mathlib.Core.List.{List, [], _∷_, _++_}
 use Prim.Native.Nat.{ℕ}
-use Rattle.scaled.specs.Words.{fourBytes}
+use Rattle.words.specs.Words.{fourBytes}
 
 wordsBytes : List ℕ → List ℕ
 wordsBytes [] = []

@@ -1,7 +1,7 @@
 -- The definitions that the worked examples compute with. A proof that says `unfolding definitions` has them all open.
 -- Assumes nothing.
 use Rattle.scaled.specs.Length.{pick, maxℤ, minℤ, half, atQuad}
-use Rattle.scaled.specs.Words.{littleEndian, signedWord, wordOf, fourBytes}
+use Rattle.words.specs.Words.{littleEndian, signedWord, wordOf, fourBytes}
 use Rattle.font.specs.Table.{pieces, characterCount, parameterRecords, characterRecords, words, marked, parameterWords, metricWords, every, goodParameters, goodCharacter, before, rising, goodLength, goodTable}
 use Rattle.font.specs.Font.{successorOf, metricsOf, isOf, lookup, fontOf}
 use Rattle.formula.specs.Tree.{itemsBytes, itemBytes, fieldBytes}

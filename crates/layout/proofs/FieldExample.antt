@@ -8,7 +8,7 @@ use mathlib.Core.List.{List, [], _∷_, _++_}
 use Prim.Native.Nat.{ℕ}
 use lib.IntN.{pos}
 use lib.ListN.{take, drop}
-use Rattle.scaled.specs.Words.{littleEndian}
+use Rattle.words.specs.Words.{littleEndian}
 use Rattle.formula.specs.declared.Class.the-variants.{Ord}
 use Rattle.formula.specs.declared.Limits.the-variants.{DisplayOnly}
 use Rattle.formula.specs.declared.Base.the-variants.{Atom, Under}

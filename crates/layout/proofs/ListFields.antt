@@ -16,7 +16,7 @@ use lib.Dec.{leb}
 use lib.ListN.{length, take, drop, length-take}
 use lib.Seq.{drop-drop}
 use borrow.Author.Tests.{leb-true}
-use Rattle.scaled.specs.Words.{littleEndian}
+use Rattle.words.specs.Words.{littleEndian}
 use Rattle.formula.specs.declared.Kind.{Kind}
 use Rattle.formula.specs.declared.Opening.the-variants.{Fields}
 use Rattle.formula.specs.declared.FieldHead.{FieldHead}

@@ -11,7 +11,7 @@ use native.Mathlib.Omega.{arith}
 use lib.IntN.{ℤ, _+ℤ_}
 use lib.ListN.{length, take, drop}
 use lib.Seq.{take-append-seam, drop-append-add}
-use Rattle.scaled.specs.Words.{fourBytes}
+use Rattle.words.specs.Words.{fourBytes}
 use Rattle.boxes.specs.Boxes.{Place}
 use Rattle.nodes.specs.Nodes.{Node, glyph, rule, movedNode, moved, signedBytes, nodeBytes, bytesOf, bytesInNode}
 use Rattle.nodes.specs.NodeLaws.{length-node-bytes, length-bytes}

@@ -3,7 +3,7 @@ use mathlib.Core.Path.{_≡_, refl}
 use mathlib.Core.List.{[], _∷_}
 use lib.IntN.{pos, negsuc}
 use Rattle.scaled.specs.Length.{pick, maxℤ}
-use Rattle.scaled.specs.Words.{littleEndian, signedWord, wordOf, fourBytes}
+use Rattle.words.specs.Words.{littleEndian, signedWord, wordOf, fourBytes}
 use Rattle.nodes.specs.Nodes.{glyph, rule, signedBytes, nodeBytes}
 use Rattle.layout.specs.Answers.{refusal}
 use Rattle.listing.specs.Decimals.{digitsBy, decimalOf, textOf}

@@ -1,7 +1,6 @@
 -- What the proofs of the functions use. Assumes nothing.
 mod DecimalLaws
 mod SignedBits
-mod NumberLaws
 mod PutLaws
 mod LineLaws
 mod Examples

@@ -3,7 +3,7 @@
 --     put-then     a piece, and one right behind it
 --     put-start    what is put at 0 is written at the front
 --     put-as, written-as     a text by another name
---     number-put   a mark and a number, by the text of the number
+--     number-put, line-more, line-ended     a line: a mark and a number, one more of these, and the end
 -- Assumes nothing.
 use mathlib.Core.Path.{_≡_, sym, ap, subst, _∙_}
 use mathlib.Core.List.{List, [], _∷_, _++_, append-assoc, append-nil}
@@ -69,7 +69,7 @@ put-then {t} {u} {b} {a} {a′} {at} {m} {e} p q =
           ∙ ap (λ (l : List ℕ). l ++ drop e b) (append-assoc (take at b) t u);
     }
 
-pub put-start : {t b a : List ℕ} {e : ℕ} → Put t b a 0 e → Written t b a e
+put-start : {t b a : List ℕ} {e : ℕ} → Put t b a 0 e → Written t b a e
 put-start p = record { size = omega (arith, p .size); room = p .room; bytes = p .bytes }
 
 pub put-as : {t u b a : List ℕ} {at e : ℕ} → t ≡ u → Put t b a at e → Put u b a at e
@@ -79,6 +79,15 @@ pub written-as : {t u b a : List ℕ} {e : ℕ} → t ≡ u → Written t b a e 
 written-as {b = b} {a = a} {e = e} same p = subst (λ (t : List ℕ). Written t b a e) same p
 
 -- a mark and a number whose text is t
-pub number-put : {most : ℕ} {b a : List ℕ} {at e : ℕ} (mark t : List ℕ) (n : Number) → numberText n ≡ t →
+pub number-put : {most : ℕ} {t b a : List ℕ} {at e : ℕ} (mark : List ℕ) (n : Number) → numberText n ≡ t →
     PutNear most (mark ++ numberText n) b a at e → Put (mark ++ t) b a at e
-number-put mark t n is p = put-as (ap (λ (u : List ℕ). mark ++ u) is) (p .put)
+number-put mark n is p = put-as (ap (λ (u : List ℕ). mark ++ u) is) (p .put)
+
+-- ---- a line: what is put first, then a number at a time, then its end
+
+pub line-more : {most : ℕ} {u t b a a′ : List ℕ} {at m e : ℕ} (mark : List ℕ) (n : Number) → Put u b a at m → numberText n ≡ t →
+    PutNear most (mark ++ numberText n) a a′ m e → Put (u ++ (mark ++ t)) b a′ at e
+line-more mark n so-far is p = put-then so-far (number-put mark n is p)
+
+pub line-ended : {t u b a a′ : List ℕ} {m e : ℕ} → Put t b a 0 m → Put u a a′ m e → Written (t ++ u) b a′ e
+line-ended so-far p = put-start (put-then so-far p)

@@ -1,8 +1,9 @@
--- How far a number lies from zero, as the code finds it in 64 bits: below zero, -1 less the number, and 1 more.
+-- A number by its sign and how far it lies from zero, as the code finds that in 64 bits: below zero, -1 less the number, and 1 more.
+--     length-text   the number's text
 --     below         what the subtraction, the cast and the sum ask, and what comes out
 --     not-below     the same of the cast alone
 -- Assumes nothing.
-use mathlib.Core.Path.{_≡_, ap, subst}
+use mathlib.Core.Path.{_≡_, refl, ap, subst}
 use mathlib.Core.Bool.{true, false}
 use Prim.Native.Nat.{_+_, _<_, _^_}
 use native.Mathlib.Omega.{arith}
@@ -12,11 +13,17 @@ use lib.Signed.{ltZ, nonNeg}
 use mir.Syntax.{w64}
 use mir.Val.{Fits, SFits, toZ, ofZ}
 use mir.ValLaws.{toZ-ofZ}
-use borrow.Author.Tests.{ltb-true}
+use borrow.Author.Tests.{ltb-true, le-ltb}
 use Rattle.scaled.specs.Linear.{#, _⊖_, eq-by}
+use Rattle.listing.specs.Decimals.{textOf}
+use Rattle.listing.specs.Written.{signedText}
+
+pub length-text : (z : ℤ) → signedText (ltZ z (pos 0)) (natAbs z) ≡ textOf z
+length-text (pos n) = rw (le-ltb n 0 (omega arith))
+length-text (negsuc n) = refl
 
 -- a number as it is read back from its 64 bits
-abbrev read : ℤ → ℤ
+abbrev pub read : ℤ → ℤ
 read z = toZ w64 (ofZ w64 z)
 
 pub record Below (z m : ℤ) : Type 0 where

@@ -9,7 +9,7 @@ use Prim.Native.Nat.{ℕ}
 use lib.Dec.{eqb}
 use lib.IntN.{ℤ}
 use lib.ListN.{drop, getD}
-use Rattle.scaled.specs.Words.{littleEndian, signedWord}
+use Rattle.words.specs.Words.{littleEndian, signedWord}
 use Rattle.boxes.specs.Boxes.{Size}
 use Rattle.nodes.specs.Nodes.{Node, glyph, rule}
 use Rattle.layout.specs.Answers.{Answered, acceptedNumber}

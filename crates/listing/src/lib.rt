@@ -3,10 +3,9 @@
 
 ghost use mathlib.Core.Path.{_≡_};
 ghost use mathlib.Core.List.{_++_};
-ghost use Prim.Native.Nat.{_+_, _*_, _≤_};
+ghost use Prim.Native.Nat.{_+_, _≤_};
 ghost use lib.IntN.{natAbs};
 ghost use lib.ListN.{length};
-ghost use Rattle.scaled.specs.Words.{signedWord};
 ghost use Rattle.boxes.specs.Values.{sizeAs};
 ghost use Rattle.layout.specs.Answering.{answeredAs};
 ghost use Rattle.listing.specs.Decimals.{decimalOf, textOf};
@@ -145,30 +144,7 @@ fn number_at(node: &[u8], at: usize) -> Number
     requires { ⌜ at + 4 ≤ length (now node) ⌝ }
     ensures { λ r. ⌜ numberText r ≡ textOf (numberAt at (now (node .entry))) ⌝ }
 {
-    of_word(word(node[at], node[at + 1], node[at + 2], node[at + 3]))
-}
-
-fn word(a: u8, b: u8, c: u8, d: u8) -> u32
-    ensures { λ r. ⌜ r ≡ a + 256 * (b + 256 * (c + 256 * d)) ⌝ }
-{
-    (a as u32) + (b as u32) * 256 + (c as u32) * 65_536 + (d as u32) * 16_777_216
-}
-
-// The number whose four-byte two's complement is w.
-fn of_word(w: u32) -> Number
-    ensures { λ r. ⌜ numberText r ≡ textOf (signedWord w) ⌝ }
-{
-    let wide = w as u64;
-    if wide < 2_147_483_648 {
-        return Number {
-            minus: false,
-            size: wide,
-        };
-    }
-    Number {
-        minus: true,
-        size: 4_294_967_296 - wide,
-    }
+    of_length(words::signed(words::word(node, at)))
 }
 
 fn of_length(length: Sp) -> Number

@@ -11,7 +11,7 @@ use native.Mathlib.Nat.{add-suc, le-add-right}
 use lib.ListN.{length, take, drop, set, take-append-drop}
 use lib.Seq.{sets, length-take-le, drop-drop, take-set-le, drop-set-add, take-at, drop-at, take-append-add, drop-append-add}
 use lib.IntN.{ℤ}
-use Rattle.scaled.specs.Words.{littleEndian, fourBytes}
+use Rattle.words.specs.Words.{littleEndian, fourBytes}
 use Rattle.nodes.specs.Nodes.{bytesInNode}
 use Rattle.nodes.specs.Buffer.{addedAt, movedHead, movedBytes, movedFront, roomFor, behindNodes}
 use Rattle.nodes.specs.BufferLaws.{moved-room}

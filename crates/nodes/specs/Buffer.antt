@@ -1,6 +1,5 @@
 -- What becomes of a buffer of nodes.
 --     put n b                 the node n at the front; `written` is the same for bytes
---     wordAt k b              the four-byte word at k, as the code reads it
 --     addedAt k w b           w added to the four-byte word at k
 --     movedBytes u v k b      the words u and v added to the x and the y of each of the first k nodes
 --     movedFront dx dy k b    the first k nodes moved right by dx and up by dy
@@ -13,9 +12,9 @@ use mathlib.Core.List.{List, _∷_, _++_}
 use Prim.Native.Nat.{ℕ, zero, suc, _+_, _*_, min}
 use lib.Dec.{leb}
 use lib.IntN.{ℤ}
-use lib.ListN.{length, take, drop, getD}
+use lib.ListN.{length, take, drop}
 use lib.Seq.{sets}
-use Rattle.scaled.specs.Words.{littleEndian, wordOf, fourBytes}
+use Rattle.words.specs.Words.{littleEndian, wordOf, fourBytes}
 use Rattle.nodes.specs.Nodes.{Node, bytesInNode, signedBytes, nodeBytes}
 
 -- bytes of a node over the first bytes, if there are as many
@@ -28,9 +27,6 @@ put n b = written (nodeBytes n) b
 -- a node by its mark, its place and its last two words
 unfoldable pub nodeOf : ℕ → ℕ → ℤ → ℤ → ℕ → ℕ → List ℕ
 nodeOf m m′ x y p q = m ∷ m′ ∷ (signedBytes x ++ signedBytes y) ++ (fourBytes p ++ fourBytes q)
-
-abbrev pub wordAt : ℕ → List ℕ → ℕ
-wordAt k b = getD b k 0 + getD b (k + 1) 0 * 256 + getD b (k + 2) 0 * 65_536 + getD b (k + 3) 0 * 16_777_216
 
 -- modulo 2 ^ 32: of a sum four bytes are stored
 unfoldable pub addedAt : ℕ → ℕ → List ℕ → List ℕ

@@ -13,7 +13,7 @@ use lib.IntN.{ℤ, _+ℤ_}
 use lib.ListN.{length, drop, length-append}
 use lib.Seq.{take-at, drop-at}
 use borrow.Author.Tests.{le-leb, lt-leb}
-use Rattle.scaled.specs.Words.{wordOf, fourBytes}
+use Rattle.words.specs.Words.{wordOf, fourBytes}
 use Rattle.nodes.specs.Nodes.{Node, glyph, rule, movedNode, moved, bytesInNode, signedBytes, nodeBytes, bytesOf}
 use Rattle.nodes.specs.Buffer.{written, put, addedAt, movedHead, movedBytes, movedFront, roomFor, behindNodes}
 use Rattle.nodes.specs.NodeLaws.{signed-sum, length-node-bytes, length-bytes}

@@ -4,7 +4,7 @@ use mathlib.Core.List.{List, [], _∷_, _++_}
 use Prim.Native.Nat.{ℕ}
 use lib.IntN.{ℤ, pos, _+ℤ_}
 use Rattle.scaled.specs.Length.{maxℤ}
-use Rattle.scaled.specs.Words.{wordOf, fourBytes}
+use Rattle.words.specs.Words.{wordOf, fourBytes}
 
 -- x and y from the reference point of the list, y upward
 pub data Node : Type 0 where

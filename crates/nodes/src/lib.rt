@@ -1,13 +1,12 @@
 // Nodes in a buffer of bytes. What a node is, and its bytes, is defined in specs/Nodes.antt.
 pub mod run;
-mod words;
 
 ghost use mathlib.Core.Path.{_≡_};
 ghost use mathlib.Core.List.{_++_};
 ghost use Prim.Native.Nat.{_+_, _≤_};
 ghost use lib.ListN.{length, take, drop};
 ghost use Rattle.nodes.specs.Nodes.{glyph, rule, bytesInNode};
-ghost use Rattle.nodes.specs.Buffer.{written, put, nodeOf, movedHead, movedFront, roomFor, behindNodes};
+ghost use Rattle.nodes.specs.Buffer.{written, put, nodeOf, addedAt, movedHead, movedFront, roomFor, behindNodes};
 use scaled::Sp;
 
 pub const BYTES_IN_NODE: usize = 18;
@@ -16,7 +15,7 @@ pub const BYTES_IN_NODE: usize = 18;
 pub fn put_glyph(buf: &mut [u8], x: Sp, y: Sp, size: u8, family: u8, code: u8)
     ensures { λ _. ⌜ now (buf .exit) ≡ put (glyph (x .0) (y .0) size family code) (now (buf .entry)) ⌝ }
 {
-    let symbol = size as u32 + family as u32 * 256 + code as u32 * 65536;
+    let symbol = words::of_bytes(size, family, code, 0);
     put_node(buf, b'G', b'L', x, y, symbol, 0);
 }
 
@@ -94,6 +93,15 @@ fn move_node(buf: &mut [u8], at: usize, right: u32, up: u32)
     requires { ⌜ at + bytesInNode ≤ length (now buf) ⌝ }
     ensures { λ _. ⌜ now (buf .exit) ≡ take at (now (buf .entry)) ++ movedHead right up (drop at (now (buf .entry))) ⌝ }
 {
-    words::add(buf, at + 2, right);
-    words::add(buf, at + 6, up);
+    add(buf, at + 2, right);
+    add(buf, at + 6, up);
+}
+
+// Adds d to the word at `at`, modulo 2^32.
+fn add(buf: &mut [u8], at: usize, d: u32)
+    requires { ⌜ at + 4 ≤ length (now buf) ⌝ }
+    ensures { λ _. ⌜ now (buf .exit) ≡ addedAt at d (now (buf .entry)) ⌝ }
+{
+    let word = words::word(buf, at);
+    words::store(buf, at, words::sum(word, d));
 }

@@ -5,14 +5,14 @@ use Prim.Native.Nat.{_≤_, _-_}
 use native.Mathlib.Omega.{arith}
 use lib.ListN.{length, take, drop}
 use Rattle.font.specs.Table.{headerBytes, characterBytes}
-use Rattle.font.specs.Font.{fontOf, lookup, isOf, metricsOf}
+use Rattle.font.specs.Font.{fontOf, isOf, metricsOf}
 use Rattle.font.proofs.WordLaws.{part-of}
-use Rattle.font.proofs.LookupLaws.{recordsFrom, lookup-start, lookup-hit, lookup-miss, lookup-done}
+use Rattle.font.proofs.LookupLaws.{lookupFrom, lookup-start, lookup-hit, lookup-miss, lookup-done}
 use Rattle.font.proofs.symbol.Tie as tie
 use Rattle.font.proofs.symbol.Statement.{statement}
 
 abbrev Inv-loop : tie.InvT-loop
-Inv-loop table size family code at₀ at = (at ≤ length table) × (fontOf table .symbol size family code ≡ lookup size family code (recordsFrom table at))
+Inv-loop table size family code at₀ at = (at ≤ length table) × (fontOf table .symbol size family code ≡ lookupFrom size family code table at)
 
 abbrev μ-loop : tie.MeasureT-loop
 μ-loop table size family code at₀ at = length table - at

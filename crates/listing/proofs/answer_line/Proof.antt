@@ -19,8 +19,10 @@ same-length c = search needs
 
 returns : tie.Need-returns
 returns c =
-    let p = c .before .before .before .before .before .before .before .parts-of in
-    written-as (accepted-line (partsAs (p .result)) (c .before .before .before .before .if1 .taken) ∙ ap answerLine (p .ensures)) (c .before .before .sizes-line .ensures)
+    let line = c .before .before in
+    let tested = line .before .before in
+    let p = tested .before .before .before .parts-of in
+    written-as (accepted-line (partsAs (p .result)) (tested .if1 .taken) ∙ ap answerLine (p .ensures)) (line .sizes-line .ensures)
 
 refusal-line-requires : tie.Need-refusal-line-requires
 refusal-line-requires c κs = search needs
@@ -30,8 +32,10 @@ same-length-2 c = search needs
 
 returns-2 : tie.Need-returns-2
 returns-2 c =
-    let p = c .before .before .before .before .before .before .before .parts-of in
-    written-as (refused-line (partsAs (p .result)) (c .before .before .before .before .if1 .left) ∙ ap answerLine (p .ensures)) (c .before .before .refusal-line .ensures)
+    let line = c .before .before in
+    let tested = line .before .before in
+    let p = tested .before .before .before .parts-of in
+    written-as (refused-line (partsAs (p .result)) (tested .if1 .left) ∙ ap answerLine (p .ensures)) (line .refusal-line .ensures)
 
 pub answer-line-spec : {M : Type 1} → statement M
 answer-line-spec =

@@ -1,11 +1,8 @@
 -- `glyph_line` meets its contract: mark and place, three bytes, and the end of the line. Assumes nothing.
 use mathlib.Core.Path.{_∙_}
-use denote.Ref.{now}
-use lib.ListN.{getD}
 use native.Mathlib.Omega.{arith}
 use Rattle.listing.specs.Lines.{space, nodeLine}
-use Rattle.listing.specs.Decimals.{decimalOf}
-use Rattle.listing.proofs.PutLaws.{put-then, put-start, number-put}
+use Rattle.listing.proofs.PutLaws.{line-more, line-ended}
 use borrow.Author.Needs.{needs}
 use Rattle.listing.proofs.glyph_line.Statement.{statement}
 use Rattle.listing.proofs.glyph_line.Tie as tie
@@ -56,24 +53,54 @@ slice-aggregate-put-bytes : tie.Need-slice-aggregate-put-bytes
 slice-aggregate-put-bytes c = search needs
 
 put-bytes-requires : tie.Need-put-bytes-requires
-put-bytes-requires c κs = omega (arith, c .before .before .before .before .before .before .before .before .before .before .before .before .before .before .before .before .before .before .before .before .before .before .before .before .before .put-place .ensures .near, c .before .before .before .before .before .before .before .before .before .before .before .before .before .before .before .before .before .before .put-number .ensures .near, c .before .before .before .before .before .before .before .before .before .before .before .put-number2 .ensures .near, c .before .before .before .before .put-number3 .ensures .near, c .before .before .before .before .before .before .before .before .before .before .before .before .before .before .before .before .before .before .before .before .before .before .before .before .before .put-place .kept .1 .1 .0, c .before .before .before .before .before .before .before .before .before .before .before .before .before .before .before .before .before .before .put-number .kept .1 .1 .0, c .before .before .before .before .before .before .before .before .before .before .before .put-number2 .kept .1 .1 .0, c .before .before .before .before .put-number3 .kept .1 .1 .0, c .before .before .before .before .before .before .before .before .before .before .before .before .before .before .before .before .before .before .before .before .before .before .before .before .before .before .before .before .before .before .pre)
+put-bytes-requires c κs =
+    let third = c .before .before .before .before in
+    let second = third .before .before .before .before .before .before .before in
+    let first = second .before .before .before .before .before .before .before in
+    let place = first .before .before .before .before .before .before .before in
+    let start = place .before .before .before .before .before in
+    let kept = third .put-number3 .kept .1 .1 .0 ∙ second .put-number2 .kept .1 .1 .0 ∙ first .put-number .kept .1 .1 .0 ∙ place .put-place .kept .1 .1 .0 in
+    omega (
+      arith,
+      kept,
+      place .put-place .ensures .near,
+      first .put-number .ensures .near,
+      second .put-number2 .ensures .near,
+      third .put-number3 .ensures .near,
+      start .pre,
+    )
 
 same-length : tie.Need-same-length
 same-length c =
-    c .before .before .put-bytes .kept .1 .0
-    ∙ c .before .before .before .before .before .before .before .put-number3 .kept .1 .1 .0
-    ∙ c .before .before .before .before .before .before .before .before .before .before .before .before .before .before .put-number2 .kept .1 .1 .0
-    ∙ c .before .before .before .before .before .before .before .before .before .before .before .before .before .before .before .before .before .before .before .before .before .put-number .kept .1 .1 .0
-    ∙ c .before .before .before .before .before .before .before .before .before .before .before .before .before .before .before .before .before .before .before .before .before .before .before .before .before .before .before .before .put-place .kept .1 .1 .0
+    let end = c .before .before in
+    let third = end .before .before .before .before .before in
+    let second = third .before .before .before .before .before .before .before in
+    let first = second .before .before .before .before .before .before .before in
+    let place = first .before .before .before .before .before .before .before in
+    end .put-bytes .kept .1 .0
+    ∙ third .put-number3 .kept .1 .1 .0
+    ∙ second .put-number2 .kept .1 .1 .0
+    ∙ first .put-number .kept .1 .1 .0
+    ∙ place .put-place .kept .1 .1 .0
 
 returns : tie.Need-returns
 unfolding nodeLine
 returns c =
-    let s = now (c .before .before .before .before .before .before .before .before .before .before .before .before .before .before .before .before .before .before .before .before .before .before .before .before .before .before .before .before .before .before .before .before .before .args .node) in
-    let size = (number-put space (decimalOf (getD s 10 0)) (c .before .before .before .before .before .before .before .before .before .before .before .before .before .before .before .before .before .before .before .before .before .before .before .of-byte .result) (c .before .before .before .before .before .before .before .before .before .before .before .before .before .before .before .before .before .before .before .before .before .before .before .of-byte .ensures) (c .before .before .before .before .before .before .before .before .before .before .before .before .before .before .before .before .before .before .before .before .before .put-number .ensures)) in
-    let family = (number-put space (decimalOf (getD s 11 0)) (c .before .before .before .before .before .before .before .before .before .before .before .before .before .before .before .before .of-byte2 .result) (c .before .before .before .before .before .before .before .before .before .before .before .before .before .before .before .before .of-byte2 .ensures) (c .before .before .before .before .before .before .before .before .before .before .before .before .before .before .put-number2 .ensures)) in
-    let code = (number-put space (decimalOf (getD s 12 0)) (c .before .before .before .before .before .before .before .before .before .of-byte3 .result) (c .before .before .before .before .before .before .before .before .before .of-byte3 .ensures) (c .before .before .before .before .before .before .before .put-number3 .ensures)) in
-    put-start (put-then (put-then (put-then (put-then (c .before .before .before .before .before .before .before .before .before .before .before .before .before .before .before .before .before .before .before .before .before .before .before .before .before .before .before .before .put-place .ensures .put) size) family) code) (c .before .before .put-bytes .ensures))
+    let end = c .before .before in
+    let third = end .before .before .before .before .before in
+    let code = third .before .before in
+    let second = code .before .before .before .before .before in
+    let family = second .before .before in
+    let first = family .before .before .before .before .before in
+    let size = first .before .before in
+    let place = size .before .before .before .before .before in
+    line-ended
+    (line-more space (code .of-byte3 .result)
+    (line-more space (family .of-byte2 .result)
+    (line-more space (size .of-byte .result) (place .put-place .ensures .put) (size .of-byte .ensures) (first .put-number .ensures))
+    (family .of-byte2 .ensures) (second .put-number2 .ensures))
+    (code .of-byte3 .ensures) (third .put-number3 .ensures))
+    (end .put-bytes .ensures)
 
 pub glyph-line-spec : {M : Type 1} → statement M
 glyph-line-spec =

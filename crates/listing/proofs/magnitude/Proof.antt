@@ -1,27 +1,34 @@
 -- `magnitude` takes no number out of its range, and gives how far the length lies from zero: `below` and `not-below`. Assumes nothing.
 use mathlib.Core.Path.{sym, _∙_}
-use Rattle.listing.proofs.SignedBits.{below, not-below}
+use lib.IntN.{negsuc, _-ℤ_}
+use Rattle.listing.proofs.SignedBits.{read, Below, below, not-below}
 use borrow.Author.Needs.{needs}
 use Rattle.listing.proofs.magnitude.Statement.{statement}
 use Rattle.listing.proofs.magnitude.Tie as tie
+
+-- where the test holds
+negative : (c : tie.Then1) → let z = c .before .before .args .length .0 in Below z (negsuc 0 -ℤ read z)
+negative c = below (c .before .before .args .length .0) (search needs) (sym (c .before .less .ensures .is) ∙ c .if1 .taken)
 
 less-requires : tie.Need-less-requires
 less-requires c κs = search needs
 
 sub-m : tie.Need-sub-m
-sub-m c = below (c .before .before .before .before .args .length .0) (search needs) (sym (c .before .before .before .less .ensures .is) ∙ c .before .before .if1 .taken) .sub
+sub-m c = negative (c .before .before) .sub
 
 cast-result : tie.Need-cast-result
-cast-result c = below (c .before .before .before .before .args .length .0) (search needs) (sym (c .before .before .before .less .ensures .is) ∙ c .before .before .if1 .taken) .cast
+cast-result c = negative (c .before .before) .cast
 
 add-result : tie.Need-add-result
-add-result c = below (c .before .before .before .before .args .length .0) (search needs) (sym (c .before .before .before .less .ensures .is) ∙ c .before .before .if1 .taken) .add
+add-result c = negative (c .before .before) .add
 
 cast-result-2 : tie.Need-cast-result-2
-cast-result-2 c = not-below (c .before .before .before .before .args .length .0) (search needs) (sym (c .before .before .before .less .ensures .is) ∙ c .before .before .if1 .left) .cast
+cast-result-2 c =
+    let tested = c .before .before in
+    not-below (tested .before .before .args .length .0) (search needs) (sym (tested .before .less .ensures .is) ∙ tested .if1 .left) .cast
 
 returns : tie.Need-returns
-returns c = below (c .before .before .before .before .args .length .0) (search needs) (sym (c .before .before .before .less .ensures .is) ∙ c .before .before .if1 .taken) .out
+returns c = negative (c .before .before) .out
 
 returns-2 : tie.Need-returns-2
 returns-2 c = search needs

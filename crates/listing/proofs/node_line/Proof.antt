@@ -19,7 +19,10 @@ same-length c = search needs
 
 returns : tie.Need-returns
 returns c =
-    written-as (ap nodeLine (glyph-in (now (c .before .before .before .before .before .before .before .before .args .node)) (c .before .before .before .before .if1 .taken))) (c .before .before .glyph-line .ensures)
+    let line = c .before .before in
+    let tested = line .before .before in
+    let node = now (tested .before .before .before .before .args .node) in
+    written-as (ap nodeLine (glyph-in node (tested .if1 .taken))) (line .glyph-line .ensures)
 
 rule-line-requires : tie.Need-rule-line-requires
 rule-line-requires c κs = search needs
@@ -29,7 +32,10 @@ same-length-2 c = search needs
 
 returns-2 : tie.Need-returns-2
 returns-2 c =
-    written-as (ap nodeLine (rule-in (now (c .before .before .before .before .before .before .before .before .args .node)) (c .before .before .before .before .if1 .left))) (c .before .before .rule-line .ensures)
+    let line = c .before .before in
+    let tested = line .before .before in
+    let node = now (tested .before .before .before .before .args .node) in
+    written-as (ap nodeLine (rule-in node (tested .if1 .left))) (line .rule-line .ensures)
 
 pub node-line-spec : {M : Type 1} → statement M
 node-line-spec =

@@ -1,7 +1,7 @@
 -- `of_length` meets its contract, by `length-text`. Assumes nothing.
 use mathlib.Core.Path.{ap₂, _∙_}
 use Rattle.listing.specs.Written.{signedText}
-use Rattle.listing.proofs.NumberLaws.{length-text}
+use Rattle.listing.proofs.SignedBits.{length-text}
 use borrow.Author.Needs.{needs}
 use Rattle.listing.proofs.of_length.Statement.{statement}
 use Rattle.listing.proofs.of_length.Tie as tie

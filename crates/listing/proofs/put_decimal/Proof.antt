@@ -32,9 +32,11 @@ same-length c = search needs
 
 returns : tie.Need-returns
 returns c =
-    let d = c .before .before .before .before .before .decimal in
-    let a = c .before .before .before .before .before .before .before .before .args in
-    let w = c .before .before .put-bytes .ensures in
+    let put = c .before .before in
+    let written = put .before .before .before in
+    let d = written .decimal in
+    let a = written .before .before .before .args in
+    let w = put .put-bytes .ensures in
     let k : d .result ≤ 20 = within (d .result) (a .n) (search needs) (d .ensures .1 .0) in
     let l : d .result ≡ length (take (d .result) (d .last .1 .0)) = d .ensures .0 .1 in
     record {

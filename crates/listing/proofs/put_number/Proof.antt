@@ -28,17 +28,18 @@ same-length c = search needs
 
 returns : tie.Need-returns
 returns c =
-    let a = c .before .before .before .before .before .before .before .before .before .before .before .before .before .before .before .before .args in
+    let digits = c .before .before in
+    let sign = digits .before .before .before .before in
+    let tested = sign .before .before .before in
+    let first = tested .before .before .before in
+    let a = first .before .before .before .before .args in
     let mark = now (a .mark) in
-    let first = c .before .before .before .before .before .before .before .before .before .before .before .before .put-bytes .ensures in
-    let sign = c .before .before .before .before .before .before .put-bytes2 .ensures in
-    let digits = c .before .before .put-decimal .ensures in
+    let parts = append-assoc mark (minus ∷ []) (decimalOf (a .n .size)) in
     record {
       put =
-          put-as
-          (append-assoc mark (minus ∷ []) (decimalOf (a .n .size)) ∙ ap (λ (t : Bool). mark ++ signedText t (a .n .size)) (sym (c .before .before .before .before .before .before .before .before .before .if1 .taken)))
-          (put-then (put-then first sign) (digits .put));
-      near = omega (arith, first .size, sign .size, digits .near);
+          put-as (parts ∙ ap (λ (t : Bool). mark ++ signedText t (a .n .size)) (sym (tested .if1 .taken)))
+          (put-then (put-then (first .put-bytes .ensures) (sign .put-bytes2 .ensures)) (digits .put-decimal .ensures .put));
+      near = omega (arith, first .put-bytes .ensures .size, sign .put-bytes2 .ensures .size, digits .put-decimal .ensures .near);
     }
 
 put-decimal-requires-2 : tie.Need-put-decimal-requires-2
@@ -49,13 +50,16 @@ same-length-2 c = search needs
 
 returns-2 : tie.Need-returns-2
 returns-2 c =
-    let a = c .before .before .before .before .before .before .before .before .before .before .before .args in
+    let digits = c .before .before in
+    let tested = digits .before .before in
+    let first = tested .before .before .before in
+    let a = first .before .before .before .before .args in
     let mark = now (a .mark) in
-    let first = c .before .before .before .before .before .before .before .put-bytes .ensures in
-    let digits = c .before .before .put-decimal2 .ensures in
     record {
-      put = put-as (ap (λ (t : Bool). mark ++ signedText t (a .n .size)) (sym (c .before .before .before .before .if1 .left))) (put-then first (digits .put));
-      near = omega (arith, first .size, digits .near);
+      put =
+          put-as (ap (λ (t : Bool). mark ++ signedText t (a .n .size)) (sym (tested .if1 .left)))
+          (put-then (first .put-bytes .ensures) (digits .put-decimal2 .ensures .put));
+      near = omega (arith, first .put-bytes .ensures .size, digits .put-decimal2 .ensures .near);
     }
 
 pub put-number-spec : {M : Type 1} → statement M

@@ -1,9 +1,8 @@
 -- `put_place` meets its contract: a mark and a space, each with its number. Assumes nothing.
 use denote.Ref.{now}
 use native.Mathlib.Omega.{arith}
-use Rattle.listing.specs.Lines.{space, numberAt}
-use Rattle.listing.specs.Decimals.{textOf}
-use Rattle.listing.proofs.PutLaws.{put-then, number-put}
+use Rattle.listing.specs.Lines.{space}
+use Rattle.listing.proofs.PutLaws.{number-put, line-more}
 use borrow.Author.Needs.{needs}
 use Rattle.listing.proofs.put_place.Statement.{statement}
 use Rattle.listing.proofs.put_place.Tie as tie
@@ -28,11 +27,16 @@ same-length c = search needs
 
 returns : tie.Need-returns
 returns c =
-    let a = c .before .before .before .before .before .before .before .before .before .before .before .before .before .before .args in
-    let s = now (a .node) in
-    let x = (number-put (now (a .mark)) (textOf (numberAt 2 s)) (c .before .before .before .before .before .before .before .before .before .before .number-at .result) (c .before .before .before .before .before .before .before .before .before .before .number-at .ensures) (c .before .before .before .before .before .before .before .before .put-number .ensures)) in
-    let y = (number-put space (textOf (numberAt 6 s)) (c .before .before .before .before .number-at2 .result) (c .before .before .before .before .number-at2 .ensures) (c .before .before .put-number2 .ensures)) in
-    record { put = put-then x y; near = omega (arith, c .before .before .before .before .before .before .before .before .put-number .ensures .near, c .before .before .put-number2 .ensures .near) }
+    let second = c .before .before in
+    let y = second .before .before in
+    let first = y .before .before .before .before in
+    let x = first .before .before in
+    let mark = now (x .before .before .before .before .args .mark) in
+    let x-put = number-put mark (x .number-at .result) (x .number-at .ensures) (first .put-number .ensures) in
+    record {
+      put = line-more space (y .number-at2 .result) x-put (y .number-at2 .ensures) (second .put-number2 .ensures);
+      near = omega (arith, first .put-number .ensures .near, second .put-number2 .ensures .near);
+    }
 
 pub put-place-spec : {M : Type 1} → statement M
 put-place-spec =

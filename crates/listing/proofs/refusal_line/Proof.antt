@@ -1,7 +1,6 @@
 -- `refusal_line` meets its contract: two marks with their numbers, and the end of the line. Assumes nothing.
 use Rattle.listing.specs.Lines.{refusedMark, atMark}
-use Rattle.listing.specs.Decimals.{decimalOf}
-use Rattle.listing.proofs.PutLaws.{put-then, put-start, number-put}
+use Rattle.listing.proofs.PutLaws.{number-put, line-more, line-ended}
 use borrow.Author.Needs.{needs}
 use Rattle.listing.proofs.refusal_line.Statement.{statement}
 use Rattle.listing.proofs.refusal_line.Tie as tie
@@ -35,10 +34,16 @@ same-length c = search needs
 
 returns : tie.Need-returns
 returns c =
-    let a = c .before .before .before .before .before .before .before .before .before .before .before .before .before .before .before .before .before .before .args in
-    let n = (number-put refusedMark (decimalOf (a .number)) (c .before .before .before .before .before .before .before .before .before .before .before .before .before .before .before .of-count .result) (c .before .before .before .before .before .before .before .before .before .before .before .before .before .before .before .of-count .ensures) (c .before .before .before .before .before .before .before .before .before .before .before .before .before .put-number .ensures)) in
-    let p = (number-put atMark (decimalOf (a .place)) (c .before .before .before .before .before .before .before .before .before .of-count2 .result) (c .before .before .before .before .before .before .before .before .before .of-count2 .ensures) (c .before .before .before .before .before .before .before .put-number2 .ensures)) in
-    put-start (put-then (put-then n p) (c .before .before .put-bytes .ensures))
+    let end = c .before .before in
+    let second = end .before .before .before .before .before in
+    let place = second .before .before in
+    let first = place .before .before .before .before in
+    let number = first .before .before in
+    line-ended
+    (line-more atMark (place .of-count2 .result)
+    (number-put refusedMark (number .of-count .result) (number .of-count .ensures) (first .put-number .ensures))
+    (place .of-count2 .ensures) (second .put-number2 .ensures))
+    (end .put-bytes .ensures)
 
 pub refusal-line-spec : {M : Type 1} → statement M
 refusal-line-spec =

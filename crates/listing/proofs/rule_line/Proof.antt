@@ -1,8 +1,6 @@
 -- `rule_line` meets its contract: mark and place, two words, and the end of the line. Assumes nothing.
-use denote.Ref.{now}
-use Rattle.listing.specs.Lines.{space, numberAt, nodeLine}
-use Rattle.listing.specs.Decimals.{textOf}
-use Rattle.listing.proofs.PutLaws.{put-then, put-start, number-put}
+use Rattle.listing.specs.Lines.{space, nodeLine}
+use Rattle.listing.proofs.PutLaws.{line-more, line-ended}
 use borrow.Author.Needs.{needs}
 use Rattle.listing.proofs.rule_line.Statement.{statement}
 use Rattle.listing.proofs.rule_line.Tie as tie
@@ -43,10 +41,17 @@ same-length c = search needs
 returns : tie.Need-returns
 unfolding nodeLine
 returns c =
-    let s = now (c .before .before .before .before .before .before .before .before .before .before .before .before .before .before .before .before .before .before .before .before .before .before .before .before .args .node) in
-    let width = (number-put space (textOf (numberAt 10 s)) (c .before .before .before .before .before .before .before .before .before .before .before .before .before .before .before .number-at .result) (c .before .before .before .before .before .before .before .before .before .before .before .before .before .before .before .number-at .ensures) (c .before .before .before .before .before .before .before .before .before .before .before .before .before .put-number .ensures)) in
-    let thickness = (number-put space (textOf (numberAt 14 s)) (c .before .before .before .before .before .before .before .before .before .number-at2 .result) (c .before .before .before .before .before .before .before .before .before .number-at2 .ensures) (c .before .before .before .before .before .before .before .put-number2 .ensures)) in
-    put-start (put-then (put-then (put-then (c .before .before .before .before .before .before .before .before .before .before .before .before .before .before .before .before .before .before .before .put-place .ensures .put) width) thickness) (c .before .before .put-bytes .ensures))
+    let end = c .before .before in
+    let second = end .before .before .before .before .before in
+    let thickness = second .before .before in
+    let first = thickness .before .before .before .before in
+    let width = first .before .before in
+    let place = width .before .before .before .before in
+    line-ended
+    (line-more space (thickness .number-at2 .result)
+    (line-more space (width .number-at .result) (place .put-place .ensures .put) (width .number-at .ensures) (first .put-number .ensures))
+    (thickness .number-at2 .ensures) (second .put-number2 .ensures))
+    (end .put-bytes .ensures)
 
 pub rule-line-spec : {M : Type 1} → statement M
 rule-line-spec =

@@ -1,8 +1,8 @@
 -- `sizes_line` meets its contract: four marks with their numbers, and the end of the line. Assumes nothing.
+use mathlib.Core.Path.{_∙_}
 use native.Mathlib.Omega.{arith}
 use Rattle.listing.specs.Lines.{widthMark, heightMark, depthMark, countMark}
-use Rattle.listing.specs.Decimals.{decimalOf, textOf}
-use Rattle.listing.proofs.PutLaws.{put-then, put-start, number-put}
+use Rattle.listing.proofs.PutLaws.{number-put, line-more, line-ended}
 use borrow.Author.Needs.{needs}
 use Rattle.listing.proofs.sizes_line.Statement.{statement}
 use Rattle.listing.proofs.sizes_line.Tie as tie
@@ -48,19 +48,45 @@ slice-aggregate-put-bytes c = search needs
 
 put-bytes-requires : tie.Need-put-bytes-requires
 put-bytes-requires c κs =
-    omega (arith, c .before .before .before .before .before .before .before .before .before .before .before .before .before .before .before .before .before .before .before .before .before .before .put-number .ensures .near, c .before .before .before .before .before .before .before .before .before .before .before .before .before .before .before .before .put-number2 .ensures .near, c .before .before .before .before .before .before .before .before .before .before .put-number3 .ensures .near, c .before .before .before .before .put-number4 .ensures .near, c .before .before .before .before .before .before .before .before .before .before .before .before .before .before .before .before .before .before .before .before .before .before .put-number .kept .1 .1 .0, c .before .before .before .before .before .before .before .before .before .before .before .before .before .before .before .before .put-number2 .kept .1 .1 .0, c .before .before .before .before .before .before .before .before .before .before .put-number3 .kept .1 .1 .0, c .before .before .before .before .put-number4 .kept .1 .1 .0, c .before .before .before .before .before .before .before .before .before .before .before .before .before .before .before .before .before .before .before .before .before .before .before .before .before .before .before .pre)
+    let fourth = c .before .before .before .before in
+    let third = fourth .before .before .before .before .before .before in
+    let second = third .before .before .before .before .before .before in
+    let first = second .before .before .before .before .before .before in
+    let start = first .before .before .before .before .before in
+    let kept = fourth .put-number4 .kept .1 .1 .0 ∙ third .put-number3 .kept .1 .1 .0 ∙ second .put-number2 .kept .1 .1 .0 ∙ first .put-number .kept .1 .1 .0 in
+    omega (
+      arith,
+      kept,
+      first .put-number .ensures .near,
+      second .put-number2 .ensures .near,
+      third .put-number3 .ensures .near,
+      fourth .put-number4 .ensures .near,
+      start .pre,
+    )
 
 same-length : tie.Need-same-length
 same-length c = search needs
 
 returns : tie.Need-returns
 returns c =
-    let a = c .before .before .before .before .before .before .before .before .before .before .before .before .before .before .before .before .before .before .before .before .before .before .before .before .before .before .before .before .before .before .args in
-    let w = (number-put widthMark (textOf (a .size .width .0)) (c .before .before .before .before .before .before .before .before .before .before .before .before .before .before .before .before .before .before .before .before .before .before .before .before .before .before .before .of-length .result) (c .before .before .before .before .before .before .before .before .before .before .before .before .before .before .before .before .before .before .before .before .before .before .before .before .before .before .before .of-length .ensures) (c .before .before .before .before .before .before .before .before .before .before .before .before .before .before .before .before .before .before .before .before .before .before .before .before .before .put-number .ensures)) in
-    let h = (number-put heightMark (textOf (a .size .height .0)) (c .before .before .before .before .before .before .before .before .before .before .before .before .before .before .before .before .before .before .before .before .before .of-length2 .result) (c .before .before .before .before .before .before .before .before .before .before .before .before .before .before .before .before .before .before .before .before .before .of-length2 .ensures) (c .before .before .before .before .before .before .before .before .before .before .before .before .before .before .before .before .before .before .before .put-number2 .ensures)) in
-    let d = (number-put depthMark (textOf (a .size .depth .0)) (c .before .before .before .before .before .before .before .before .before .before .before .before .before .before .before .of-length3 .result) (c .before .before .before .before .before .before .before .before .before .before .before .before .before .before .before .of-length3 .ensures) (c .before .before .before .before .before .before .before .before .before .before .before .before .before .put-number3 .ensures)) in
-    let n = (number-put countMark (decimalOf (a .count)) (c .before .before .before .before .before .before .before .before .before .of-count .result) (c .before .before .before .before .before .before .before .before .before .of-count .ensures) (c .before .before .before .before .before .before .before .put-number4 .ensures)) in
-    put-start (put-then (put-then (put-then (put-then w h) d) n) (c .before .before .put-bytes .ensures))
+    let end = c .before .before in
+    let fourth = end .before .before .before .before .before in
+    let count = fourth .before .before in
+    let third = count .before .before .before .before in
+    let depth = third .before .before in
+    let second = depth .before .before .before .before in
+    let height = second .before .before in
+    let first = height .before .before .before .before in
+    let width = first .before .before in
+    line-ended
+    (line-more countMark (count .of-count .result)
+    (line-more depthMark (depth .of-length3 .result)
+    (line-more heightMark (height .of-length2 .result)
+    (number-put widthMark (width .of-length .result) (width .of-length .ensures) (first .put-number .ensures))
+    (height .of-length2 .ensures) (second .put-number2 .ensures))
+    (depth .of-length3 .ensures) (third .put-number3 .ensures))
+    (count .of-count .ensures) (fourth .put-number4 .ensures))
+    (end .put-bytes .ensures)
 
 pub sizes-line-spec : {M : Type 1} → statement M
 sizes-line-spec =

@@ -5,17 +5,8 @@ use Rattle.nodes.proofs.Stores.{glyph-bytes}
 use Rattle.nodes.proofs.put_glyph.Statement.{statement}
 use Rattle.nodes.proofs.put_glyph.Tie as tie
 
-mul-symbol : tie.Need-mul-symbol
-mul-symbol c = search needs
-
-add-symbol : tie.Need-add-symbol
-add-symbol c = search needs
-
-mul-symbol-2 : tie.Need-mul-symbol-2
-mul-symbol-2 c = search needs
-
-add-symbol-2 : tie.Need-add-symbol-2
-add-symbol-2 c = search needs
+of-bytes-requires : tie.Need-of-bytes-requires
+of-bytes-requires c κs = search needs
 
 put-node-requires : tie.Need-put-node-requires
 put-node-requires c κs = search needs
@@ -25,19 +16,11 @@ same-length c = search needs
 
 returns : tie.Need-returns
 returns c =
-    let start = c .before .before .before .before .before in
+    let symbol = c .before .before .before .before in
+    let start = symbol .before .before in
     let fits = start .fits in
-    rw (glyph-bytes (start .args .x .0) (start .args .y .0) (fits .size) (fits .family) (fits .code)) at
+    rw (symbol .of-bytes .ensures, glyph-bytes (start .args .x .0) (start .args .y .0) (fits .size) (fits .family) (fits .code)) at
     (c .before .before .put-node .ensures)
 
 pub put-glyph-spec : {M : Type 1} → statement M
-put-glyph-spec =
-    tie.close
-    (tie.spec
-    mul-symbol
-    add-symbol
-    mul-symbol-2
-    add-symbol-2
-    put-node-requires
-    same-length
-    returns)
+put-glyph-spec = tie.close (tie.spec of-bytes-requires put-node-requires same-length returns)

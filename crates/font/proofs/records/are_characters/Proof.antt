@@ -1,71 +1,57 @@
--- `are_characters` tests the CH records: those that are left decide, and `characters-turn` takes one off.
-use mathlib.Core.Path.{_≡_, sym, ap, _∙_}
+-- `are_characters` tests the CH records, each with its order, the invariant being `Passing` of `soundCharacters` (`sound-front`).
+use mathlib.Core.Path.{_≡_, refl, sym, ap, _∙_}
 use mathlib.Core.Bool.{Bool, _&&_}
-use Prim.Native.Nat.{_≤_, _+_, _*_, _-_}
+use mathlib.Core.List.{List}
+use Prim.Native.Nat.{ℕ, suc, _*_, _-_}
 use native.Mathlib.Nat.{sub-zero}
 use native.Mathlib.Omega.{arith}
 use borrow.Author.Tests.{not-true, not-false}
+use lib.ListN.{drop, length-drop}
 use Rattle.font.specs.Answers.{soundCharacters, soundFront}
-use Rattle.font.specs.Table.{characterBytes, pieces}
-use Rattle.font.proofs.WordLaws.{rest-of}
-use Rattle.font.proofs.CheckLaws.{charactersFrom, characters-turn, characters-done, pass, stop}
+use Rattle.font.specs.Table.{characterBytes, pieces, every, rising}
+use Rattle.font.proofs.WordLaws.{rest-of, Passing, stopped, again, finished}
+use Rattle.font.proofs.CheckLaws.{sound-front}
 use Rattle.font.proofs.records.are_characters.Tie as tie
 use Rattle.font.proofs.records.are_characters.Statement.{statement}
 
+abbrev sound : ℕ → List ℕ → Bool
+sound n s = soundCharacters (pieces characterBytes n s)
+
 abbrev Inv-loop : tie.InvT-loop
-Inv-loop s n i₀ i = (i ≤ n) × (soundCharacters (pieces characterBytes n s) ≡ charactersFrom s n i)
+Inv-loop s n i₀ i = Passing sound (sound n s) n s (characterBytes * i) i
 
 abbrev μ-loop : tie.MeasureT-loop
 μ-loop s n i₀ i = n - i
 
--- the record that was tested, and those that are left
-turn : (c : tie.After-is-front Inv-loop μ-loop) →
+-- the record that was tested, and those behind it
+tested : (c : tie.After-is-front Inv-loop μ-loop) →
     let at-loop = c .before .before .before in
-    let a = at-loop .before .before .args in
-    soundCharacters (pieces characterBytes (a .n) (a .s .now)) ≡ (c .is-front .result && charactersFrom (a .s .now) (a .n) (at-loop .loop .i + 1))
-turn c =
+    let here = drop (characterBytes * at-loop .loop .i) (at-loop .before .before .args .s .now) in
+    (m : ℕ) → at-loop .before .before .args .n - at-loop .loop .i ≡ suc m →
+    sound (suc m) here ≡ (c .is-front .result && sound m (drop characterBytes here))
+tested c m left =
     let at-loop = c .before .before .before in
-    let start = at-loop .before .before in
-    let s = start .args .s .now in
-    let n = start .args .n in
-    let i = at-loop .loop .i in
-    let tested = c .is-front .ensures ∙ ap soundFront (rest-of (characterBytes * i) s) in
-    at-loop .loop .inv .1 ∙ characters-turn s n i (start .pre) (omega arith) ∙ ap (λ (b : Bool). b && charactersFrom s n (i + 1)) (sym tested)
+    let s = at-loop .before .before .args .s .now in
+    let at = characterBytes * at-loop .loop .i in
+    sound-front (drop at s) m (length-drop at s ∙ omega arith)
+    ∙ ap (λ (b : Bool). b && sound m (drop characterBytes (drop at s))) (sym (c .is-front .ensures ∙ ap soundFront (rest-of at s)))
 
 loop-holds : tie.Need-loop-holds Inv-loop μ-loop
-loop-holds c = (omega arith, simp sub-zero)
-
-mul-at : tie.Need-mul-at Inv-loop μ-loop
-mul-at c = omega arith
-
-sub-is-front : tie.Need-sub-is-front Inv-loop μ-loop
-sub-is-front c = omega arith
-
-part-is-front-start : tie.Need-part-is-front-start Inv-loop μ-loop
-part-is-front-start c = omega arith
-
-part-is-front-end : tie.Need-part-is-front-end Inv-loop μ-loop
-part-is-front-end c = omega arith
-
-is-front-requires : tie.Need-is-front-requires Inv-loop μ-loop
-is-front-requires c κs = omega (arith, c .is-front-arg .given .2)
+loop-holds c = record { passed = omega arith; rest = simp sub-zero }
 
 returns : tie.Need-returns Inv-loop μ-loop
-returns c = sym (turn (c .before) ∙ stop (c .before .is-front .result) _ (not-true _ (c .if1 .taken)))
-
-add-i : tie.Need-add-i Inv-loop μ-loop
-add-i c = omega arith
-
-loop-less : tie.Need-loop-less Inv-loop μ-loop
-loop-less c = omega arith
+returns c =
+    let p = c .before .before .before .before .loop .inv in
+    sym (stopped p characterBytes (c .before .is-front .result) (omega arith) (tested (c .before)) (not-true _ (c .if1 .taken)))
 
 loop-again : tie.Need-loop-again Inv-loop μ-loop
-loop-again c = (omega arith, turn (c .before) ∙ pass (c .before .is-front .result) _ (not-false _ (c .if1 .left)))
+loop-again c =
+    let p = c .before .before .before .before .loop .inv in
+    again p characterBytes (c .before .is-front .result) (omega arith) (tested (c .before)) (omega arith) (not-false _ (c .if1 .left))
 
 returns-2 : tie.Need-returns-2 Inv-loop μ-loop
-returns-2 c =
-    let a = c .before .before .before .args in
-    sym (c .before .loop .inv .1 ∙ characters-done (a .s .now) (a .n) (c .before .loop .i) (c .loop-test .left))
+unfolding soundCharacters every rising pieces
+returns-2 c = sym (finished (c .before .loop .inv) (c .loop-test .left) (λ u. refl))
 
 pub are-characters-spec : {M : Type 1} → statement M
 are-characters-spec =
@@ -74,13 +60,13 @@ are-characters-spec =
     Inv-loop
     μ-loop
     loop-holds
-    mul-at
-    sub-is-front
-    part-is-front-start
-    part-is-front-end
-    is-front-requires
+    (λ c. omega arith)
+    (λ c. omega arith)
+    (λ c. omega arith)
+    (λ c. omega arith)
+    (λ c κs. omega (arith, c .is-front-arg .given .2))
     returns
-    add-i
-    loop-less
+    (λ c. omega arith)
+    (λ c. omega arith)
     loop-again
     returns-2)

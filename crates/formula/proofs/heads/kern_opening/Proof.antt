@@ -3,6 +3,7 @@
 use mathlib.Core.Path.{refl, sym, ap, _∙_}
 use native.Mathlib.Omega.{arith}
 use borrow.Author.Needs.{needs}
+use Rattle.words.specs.Words.{signedWord}
 use Rattle.formula.specs.declared.Opening.the-variants.{NoItem}
 use Rattle.formula.specs.Heads.{kernWithin, kernOpening}
 use Rattle.formula.proofs.FirstBytes.{short-four, kern-said}
@@ -14,18 +15,6 @@ unfolding kernOpening
 returns c =
     let s = c .before .before .args .s .now in
     sym (short-four kernOpening NoItem refl (λ a. refl) (λ a b. refl) (λ a b d. refl) s (c .if1 .taken))
-
-shared-slice-read-word : tie.Need-shared-slice-read-word
-shared-slice-read-word c = search needs
-
-shared-slice-read-word-2 : tie.Need-shared-slice-read-word-2
-shared-slice-read-word-2 c = search needs
-
-shared-slice-read-word-3 : tie.Need-shared-slice-read-word-3
-shared-slice-read-word-3 c = search needs
-
-shared-slice-read-word-4 : tie.Need-shared-slice-read-word-4
-shared-slice-read-word-4 c = search needs
 
 word-requires : tie.Need-word-requires
 word-requires c κs = search needs
@@ -40,17 +29,15 @@ returns-2 : tie.Need-returns-2
 returns-2 c =
     let signed = c .before in
     let word = signed .before in
-    c .kern .ensures ∙ ap kernWithin (signed .signed .ensures) ∙ sym (kern-said _ _ (omega arith) (word .word .ensures))
+    c .kern .ensures
+    ∙ ap kernWithin (signed .signed .ensures ∙ ap signedWord (word .word .ensures))
+    ∙ sym (kern-said _ (omega arith))
 
 pub kern-opening-spec : {M : Type 1} → statement M
 kern-opening-spec =
     tie.close
     (tie.spec
     returns
-    shared-slice-read-word
-    shared-slice-read-word-2
-    shared-slice-read-word-3
-    shared-slice-read-word-4
     word-requires
     signed-requires
     kern-requires

@@ -1,10 +1,10 @@
--- `words::store_pair` meets its contract, by `pair-stores`.
+-- `store_pair` meets its contract, by `pair-stores`.
 -- Assumes nothing.
 use mathlib.Core.Path.{_∙_}
 use borrow.Author.Needs.{needs}
-use Rattle.nodes.proofs.Stores.{pair-stores}
-use Rattle.nodes.proofs.words.store_pair.Statement.{statement}
-use Rattle.nodes.proofs.words.store_pair.Tie as tie
+use Rattle.words.proofs.Stores.{pair-stores}
+use Rattle.words.proofs.store_pair.Statement.{statement}
+use Rattle.words.proofs.store_pair.Tie as tie
 
 store-requires : tie.Need-store-requires
 store-requires c κs = search needs

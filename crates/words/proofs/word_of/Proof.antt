@@ -1,10 +1,10 @@
--- `words::word_of` meets its contract, by `masked-word`.
+-- `word_of` meets its contract, by `masked-word`.
 -- Assumes nothing.
 use borrow.Author.Needs.{needs}
-use Rattle.nodes.specs.NodeLaws.{word-below}
-use Rattle.nodes.proofs.Stores.{masked-word}
-use Rattle.nodes.proofs.words.word_of.Statement.{statement}
-use Rattle.nodes.proofs.words.word_of.Tie as tie
+use Rattle.words.specs.WordLaws.{word-below}
+use Rattle.words.proofs.Stores.{masked-word}
+use Rattle.words.proofs.word_of.Statement.{statement}
+use Rattle.words.proofs.word_of.Tie as tie
 
 cast-result : tie.Need-cast-result
 cast-result c =

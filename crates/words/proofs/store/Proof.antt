@@ -1,13 +1,13 @@
--- `words::store` meets its contract, by `four-stores`.
+-- `store` meets its contract, by `four-stores`.
 -- Assumes nothing.
 use mathlib.Core.Path.{_∙_}
 use native.Mathlib.Omega.{arith}
 use borrow.Author.Needs.{needs}
 use lib.ListN.{length-set}
-use Rattle.scaled.specs.Words.{fourBytes}
-use Rattle.nodes.proofs.Stores.{four-stores}
-use Rattle.nodes.proofs.words.store.Statement.{statement}
-use Rattle.nodes.proofs.words.store.Tie as tie
+use Rattle.words.specs.Words.{fourBytes}
+use Rattle.words.proofs.Stores.{four-stores}
+use Rattle.words.proofs.store.Statement.{statement}
+use Rattle.words.proofs.store.Tie as tie
 
 low-requires : tie.Need-low-requires
 low-requires c κs = search needs
