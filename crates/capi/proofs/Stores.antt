@@ -16,10 +16,10 @@ use mir.Syntax.{w64}
 use mir.Val.{SFits, toZ, ofZ}
 use mir.ValLaws.{toZ-ofZ}
 use Rattle.formula.specs.Reading.{formulaLimit}
+use Rattle.answers.specs.Answers.{Answered}
+use Rattle.answers.specs.Small.{Small}
 use Rattle.layout.specs.declared.parts.Parts.{Parts}
-use Rattle.layout.specs.Answers.{Answered}
 use Rattle.layout.specs.Parts.{partsAs}
-use Rattle.layout.specs.Small.{Small}
 use Rattle.capi.specs.Words.{answerSpace, noAnswer, answerWords, numberBy, wordsBy, bufferBy}
 
 pub five-stores : (w : List ℤ) (a b c d e : ℤ) → 5 ≤ length w →

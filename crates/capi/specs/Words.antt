@@ -9,7 +9,7 @@ use Prim.Native.Nat.{ℕ}
 use lib.Dec.{leb}
 use lib.IntN.{ℤ, pos}
 use lib.ListN.{length, drop}
-use Rattle.layout.specs.Answers.{Answered}
+use Rattle.answers.specs.Answers.{Answered}
 
 abbrev pub answerSpace : ℕ
 answerSpace = 5

@@ -1,10 +1,10 @@
 -- From what the code finds to the answers of the definition, a law for each way out of it.
 --     style-refused, table-refused, fault-refused, formula-reads     the tests before the walk
 --     given-list                      what the walk asks
---     whole-examined, missing-refused     what the walk without room comes to
+--     whole-examined, missing-examined     what the walk without room comes to
 -- Assumes nothing.
 use mathlib.Core.Path.{_≡_, refl, sym, ap, _∙_}
-use mathlib.Core.Bool.{Bool, true, false, and-eq-true-iff}
+use mathlib.Core.Bool.{true, false, and-eq-true-iff}
 use mathlib.Core.List.{List}
 use mathlib.Core.Option.{none, some}
 use Prim.Native.Nat.{ℕ}
@@ -14,7 +14,7 @@ use Rattle.font.specs.Font.{Font, fontOf}
 use Rattle.font.specs.Answers.{HoldsParameters}
 use Rattle.formula.specs.declared.Fault.{Fault}
 use Rattle.formula.specs.Tree.{Items}
-use Rattle.formula.specs.Reading.{Read, fault, readFormula}
+use Rattle.formula.specs.Reading.{fault, readFormula}
 use Rattle.formula.specs.Places.{treeOf}
 use Rattle.formula.specs.PlacesLaws.{FormulaIs}
 use Rattle.boxes.specs.declared.styles.Style.{Style}
@@ -24,6 +24,8 @@ use Rattle.boxes.specs.ValueLaws.{taken-out}
 use Rattle.setting.specs.Setting.{setList}
 use Rattle.setting.specs.Missing.{missingItems}
 use Rattle.setting.specs.Fitting.{boxFits, itemsFit, listFits}
+use Rattle.answers.specs.Answers.{refusal, styleNumber, tableNumber, faultNumber, missingNumber, tooLargeNumber, ifRead, resultOf}
+use Rattle.answers.specs.AnswersLaws.{no-style, bad-table, read-is, missing-refused, box-is, large-refused}
 use Rattle.walk.specs.declared.lines.Line as lines
 use Rattle.walk.specs.Values.{lineFits}
 use Rattle.walk.specs.Walked.{ListWhole, ListGiven}
@@ -32,41 +34,41 @@ use Rattle.layout.specs.declared.Answer.{Answer}
 use Rattle.layout.specs.declared.Answer.the-variants.{NoStyle, BadTable, Missing}
 use Rattle.layout.specs.declared.Finding.{Finding}
 use Rattle.layout.specs.declared.Finding.the-variants.{Boxed, Refused}
-use Rattle.layout.specs.Answers.{refusal, styleNumber, tableNumber, faultNumber, missingNumber, tooLargeNumber, ifFits, ifPresent, ifRead, ifGood, ifStyle, resultOf}
 use Rattle.layout.specs.Answering.{answeredAs, Refuses, readResult, Reads, Examined, Weighed}
 
 -- ---- the tests before the walk
 
 module _ (style : ℕ) (table formula : List ℕ) where
   pub style-refused : styleOf style ≡ none → Refuses NoStyle (resultOf style table formula)
-  unfolding resultOf ifStyle
   style-refused e =
-      record { number = styleNumber; place = 0; result-is = ap (ifStyle table formula) e; answer-is = refl }
+      record { number = styleNumber; place = 0; result-is = no-style style table formula e; answer-is = refl }
 
   module _ (s : Style) (is : styleOf style ≡ some s) where
-    good-is : (t : Bool) → goodTable table ≡ t → resultOf style table formula ≡ ifGood t (fontOf table) s (readFormula formula)
-    unfolding resultOf ifStyle
-    good-is t e = ap (ifStyle table formula) is ∙ ap (λ (t : Bool). ifGood t (fontOf table) s (readFormula formula)) e
-
     pub table-refused : goodTable table ≡ false → Refuses BadTable (resultOf style table formula)
-    unfolding ifGood
-    table-refused e = record { number = tableNumber; place = 0; result-is = good-is false e; answer-is = refl }
+    table-refused e =
+        record { number = tableNumber; place = 0; result-is = bad-table style table formula s is e; answer-is = refl }
 
     module _ (good : goodTable table ≡ true) where
-      read-is : (r : Read) → readFormula formula ≡ r → resultOf style table formula ≡ ifRead (fontOf table) s r
-      unfolding ifGood
-      read-is r e = good-is true good ∙ ap (ifRead (fontOf table) s) e
-
       pub fault-refused : (why : Fault) (place : ℕ) (a : Answer) → readFormula formula ≡ fault why place →
           answeredAs a ≡ refusal (faultNumber why) place → Refuses a (resultOf style table formula)
       unfolding ifRead
       fault-refused why place a e answer-is =
-          record { number = faultNumber why; place = place; result-is = read-is (fault why place) e; answer-is = answer-is }
+          record {
+            number = faultNumber why;
+            place = place;
+            result-is = read-is style table formula s is good (fault why place) e;
+            answer-is = answer-is;
+          }
 
       pub formula-reads : FormulaIs formula → Reads style table formula s
       unfolding ifRead
       formula-reads f =
-          record { table-good = good; readable = f .readable; short = f .small; result-is = read-is _ (f .is) }
+          record {
+            table-good = good;
+            readable = f .readable;
+            short = f .small;
+            result-is = read-is style table formula s is good _ (f .is);
+          }
 
 -- ---- the walk
 
@@ -82,32 +84,30 @@ module _ (s : Style) (table formula : List ℕ) where
   abbrev tree : Items
   tree = treeOf formula
 
-  pub missing-refused : (place : ℕ) → missingItems F s tree ≡ some place →
+  pub missing-examined : (place : ℕ) → missingItems F s tree ≡ some place →
       Refuses (Missing place) (readResult s table formula)
-  unfolding ifPresent
-  missing-refused place e =
-      record { number = missingNumber; place = place; result-is = ap (ifPresent F s tree) e; answer-is = refl }
+  missing-examined place e =
+      record { number = missingNumber; place = place; result-is = missing-refused F s tree place e; answer-is = refl }
 
   module _ (bytes : ℕ) (c : lines.Line) (w : ListWhole F s tree bytes c) where
-    fits-is : lineFits c ≡ listFits F s tree
+    fits-is : listFits F s tree ≡ lineFits c
     unfolding listFits
-    fits-is = line-fits w
-
-    result-is : (t : Bool) → lineFits c ≡ t → readResult s table formula ≡ ifFits t (setList F s tree)
-    unfolding ifPresent
-    result-is t e =
-        ap (ifPresent F s tree) (w .present) ∙ ap (λ (t : Bool). ifFits t (setList F s tree)) (sym fits-is ∙ e)
+    fits-is = sym (line-fits w)
 
     pub whole-examined : (r : Finding) → Weighed c r → Examined s table formula r
-    unfolding ifFits
     whole-examined (Boxed z n) h =
         let items : itemsFit F s tree ≡ true = and-eq-true-iff (boxFits (setList F s tree)) _ .0 (sym (line-fits w) ∙ h .0) .1 in
         record {
           none-missing = w .present;
           fits = items;
-          result-is = result-is true (h .0);
+          result-is = box-is F s tree (w .present) (fits-is ∙ h .0);
           size-is = ap sizeAs (h .1) ∙ w .size-is items;
           count-is = h .2 ∙ w .run-is items .count-is;
         }
     whole-examined (Refused a) h =
-        record { number = tooLargeNumber; place = 0; result-is = result-is false (h .0); answer-is = ap answeredAs (h .1) }
+        record {
+          number = tooLargeNumber;
+          place = 0;
+          result-is = large-refused F s tree (w .present) (fits-is ∙ h .0);
+          answer-is = ap answeredAs (h .1);
+        }

@@ -6,14 +6,12 @@
 --     measured-refused, refused-is     a formula that is refused
 --     refused-later    a refusal by the walk is one of the whole
 -- Assumes nothing.
-use mathlib.Core.Path.{_≡_, refl, sym, ap, subst, _∙_}
-use mathlib.Core.Bool.{false}
+use mathlib.Core.Path.{_≡_, sym, ap, subst, _∙_}
 use mathlib.Core.List.{List, [], _++_, append-nil}
 use mathlib.Core.Option.{none, some}
 use Prim.Native.Nat.{ℕ, _*_, _≤_, _<_}
 use native.Mathlib.Omega.{arith}
 use lib.ListN.{length, take, drop, length-take, drop-of-length-le}
-use borrow.Author.Tests.{lt-leb}
 use Rattle.font.specs.Font.{fontOf}
 use Rattle.formula.specs.Places.{treeOf}
 use Rattle.boxes.specs.declared.styles.Style.{Style}
@@ -21,14 +19,14 @@ use Rattle.boxes.specs.declared.Size.{Size}
 use Rattle.nodes.specs.Nodes.{Node, bytesOf, bytesInNode}
 use Rattle.nodes.specs.Drawn.{Drawn}
 use Rattle.setting.specs.Setting.{Box, setList}
+use Rattle.answers.specs.Answers.{boxed, resultOf, Answered, accepted, measured, setting, bufferAfter}
+use Rattle.answers.specs.AnswersLaws as answers
 use Rattle.walk.specs.declared.lists.ItemsSet.{ItemsSet}
 use Rattle.walk.specs.declared.lists.ItemsSet.the-variants.{Whole, Missing}
 use Rattle.walk.specs.Walked.{ListDone}
 use Rattle.layout.specs.declared.Answer.{Answer}
 use Rattle.layout.specs.declared.Answer.the-variants.{Accepted, NoRoom}
-use Rattle.layout.specs.Answers.{boxed, resultOf, Answered, accepted, measuredBy, measured, hasRoom, setBy, setting, bufferBy, bufferAfter}
 use Rattle.layout.specs.Answering.{answeredAs, Refuses, readResult, Reads, Boxes}
-use Rattle.layout.proofs.Accepting.{measured-boxed, set-boxed, buffer-boxed}
 
 -- the front of a buffer that is just long enough for the nodes
 drawn-whole : (ns : List Node) (n : ℕ) (b ys : List ℕ) → n ≡ length ns → bytesInNode * n ≤ length b →
@@ -54,7 +52,7 @@ module _ (style : ℕ) (table formula : List ℕ) where
           let answer : answeredAs (Accepted z n) ≡ accepted found =
           λ i. record { number = 0; place = 0; size = h .size-is i; count = h .count-is i }
           in
-          answer ∙ sym (measured-boxed style table formula found found-is)
+          answer ∙ sym (answers.measured-boxed style table formula found found-is)
 
       count-measured : n ≡ measured style table formula .count
       count-measured = ap (λ (a : Answered). a .count) measured-is
@@ -62,20 +60,14 @@ module _ (style : ℕ) (table formula : List ℕ) where
       pub setting-is : (room : ℕ) → bytesInNode * n ≤ room → answeredAs (Accepted z n) ≡ setting style table formula room
       setting-is room l =
           measured-is
-          ∙ sym (set-boxed style table formula found found-is room (subst (λ (k : ℕ). bytesInNode * k ≤ room) count-measured l))
-
-      lacks-room : (room : ℕ) → room < bytesInNode * n → hasRoom room found ≡ false
-      unfolding hasRoom
-      lacks-room room l =
-          lt-leb (bytesInNode * length (found .nodes)) room (subst (λ (k : ℕ). room < bytesInNode * k) (h .count-is) l)
+          ∙ sym (answers.set-boxed style table formula found found-is room (subst (λ (k : ℕ). bytesInNode * k ≤ room) count-measured l))
 
       pub no-room-is : (b : List ℕ) → length b < bytesInNode * n →
           (answeredAs NoRoom ≡ setting style table formula (length b)) × (b ≡ bufferAfter style table formula b)
-      unfolding setting setBy bufferAfter bufferBy
-      no-room-is b l = (
-        sym (ap (setBy (length b)) found-is ∙ rw (lacks-room (length b) l, setBy) refl),
-        sym (ap (bufferBy b) found-is ∙ rw (lacks-room (length b) l, bufferBy) refl),
-      )
+      no-room-is b l =
+          let lacks : length b < bytesInNode * measured style table formula .count = rw count-measured at l in
+          let e = answers.no-room-is style table formula found found-is b lacks in
+          (sym (e .0), sym (e .1))
 
       pub written-is : (b ys : List ℕ) (r : ItemsSet) → bytesInNode * n ≤ length b →
           ListDone (fontOf table) s (treeOf formula) (length formula) (take (bytesInNode * n) b) r ys →
@@ -88,7 +80,7 @@ module _ (style : ℕ) (table formula : List ℕ) where
           let front : ys ≡ bytesOf (found .nodes) = drawn-whole (found .nodes) n b ys (h .count-is) l (done .1 (h .fits)) in
           ap (λ (r : List ℕ). r ++ drop (bytesInNode * n) b) front
           ∙ ap (λ (k : ℕ). bytesOf (found .nodes) ++ drop (bytesInNode * k) b) count-measured
-          ∙ sym (buffer-boxed style table formula found found-is b (subst (λ (k : ℕ). bytesInNode * k ≤ length b) count-measured l))
+          ∙ sym (answers.buffer-boxed style table formula found found-is b (subst (λ (k : ℕ). bytesInNode * k ≤ length b) count-measured l))
 
     pub refused-later : (a : Answer) → Refuses a (readResult s table formula) → Refuses a (resultOf style table formula)
     refused-later a h =
@@ -96,10 +88,10 @@ module _ (style : ℕ) (table formula : List ℕ) where
 
   module _ (a : Answer) (h : Refuses a (resultOf style table formula)) where
     pub measured-refused : answeredAs a ≡ measured style table formula
-    unfolding measured measuredBy
-    measured-refused = h .answer-is ∙ sym (ap measuredBy (h .result-is))
+    measured-refused = h .answer-is ∙ sym (answers.measured-refused style table formula _ _ (h .result-is))
 
     pub refused-is : (b : List ℕ) →
         (answeredAs a ≡ setting style table formula (length b)) × (b ≡ bufferAfter style table formula b)
-    unfolding setting setBy bufferAfter bufferBy
-    refused-is b = (h .answer-is ∙ sym (ap (setBy (length b)) (h .result-is)), sym (ap (bufferBy b) (h .result-is)))
+    refused-is b =
+        let e = answers.refused-is style table formula _ _ (h .result-is) b in
+        (h .answer-is ∙ sym (e .0), sym (e .1))

@@ -1,13 +1,3 @@
--- The worked examples; measuring and setting agree; a field in the whole as it stands alone; laws of the entries. Assumes nothing.
-mod BenchTable
-mod Definitions
-mod Examples
-mod Agreement
-mod Accepting
-mod MovedBytes
-mod FieldBytes
-mod ListFields
-mod Demand3
-mod FieldExample
+-- From what the code finds to the answers of the definition. Assumes nothing.
 mod AnsweringLaws
 mod EntryLaws

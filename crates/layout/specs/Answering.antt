@@ -22,6 +22,7 @@ use Rattle.boxes.specs.Values.{sizeAs}
 use Rattle.setting.specs.Setting.{setList}
 use Rattle.setting.specs.Missing.{missingItems}
 use Rattle.setting.specs.Fitting.{itemsFit}
+use Rattle.answers.specs.Answers.{Answered, refusal, acceptedNumber, styleNumber, tableNumber, faultNumber, missingNumber, tooLargeNumber, noRoomNumber, Result, boxed, refused, ifPresent, resultOf}
 use Rattle.walk.specs.declared.lines.Line.{Line}
 use Rattle.walk.specs.Values.{lineFits}
 use Rattle.layout.specs.declared.Answer.{Answer}
@@ -30,7 +31,6 @@ use Rattle.layout.specs.declared.Reading.{Reading}
 use Rattle.layout.specs.declared.Reading.the-variants as reading
 use Rattle.layout.specs.declared.Finding.{Finding}
 use Rattle.layout.specs.declared.Finding.the-variants as finding
-use Rattle.layout.specs.Answers.{Answered, refusal, acceptedNumber, styleNumber, tableNumber, faultNumber, missingNumber, tooLargeNumber, noRoomNumber, Result, boxed, refused, ifPresent, resultOf}
 
 abbrev pub answeredAs : Answer → Answered
 answeredAs (Accepted z n) = record { number = acceptedNumber; place = 0; size = sizeAs z; count = n }

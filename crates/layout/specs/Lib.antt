@@ -1,5 +1,3 @@
--- The answers, and how a value of the code stands for one. Assumes nothing.
-pub mod Answers
+-- How a value of the code stands for an answer, and what the functions below the entries find. Assumes nothing.
 pub mod Answering
 pub mod Parts
-pub mod Small

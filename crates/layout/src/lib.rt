@@ -3,8 +3,8 @@
 
 ghost use mathlib.Core.Path.{_≡_};
 ghost use lib.ListN.{length};
+ghost use Rattle.answers.specs.Answers.{faultNumber, refusal, measured, setting, bufferAfter};
 ghost use Rattle.walk.specs.Walked.{ListGiven};
-ghost use Rattle.layout.specs.Answers.{faultNumber, refusal, measured, setting, bufferAfter};
 ghost use Rattle.layout.specs.Answering.{answeredAs, ReadDone, Examined, Weighed};
 
 pub mod parts;

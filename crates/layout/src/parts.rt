@@ -1,7 +1,7 @@
 // An answer taken apart, for those who show it or hand it on.
 
 ghost use mathlib.Core.Path.{_≡_};
-ghost use Rattle.layout.specs.Answers.{refusal};
+ghost use Rattle.answers.specs.Answers.{refusal};
 ghost use Rattle.layout.specs.Answering.{answeredAs};
 ghost use Rattle.layout.specs.Parts.{partsAs};
 use crate::Answer;

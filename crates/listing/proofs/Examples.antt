@@ -5,7 +5,7 @@ use lib.IntN.{pos, negsuc}
 use Rattle.scaled.specs.Length.{pick, maxℤ}
 use Rattle.words.specs.Words.{littleEndian, signedWord, wordOf, fourBytes}
 use Rattle.nodes.specs.Nodes.{glyph, rule, signedBytes, nodeBytes}
-use Rattle.layout.specs.Answers.{refusal}
+use Rattle.answers.specs.Answers.{refusal}
 use Rattle.listing.specs.Decimals.{digitsBy, decimalOf, textOf}
 use Rattle.listing.specs.Lines.{answerLine, nodeLine, nodeIn}
 

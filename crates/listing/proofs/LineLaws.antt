@@ -6,7 +6,7 @@ use mathlib.Core.List.{List}
 use Prim.Native.Nat.{ℕ}
 use borrow.Author.Tests.{eq-eqb, ne-eqb}
 use lib.ListN.{getD}
-use Rattle.layout.specs.Answers.{Answered, acceptedNumber}
+use Rattle.answers.specs.Answers.{Answered, acceptedNumber}
 use Rattle.nodes.specs.Nodes.{Node}
 use Rattle.listing.specs.Lines.{sizesLine, refusalLine, answerLine, glyphIn, ruleIn, nodeIn}
 

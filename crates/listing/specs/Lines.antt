@@ -12,7 +12,7 @@ use lib.ListN.{drop, getD}
 use Rattle.words.specs.Words.{littleEndian, signedWord}
 use Rattle.boxes.specs.Boxes.{Size}
 use Rattle.nodes.specs.Nodes.{Node, glyph, rule}
-use Rattle.layout.specs.Answers.{Answered, acceptedNumber}
+use Rattle.answers.specs.Answers.{Answered, acceptedNumber}
 use Rattle.listing.specs.Decimals.{decimalOf, textOf}
 
 -- ---- what stands between the numbers

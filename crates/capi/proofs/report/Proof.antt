@@ -2,7 +2,7 @@
 use mathlib.Core.Path.{refl, ap, _∙_}
 use native.Mathlib.Omega.{arith}
 use lib.ListN.{length-set}
-use Rattle.layout.specs.Answers.{Answered}
+use Rattle.answers.specs.Answers.{Answered}
 use Rattle.capi.specs.Words.{answerWords}
 use Rattle.capi.proofs.Stores.{five-stores, kept, count-kept, parts-small}
 use borrow.Author.Needs.{needs}

@@ -1,6 +1,6 @@
 -- The answer of measuring, where there is room for it.
 use mathlib.Core.Path.{sym, subst, _∙_}
-use Rattle.layout.specs.Small.{Small, measured-small}
+use Rattle.answers.specs.Small.{Small, measured-small}
 use Rattle.capi.proofs.Stores.{number-short, words-short, number-enough, words-enough}
 use borrow.Author.Needs.{needs}
 use Rattle.capi.proofs.torfianka_measure.Statement.{statement}

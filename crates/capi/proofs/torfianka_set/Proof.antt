@@ -1,6 +1,6 @@
 -- The answer of setting, and the buffer, where there is room for the answer.
 use mathlib.Core.Path.{sym, subst, _∙_}
-use Rattle.layout.specs.Small.{Small, setting-small}
+use Rattle.answers.specs.Small.{Small, setting-small}
 use Rattle.capi.proofs.Stores.{number-short, words-short, buffer-short, number-enough, words-enough, buffer-enough}
 use borrow.Author.Needs.{needs}
 use Rattle.capi.proofs.torfianka_set.Statement.{statement}

@@ -1,6 +1,6 @@
--- What the walk finds without room, by `whole-examined` and `missing-refused`.
+-- What the walk finds without room, by `whole-examined` and `missing-examined`.
 use borrow.Author.Needs.{needs}
-use Rattle.layout.proofs.AnsweringLaws.{whole-examined, missing-refused}
+use Rattle.layout.proofs.AnsweringLaws.{whole-examined, missing-examined}
 use Rattle.layout.proofs.examine.Statement.{statement}
 use Rattle.layout.proofs.examine.Tie as tie
 
@@ -27,7 +27,7 @@ returns c =
 returns-2 : tie.Need-returns-2
 returns-2 c =
     let done = rw (c .before .l2 .given .1) at (c .before .before .before .before .set-list .ensures) in
-    missing-refused _ _ _ _ (done .0)
+    missing-examined _ _ _ _ (done .0)
 
 pub examine-spec : {M : Type 1} → statement M
 examine-spec =

@@ -2,7 +2,7 @@
 use mathlib.Core.Path.{sym, ap}
 use borrow.Author.Needs.{needs}
 use Rattle.formula.specs.declared.Fault.{Fault}
-use Rattle.layout.specs.Answers.{refusal, faultNumber}
+use Rattle.answers.specs.Answers.{refusal, faultNumber}
 use Rattle.layout.proofs.faulty.Statement.{statement}
 use Rattle.layout.proofs.faulty.Tie as tie
 

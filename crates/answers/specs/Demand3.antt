@@ -37,11 +37,12 @@ use Rattle.setting.specs.Frames.{Frame, movedBy, framed}
 use Rattle.setting.specs.Paths.{Step, holder, stepStyle, Path, into, fill, styleAt, placeOf}
 use Rattle.setting.specs.FieldInPlace.{sized, itemAround, size-used, frame, field-in-place}
 use Rattle.setting.specs.FieldAlone.{missing-alone, fits-alone}
-use Rattle.layout.specs.Answers.{Answered, acceptedNumber, accepted, measured, setting, bufferAfter, resultOf, boxed}
-use Rattle.layout.proofs.Accepting.{Accepted, accepted-reads, Passed, passed, boxed-of, measured-boxed, set-boxed, buffer-boxed}
-use Rattle.layout.proofs.MovedBytes.{OnlyPlaceMoved, nodeAt, nodes-passed, moved-as, moved-at}
-use Rattle.layout.proofs.FieldBytes.{fieldPart, read-formula, field-reads}
-use Rattle.layout.proofs.ListFields.{ListFieldAt, reached}
+use Rattle.answers.specs.Answers.{Answered, acceptedNumber, accepted, measured, setting, bufferAfter, resultOf, boxed}
+use Rattle.answers.specs.AnswersLaws.{measured-boxed, set-boxed, buffer-boxed}
+use Rattle.answers.specs.Accepting.{Accepted, accepted-reads, Passed, passed, boxed-of}
+use Rattle.answers.specs.MovedBytes.{OnlyPlaceMoved, nodeAt, nodes-passed, moved-as, moved-at}
+use Rattle.answers.specs.FieldBytes.{fieldPart, read-formula, field-reads}
+use Rattle.answers.specs.ListFields.{ListFieldAt, reached}
 
 -- ---- the number of a style
 

@@ -3,16 +3,13 @@
 --     accepted-reads     whatever setting accepts has a style and a tree
 --     Passed             of a tree: the table is good, no symbol is missing, and all of it fits
 --     passed, boxed-of   the tree of an accepted formula passes; a formula whose tree passes is boxed
---     measured-boxed, set-boxed, buffer-boxed    what measuring and setting make of a box
 -- Assumes nothing.
 use mathlib.Core.Path.{_≡_, refl, sym, ap, _∙_}
 use mathlib.Core.Bool.{Bool, true, false}
-use mathlib.Core.List.{List, _++_}
+use mathlib.Core.List.{List}
 use mathlib.Core.Option.{Option, none, some}
-use Prim.Native.Nat.{ℕ, _*_, _≤_}
+use Prim.Native.Nat.{ℕ}
 use native.Mathlib.Omega.{arith}
-use lib.ListN.{length, drop}
-use borrow.Author.Tests.{le-leb}
 use Rattle.font.specs.Table.{goodTable}
 use Rattle.font.specs.Font.{Font, fontOf}
 use Rattle.formula.specs.declared.Fault.the-variants.{Unreadable, TooDeep}
@@ -20,11 +17,11 @@ use Rattle.formula.specs.Tree.{Items}
 use Rattle.formula.specs.Reading.{Read, good, fault, readFormula}
 use Rattle.boxes.specs.declared.styles.Style.{Style}
 use Rattle.boxes.specs.Styles.{styleOf}
-use Rattle.nodes.specs.Nodes.{bytesOf, bytesInNode}
 use Rattle.setting.specs.Setting.{Box, setList}
 use Rattle.setting.specs.Missing.{missingItems}
 use Rattle.setting.specs.Fitting.{listFits}
-use Rattle.layout.specs.Answers.{Result, boxed, acceptedNumber, ifFits, ifPresent, ifRead, ifGood, ifStyle, resultOf, accepted, measuredBy, measured, hasRoom, setBy, setting, bufferBy, bufferAfter}
+use Rattle.answers.specs.Answers.{Result, boxed, acceptedNumber, ifFits, ifPresent, ifRead, ifGood, ifStyle, resultOf, setBy, setting}
+use Rattle.answers.specs.AnswersLaws.{tested-is, read-is, box-is}
 
 pub record Accepted (style : ℕ) (table formula : List ℕ) (s : Style) (tree : Items) : Type 0 where
   pub style-is : styleOf style ≡ some s
@@ -87,21 +84,12 @@ accepted-reads style table formula room e = go (styleOf style) refl e
 -- ---- from the answer to the tree, and back
 
 module _ (style : ℕ) (table formula : List ℕ) (s : Style) (tree : Items) where
-  result-is : styleOf style ≡ some s → readFormula formula ≡ good tree →
-      resultOf style table formula ≡ ifGood (goodTable table) (fontOf table) s (good tree)
-  unfolding resultOf ifStyle
-  result-is style-is reads =
-      ap (ifStyle table formula) style-is ∙ ap (ifGood (goodTable table) (fontOf table) s) reads
-
   pub boxed-of : styleOf style ≡ some s → readFormula formula ≡ good tree → Passed table s tree →
       resultOf style table formula ≡ boxed (setList (fontOf table) s tree)
-  unfolding ifGood ifRead ifPresent ifFits
+  unfolding ifRead
   boxed-of style-is reads h =
-      let F = fontOf table in
-      result-is style-is reads
-      ∙ ap (λ (t : Bool). ifGood t F s (good tree)) (h .table-good)
-      ∙ ap (ifPresent F s tree) (h .none-missing)
-      ∙ ap (λ (t : Bool). ifFits t (setList F s tree)) (h .fits)
+      read-is style table formula s style-is (h .table-good) (good tree) reads
+      ∙ box-is (fontOf table) s tree (h .none-missing) (h .fits)
 
 pub passed : {style : ℕ} {table formula : List ℕ} {s : Style} {tree : Items} →
     Accepted style table formula s tree → Passed table s tree
@@ -109,7 +97,7 @@ unfolding setting ifGood ifRead ifPresent
 passed {style} {table} {formula} {s} {tree} h =
     let F = fontOf table in
     let room = h .room in
-    let is = result-is style table formula s tree (h .style-is) (h .reads) in
+    let is = tested-is style table formula s (h .style-is) (goodTable table) (good tree) refl (h .reads) in
     let tested : setBy room (ifGood (goodTable table) F s (good tree)) .number ≡ acceptedNumber =
     ap (λ (r : Result). setBy room r .number) (sym is) ∙ h .is-accepted
     in
@@ -126,26 +114,3 @@ passed {style} {table} {formula} {s} {tree} h =
       none-missing = none-missing;
       fits = fit-passed room (setList F s tree) (listFits F s tree) tested-fit;
     }
-
--- ---- what is made of a box, by the count that measuring gives
-
-module _ (style : ℕ) (table formula : List ℕ) (b : Box) (is : resultOf style table formula ≡ boxed b) where
-  pub measured-boxed : measured style table formula ≡ accepted b
-  unfolding measured measuredBy
-  measured-boxed = ap measuredBy is
-
-  room-is : (bytes : ℕ) → bytesInNode * measured style table formula .count ≤ bytes → hasRoom bytes b ≡ true
-  unfolding hasRoom
-  room-is bytes h = le-leb (bytesInNode * length (b .nodes)) bytes (rw measured-boxed at h)
-
-  pub set-boxed : (room : ℕ) → bytesInNode * measured style table formula .count ≤ room →
-      setting style table formula room ≡ measured style table formula
-  unfolding setting setBy
-  set-boxed room h = ap (setBy room) is ∙ rw (room-is room h, setBy) (sym measured-boxed)
-
-  pub buffer-boxed : (buffer : List ℕ) →
-      let bytes = bytesInNode * measured style table formula .count in
-      bytes ≤ length buffer → bufferAfter style table formula buffer ≡ bytesOf (b .nodes) ++ drop bytes buffer
-  unfolding bufferAfter bufferBy
-  buffer-boxed buffer h =
-      ap (bufferBy buffer) is ∙ rw (room-is (length buffer) h, bufferBy) (rw measured-boxed)

@@ -38,7 +38,7 @@ use Rattle.nodes.specs.NodeLaws.{length-moved}
 use Rattle.setting.specs.Setting.{Box, Line, Symbol as SetSymbol, Part, symbolIn, symbolPart, ruleNodes, itemNodes, itemBox, placed, nextClass, start, setItems, setItem, setField, setList}
 use Rattle.setting.specs.Missing.{_orElse_, later, absentAt, missingItems, missingItem, missingField}
 use Rattle.setting.specs.Fitting.{listFits}
-use Rattle.layout.specs.Answers.{Answered, Result, boxed, refused, refusal, accepted, noRoomNumber, ifFits, ifPresent, ifRead, ifGood, ifStyle, resultOf, measuredBy, measured, hasRoom, setBy, setting}
+use Rattle.answers.specs.Answers.{Answered, Result, boxed, refused, refusal, accepted, noRoomNumber, ifFits, ifPresent, ifRead, ifGood, ifStyle, resultOf, measuredBy, measured, hasRoom, setBy, setting}
 
 -- ---- what is written in n bytes
 

@@ -7,9 +7,9 @@ use Prim.Native.Nat.{ℕ}
 use lib.IntN.{ℤ, pos, negℤ}
 use Rattle.nodes.specs.Nodes.{Node, glyph, rule}
 use Rattle.setting.specs.Setting.{Box}
-use Rattle.layout.specs.Answers.{Result, boxed, resultOf, Answered, measured, setting, bufferAfter}
-use Rattle.layout.proofs.BenchTable.{benchTable}
-use Rattle.layout.proofs.Definitions.{definitions}
+use Rattle.answers.specs.Answers.{Result, boxed, resultOf, Answered, measured, setting, bufferAfter}
+use Rattle.answers.specs.BenchTable.{benchTable}
+use Rattle.answers.specs.Definitions.{definitions}
 
 -- ---- formulas as bytes
 

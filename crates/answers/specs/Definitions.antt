@@ -20,7 +20,7 @@ use Rattle.nodes.specs.Bounds.{nodesFit}
 use Rattle.setting.specs.Setting.{found, successor, enlarged, symbolIn, symbolPart, ruleNodes, itemNodes, itemBox, placed, nextClass, setItems, setItem, setField, setList}
 use Rattle.setting.specs.Missing.{later, absentAt, missingItems, missingItem, missingField}
 use Rattle.setting.specs.Fitting.{boxFits, itemsFit, itemFits, fieldFits, listFits}
-use Rattle.layout.specs.Answers.{ifFits, ifPresent, ifRead, ifGood, ifStyle, resultOf, measuredBy, measured, hasRoom, setBy, setting, bufferBy, bufferAfter}
+use Rattle.answers.specs.Answers.{ifFits, ifPresent, ifRead, ifGood, ifStyle, resultOf, measuredBy, measured, hasRoom, setBy, setting, bufferBy, bufferAfter}
 
 unfoldable pub definitions : Unit {0}
 unfolding pick maxℤ minℤ half atQuad littleEndian signedWord wordOf fourBytes pieces characterCount parameterRecords characterRecords words marked parameterWords metricWords every goodParameters goodCharacter before rising goodLength goodTable successorOf metricsOf isOf lookup fontOf itemsBytes itemBytes fieldBytes markIn markOf atomOf atomOpening fractionOf fractionOpening kernWithin kernOpening opens openingOf symbolHead listHead fieldHead listGot fieldBy fieldAt thirdAt noadAt openedBy itemBy beforeReading restBy listBy readBy read readFormula styleOf changedClass row chart spaceBefore greatest limited drops subscriptDown leastUp superscriptUp pairDown gapDown ψOf lifted spread pairShifts scripted fractionShifts parted shiftsWithoutBar cleared shiftsWithBar fraction nucleusOf arrange moved signedBytes nodeBytes bytesOf found successor enlarged symbolIn symbolPart ruleNodes itemNodes itemBox placed nextClass setItems setItem setField setList later absentAt missingItems missingItem missingField nodesFit boxFits itemsFit itemFits fieldFits listFits ifFits ifPresent ifRead ifGood ifStyle resultOf measuredBy measured hasRoom setBy setting bufferBy bufferAfter

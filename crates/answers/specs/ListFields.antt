@@ -26,7 +26,7 @@ use Rattle.formula.specs.Heads.{openingOf, listHead, fieldHead}
 use Rattle.formula.specs.Places.{Readable, treeOf, fieldOf, GoodField, hasThird, second, third, itemSize, fieldIn, thirdIn, itemOf}
 use Rattle.formula.specs.PlacesLaws.{Noad, noad-at, step, third-good, items-bytes, item-bytes, field-bytes}
 use Rattle.setting.specs.Paths.{Arm, inFirst, inSecond, inThird, holding, fieldPlace, Step, join, listWith, stepPlace, Path, whole, into, fill, placeOf}
-use Rattle.layout.proofs.FieldBytes.{fieldPart, part-of-part}
+use Rattle.answers.specs.FieldBytes.{fieldPart, part-of-part}
 
 -- ---- what stands where
 

@@ -19,13 +19,13 @@ use Rattle.boxes.specs.declared.styles.Level.the-variants.{Text}
 use Rattle.boxes.specs.Styles.{plain}
 use Rattle.nodes.specs.Nodes.{glyph}
 use Rattle.setting.specs.Paths.{inSecond, Step, whole, into, fill}
-use Rattle.layout.specs.Answers.{measured}
-use Rattle.layout.proofs.BenchTable.{benchTable}
-use Rattle.layout.proofs.Definitions.{definitions}
-use Rattle.layout.proofs.Accepting.{Accepted}
-use Rattle.layout.proofs.FieldBytes.{fieldPart}
-use Rattle.layout.proofs.ListFields.{first, next, inOne, inTwo, listField, OwnListField, ListFieldAt, own, deeper}
-use Rattle.layout.proofs.Demand3.{fieldStyleNumber, around, FieldAsAlone, demand-3, ListFieldAsAlone, demand-3-at}
+use Rattle.answers.specs.Answers.{measured}
+use Rattle.answers.specs.BenchTable.{benchTable}
+use Rattle.answers.specs.Definitions.{definitions}
+use Rattle.answers.specs.Accepting.{Accepted}
+use Rattle.answers.specs.FieldBytes.{fieldPart}
+use Rattle.answers.specs.ListFields.{first, next, inOne, inTwo, listField, OwnListField, ListFieldAt, own, deeper}
+use Rattle.answers.specs.Demand3.{fieldStyleNumber, around, FieldAsAlone, demand-3, ListFieldAsAlone, demand-3-at}
 
 abbrev T : ℕ
 T = 2

@@ -21,7 +21,7 @@ use Rattle.nodes.specs.Nodes.{bytesInNode}
 use Rattle.setting.specs.Setting.{Box, setList}
 use Rattle.setting.specs.Missing.{missingItems}
 use Rattle.setting.specs.Fitting.{listFits}
-use Rattle.layout.specs.Answers.{Result, boxed, refused, ifFits, ifPresent, ifRead, ifGood, ifStyle, resultOf, Answered, accepted, refusal, measuredBy, measured, hasRoom, setBy, setting, acceptedNumber, noRoomNumber}
+use Rattle.answers.specs.Answers.{Result, boxed, refused, ifFits, ifPresent, ifRead, ifGood, ifStyle, resultOf, Answered, accepted, refusal, measuredBy, measured, hasRoom, setBy, setting, acceptedNumber, noRoomNumber}
 
 -- ---- a refusal before the test of room has neither the number of an acceptance nor that of this test
 

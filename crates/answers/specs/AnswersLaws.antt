@@ -1,0 +1,115 @@
+-- The answers, a law for each way that a formula goes.
+--     no-style, bad-table, read-is                     the tests before the setting
+--     missing-refused, box-is, large-refused           what is found of a tree
+--     measured-boxed, set-boxed, buffer-boxed          what measuring and setting make of a box, where there is room
+--     no-room-is                                       what setting makes of it where there is none
+--     measured-refused, refused-is                     what they make of a refusal
+-- Assumes nothing.
+use mathlib.Core.Path.{_≡_, refl, sym, ap, ap₂, _∙_}
+use mathlib.Core.Bool.{Bool, true, false}
+use mathlib.Core.List.{List, _++_}
+use mathlib.Core.Option.{none, some}
+use Prim.Native.Nat.{ℕ, _*_, _≤_, _<_}
+use lib.ListN.{length, drop}
+use borrow.Author.Tests.{le-leb, lt-leb}
+use Rattle.font.specs.Table.{goodTable}
+use Rattle.font.specs.Font.{Font, fontOf}
+use Rattle.formula.specs.Tree.{Items}
+use Rattle.formula.specs.Reading.{Read, readFormula}
+use Rattle.boxes.specs.declared.styles.Style.{Style}
+use Rattle.boxes.specs.Styles.{styleOf}
+use Rattle.nodes.specs.Nodes.{bytesOf, bytesInNode}
+use Rattle.setting.specs.Setting.{Box, setList}
+use Rattle.setting.specs.Missing.{missingItems}
+use Rattle.setting.specs.Fitting.{listFits}
+use Rattle.answers.specs.Answers.{Result, boxed, refused, styleNumber, tableNumber, missingNumber, tooLargeNumber, noRoomNumber, ifFits, ifPresent, ifRead, ifGood, ifStyle, resultOf, accepted, refusal, measuredBy, measured, hasRoom, setBy, setting, bufferBy, bufferAfter}
+
+-- ---- the tests before the setting
+
+module _ (style : ℕ) (table formula : List ℕ) where
+  pub no-style : styleOf style ≡ none → resultOf style table formula ≡ refused styleNumber 0
+  unfolding resultOf ifStyle
+  no-style e = ap (ifStyle table formula) e
+
+  module _ (s : Style) (is : styleOf style ≡ some s) where
+    pub tested-is : (t : Bool) (r : Read) → goodTable table ≡ t → readFormula formula ≡ r →
+        resultOf style table formula ≡ ifGood t (fontOf table) s r
+    unfolding resultOf ifStyle
+    tested-is t r good reads =
+        ap (ifStyle table formula) is ∙ ap₂ (λ (t : Bool) (r : Read). ifGood t (fontOf table) s r) good reads
+
+    pub bad-table : goodTable table ≡ false → resultOf style table formula ≡ refused tableNumber 0
+    unfolding ifGood
+    bad-table bad = tested-is false _ bad refl
+
+    pub read-is : goodTable table ≡ true → (r : Read) → readFormula formula ≡ r →
+        resultOf style table formula ≡ ifRead (fontOf table) s r
+    unfolding ifGood
+    read-is good r reads = tested-is true r good reads
+
+-- ---- what is found of a tree
+
+module _ (F : Font) (s : Style) (l : Items) where
+  pub missing-refused : (place : ℕ) → missingItems F s l ≡ some place →
+      ifPresent F s l (missingItems F s l) ≡ refused missingNumber place
+  unfolding ifPresent
+  missing-refused place e = ap (ifPresent F s l) e
+
+  module _ (present : missingItems F s l ≡ none) where
+    weighed-is : (t : Bool) → listFits F s l ≡ t → ifPresent F s l (missingItems F s l) ≡ ifFits t (setList F s l)
+    unfolding ifPresent
+    weighed-is t e = ap (ifPresent F s l) present ∙ ap (λ (t : Bool). ifFits t (setList F s l)) e
+
+    pub box-is : listFits F s l ≡ true → ifPresent F s l (missingItems F s l) ≡ boxed (setList F s l)
+    unfolding ifFits
+    box-is e = weighed-is true e
+
+    pub large-refused : listFits F s l ≡ false → ifPresent F s l (missingItems F s l) ≡ refused tooLargeNumber 0
+    unfolding ifFits
+    large-refused e = weighed-is false e
+
+-- ---- what is made of a box, by the count that measuring gives
+
+module _ (style : ℕ) (table formula : List ℕ) (b : Box) (is : resultOf style table formula ≡ boxed b) where
+  pub measured-boxed : measured style table formula ≡ accepted b
+  unfolding measured measuredBy
+  measured-boxed = ap measuredBy is
+
+  room-is : (bytes : ℕ) → bytesInNode * measured style table formula .count ≤ bytes → hasRoom bytes b ≡ true
+  unfolding hasRoom
+  room-is bytes h = le-leb (bytesInNode * length (b .nodes)) bytes (rw measured-boxed at h)
+
+  pub set-boxed : (room : ℕ) → bytesInNode * measured style table formula .count ≤ room →
+      setting style table formula room ≡ measured style table formula
+  unfolding setting setBy
+  set-boxed room h = ap (setBy room) is ∙ rw (room-is room h, setBy) (sym measured-boxed)
+
+  pub buffer-boxed : (buffer : List ℕ) →
+      let bytes = bytesInNode * measured style table formula .count in
+      bytes ≤ length buffer → bufferAfter style table formula buffer ≡ bytesOf (b .nodes) ++ drop bytes buffer
+  unfolding bufferAfter bufferBy
+  buffer-boxed buffer h =
+      ap (bufferBy buffer) is ∙ rw (room-is (length buffer) h, bufferBy) (rw measured-boxed)
+
+  lacks-room : (bytes : ℕ) → bytes < bytesInNode * measured style table formula .count → hasRoom bytes b ≡ false
+  unfolding hasRoom
+  lacks-room bytes h = lt-leb (bytesInNode * length (b .nodes)) bytes (rw measured-boxed at h)
+
+  pub no-room-is : (buffer : List ℕ) → length buffer < bytesInNode * measured style table formula .count →
+      (setting style table formula (length buffer) ≡ refusal noRoomNumber 0) × (bufferAfter style table formula buffer ≡ buffer)
+  unfolding setting setBy bufferAfter bufferBy
+  no-room-is buffer h =
+      let lacks = lacks-room (length buffer) h in
+      (ap (setBy (length buffer)) is ∙ rw (lacks, setBy) refl, ap (bufferBy buffer) is ∙ rw (lacks, bufferBy) refl)
+
+-- ---- what is made of a refusal
+
+module _ (style : ℕ) (table formula : List ℕ) (number place : ℕ) (is : resultOf style table formula ≡ refused number place) where
+  pub measured-refused : measured style table formula ≡ refusal number place
+  unfolding measured measuredBy
+  measured-refused = ap measuredBy is
+
+  pub refused-is : (buffer : List ℕ) →
+      (setting style table formula (length buffer) ≡ refusal number place) × (bufferAfter style table formula buffer ≡ buffer)
+  unfolding setting setBy bufferAfter bufferBy
+  refused-is buffer = (ap (setBy (length buffer)) is, ap (bufferBy buffer) is)

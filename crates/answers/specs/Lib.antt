@@ -1,0 +1,15 @@
+-- The answers; their laws; how small they are; measuring and setting agree; a list field in the whole as it stands alone; the
+-- worked examples. Assumes nothing.
+pub mod Answers
+pub mod AnswersLaws
+pub mod Small
+pub mod Agreement
+pub mod Accepting
+pub mod MovedBytes
+pub mod FieldBytes
+pub mod ListFields
+pub mod Demand3
+pub mod BenchTable
+pub mod Definitions
+pub mod Examples
+pub mod FieldExample
