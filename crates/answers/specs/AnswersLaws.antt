@@ -89,7 +89,7 @@ module _ (style : ℕ) (table formula : List ℕ) (b : Box) (is : resultOf style
       bytes ≤ length buffer → bufferAfter style table formula buffer ≡ bytesOf (b .nodes) ++ drop bytes buffer
   unfolding bufferAfter bufferBy
   buffer-boxed buffer h =
-      ap (bufferBy buffer) is ∙ rw (room-is (length buffer) h, bufferBy) (rw measured-boxed)
+      ap (bufferBy buffer) is ∙ rw (room-is (length buffer) h, bufferBy) (rw measured-boxed refl)
 
   lacks-room : (bytes : ℕ) → bytes < bytesInNode * measured style table formula .count → hasRoom bytes b ≡ false
   unfolding hasRoom
