@@ -1,5 +1,5 @@
 -- The k-th node of a moved run, in bytes: of its 18, only those of x and y change.
---     OnlyPlaceMoved      a node's bytes in two buffers: the mark and the last eight are the same, x and y are moved
+--     OnlyPlaceMoved      a node's bytes in two buffers: the mark and the last eight are the same, x and y are moved (`LengthMoved`)
 --     moved-node-bytes    of one node
 --     moved-at            of the k-th node of a run at the front of a buffer
 --     nodes-passed        the nodes behind others
@@ -17,47 +17,42 @@ use Rattle.nodes.specs.Nodes.{Node, glyph, rule, movedNode, moved, signedBytes,
 use Rattle.nodes.specs.NodeLaws.{length-node-bytes, length-bytes}
 use Rattle.setting.specs.Frames.{movedBy}
 
+-- four bytes at a place of a node's, which are a length, moved by a distance
+pub record LengthMoved (at : ℕ) (distance : ℤ) (alone placed : List ℕ) : Type 0 where
+  pub from : ℤ
+  pub length-alone : take 4 (drop at alone) ≡ signedBytes from
+  pub length-placed : take 4 (drop at placed) ≡ signedBytes (from +ℤ distance)
+
 -- x at the bytes 2 to 5, y at the bytes 6 to 9
 pub record OnlyPlaceMoved (d : Place) (alone placed : List ℕ) : Type 0 where
-  pub x : ℤ
-  pub y : ℤ
   pub whole-alone : length alone ≡ bytesInNode
   pub whole-placed : length placed ≡ bytesInNode
   pub same-mark : take 2 placed ≡ take 2 alone
+  pub x : LengthMoved 2 (d .across) alone placed
+  pub y : LengthMoved 6 (d .up) alone placed
   pub same-last : drop 10 placed ≡ drop 10 alone
-  pub x-alone : take 4 (drop 2 alone) ≡ signedBytes x
-  pub y-alone : take 4 (drop 6 alone) ≡ signedBytes y
-  pub x-placed : take 4 (drop 2 placed) ≡ signedBytes (x +ℤ d .across)
-  pub y-placed : take 4 (drop 6 placed) ≡ signedBytes (y +ℤ d .up)
+
+-- a node's bytes: a mark, x, y and eight bytes more
+abbrev written : ℕ → ℕ → List ℕ → ℤ → ℤ → List ℕ
+written m₁ m₂ last x y = m₁ ∷ m₂ ∷ (signedBytes x ++ signedBytes y) ++ last
+
+written-moved : (d : Place) (m₁ m₂ : ℕ) (last : List ℕ) (x y : ℤ) → length last ≡ 8 →
+    OnlyPlaceMoved d (written m₁ m₂ last x y) (written m₁ m₂ last (x +ℤ d .across) (y +ℤ d .up))
+unfolding signedBytes fourBytes
+written-moved d m₁ m₂ last x y eight =
+    record {
+      whole-alone = omega arith;
+      whole-placed = omega arith;
+      same-mark = refl;
+      x = record { from = x; length-alone = refl; length-placed = refl };
+      y = record { from = y; length-alone = refl; length-placed = refl };
+      same-last = refl;
+    }
 
 pub moved-node-bytes : (d : Place) (n : Node) → OnlyPlaceMoved d (nodeBytes n) (nodeBytes (movedNode (d .across) (d .up) n))
 unfolding nodeBytes signedBytes fourBytes
-moved-node-bytes d (glyph x y size family code) =
-    record {
-      x = x;
-      y = y;
-      whole-alone = refl;
-      whole-placed = refl;
-      same-mark = refl;
-      same-last = refl;
-      x-alone = refl;
-      y-alone = refl;
-      x-placed = refl;
-      y-placed = refl;
-    }
-moved-node-bytes d (rule x y width thickness) =
-    record {
-      x = x;
-      y = y;
-      whole-alone = refl;
-      whole-placed = refl;
-      same-mark = refl;
-      same-last = refl;
-      x-alone = refl;
-      y-alone = refl;
-      x-placed = refl;
-      y-placed = refl;
-    }
+moved-node-bytes d (glyph x y size family code) = written-moved d 71 76 _ x y refl
+moved-node-bytes d (rule x y width thickness) = written-moved d 82 85 _ x y refl
 
 -- ---- in a buffer
 
