@@ -1,17 +1,15 @@
--- The spaces and classes of the worked examples P3 to P6 of document 01, on numbers alone. An edit of a rule is refused here,
--- by the row that it changes.
+-- The spaces of the worked examples P3 to P6 of document 01, on numbers alone. Their classes stand with the definition of them
+-- (`classes-are` of specs/Classes.antt).
 -- Assumes nothing.
 use mathlib.Core.Path.{_≡_, refl}
 use mathlib.Core.List.{List, [], _∷_}
-use mathlib.Core.Option.{none, some}
+use mathlib.Core.Option.{some}
 use lib.IntN.{ℤ, pos}
 use Rattle.scaled.specs.Length.{atQuad}
-use Rattle.formula.specs.declared.Class.{Class}
 use Rattle.formula.specs.declared.Class.the-variants.{Ord, Bin, Rel}
 use Rattle.boxes.specs.declared.styles.Level.the-variants.{Text, Script}
 use Rattle.boxes.specs.Styles.{plain}
 use Rattle.boxes.proofs.Bench.{bench}
-use Rattle.spacing.specs.Classes.{changedClass}
 use Rattle.spacing.specs.Spacing.{row, chart, spaceBefore}
 
 -- the space before an atom behind its left neighbour
@@ -25,15 +23,3 @@ spaces =
 spaces-are : spaces ≡ pos 220 ∷ pos 0 ∷ pos 275 ∷ []
 unfolding spaces bench atQuad row chart spaceBefore
 spaces-are = refl
-
--- the class of an atom between its neighbours
-classes : List Class
-classes =
-    changedClass (some Ord) Bin (some Ord)  -- P3
-    ∷ changedClass none Bin (some Ord)  -- P5
-    ∷ changedClass (some Ord) Bin (some Rel)  -- P6
-    ∷ []
-
-classes-are : classes ≡ Bin ∷ Ord ∷ Ord ∷ []
-unfolding classes changedClass
-classes-are = refl

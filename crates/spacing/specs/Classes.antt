@@ -1,7 +1,10 @@
 -- The class of an item and its change (document 01, "Class changes"; rules 5 and 6 of Appendix G, and what follows rule 18).
 -- A neighbour is the class of the nearest atom to one side, kerns passed over, or none at a list's end.
+-- The classes of the worked examples P3, P5 and P6 are `classes-are`.
 -- Assumes nothing.
+use mathlib.Core.Path.{_≡_, refl}
 use mathlib.Core.Bool.{Bool, true, false, _||_}
+use mathlib.Core.List.{List, [], _∷_}
 use mathlib.Core.Option.{Option, none, some}
 use Rattle.formula.specs.declared.Class.{Class}
 use Rattle.formula.specs.declared.Class.the-variants.{Ord, Op, Bin, Rel, Open, Close, Punct, Inner}
@@ -62,3 +65,16 @@ changedClass left Open right = Open
 changedClass left Close right = Close
 changedClass left Punct right = Punct
 changedClass left Inner right = Inner
+
+-- ---- the worked examples
+
+classes : List Class
+classes =
+    changedClass (some Ord) Bin (some Ord)  -- P3
+    ∷ changedClass none Bin (some Ord)  -- P5
+    ∷ changedClass (some Ord) Bin (some Rel)  -- P6
+    ∷ []
+
+classes-are : classes ≡ Bin ∷ Ord ∷ Ord ∷ []
+unfolding classes changedClass
+classes-are = refl
