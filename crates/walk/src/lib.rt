@@ -3,9 +3,10 @@
 // A list is set at its own reference point, into the front of the buffer that it is lent, and its nodes are moved once the
 // item that holds it knows where it stands. A node that has no room is not written, so that an empty buffer measures.
 
-pub mod items;
+mod growing;
+mod items;
 pub mod lines;
 pub mod lists;
-pub mod parts;
-pub mod places;
-pub mod symbols;
+mod parts;
+mod places;
+mod symbols;

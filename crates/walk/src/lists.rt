@@ -9,11 +9,11 @@ ghost use Rattle.font.specs.Font.{fontOf};
 ghost use Rattle.formula.specs.Places as tree;
 ghost use Rattle.spacing.specs.Values.{neighbourAs};
 ghost use Rattle.walk.specs.Walked.{ListGiven, ItemsGiven, NoadGiven, FieldGiven, ListDone, ItemsDone, ItemDone, HeadDone};
+use crate::growing::kerned;
+use crate::growing::list_part;
+use crate::growing::start;
 use crate::items::finished;
 use crate::lines::Line;
-use crate::lines::kerned;
-use crate::lines::list_part;
-use crate::lines::start;
 use crate::parts::FieldSet;
 use crate::parts::empty_part;
 use crate::parts::symbol_part;
@@ -44,7 +44,7 @@ pub enum ItemsSet {
 }
 
 // How many bytes an item has, and the line with it; or the place in the item of its first missing symbol.
-pub enum Step {
+enum Step {
     Next(usize, Line),
     Missing(usize),
 }

@@ -58,9 +58,9 @@ use Rattle.walk.proofs.lists.set_noad.Reads as set-noad
 use Rattle.walk.proofs.lists.set_noad.Kinds as set-noad-kinds
 use Rattle.walk.proofs.lists.+set_field+set_item+set_items+set_noad.Lts-set_noad as set-noad-lts
 use Rattle.walk.proofs.items.finished.Reads as finished-reads
-use Rattle.walk.proofs.lines.kerned.Reads as kerned-reads
-use Rattle.walk.proofs.lines.list_part.Reads as list-part-reads
-use Rattle.walk.proofs.lines.start.Reads as start-reads
+use Rattle.walk.proofs.growing.kerned.Reads as kerned-reads
+use Rattle.walk.proofs.growing.list_part.Reads as list-part-reads
+use Rattle.walk.proofs.growing.start.Reads as start-reads
 use Rattle.walk.proofs.parts.empty_part.Reads as empty-part-reads
 use Rattle.walk.proofs.parts.symbol_part.Reads as symbol-part-reads
 use Rattle.walk.proofs.places.right_of.Reads as right-of-reads

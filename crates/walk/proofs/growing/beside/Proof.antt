@@ -1,8 +1,8 @@
 -- `beside` meets its contract, number by number.
 -- Assumes nothing.
 use borrow.Author.Needs.{needs}
-use Rattle.walk.proofs.lines.beside.Statement.{statement}
-use Rattle.walk.proofs.lines.beside.Tie as tie
+use Rattle.walk.proofs.growing.beside.Statement.{statement}
+use Rattle.walk.proofs.growing.beside.Tie as tie
 
 plus-requires : tie.Need-plus-requires
 plus-requires c κs = search needs

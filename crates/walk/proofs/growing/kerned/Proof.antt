@@ -2,8 +2,8 @@
 -- Assumes nothing.
 use mathlib.Core.Path.{refl}
 use borrow.Author.Needs.{needs}
-use Rattle.walk.proofs.lines.kerned.Statement.{statement}
-use Rattle.walk.proofs.lines.kerned.Tie as tie
+use Rattle.walk.proofs.growing.kerned.Statement.{statement}
+use Rattle.walk.proofs.growing.kerned.Tie as tie
 
 plus-requires : tie.Need-plus-requires
 plus-requires c κs = search needs

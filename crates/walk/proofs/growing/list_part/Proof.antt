@@ -17,8 +17,8 @@ use Rattle.setting.specs.Fitting.{sizeFits}
 use Rattle.walk.specs.declared.lines.Line as lines
 use Rattle.walk.specs.Values.{lineFits}
 use Rattle.walk.specs.Walked.{ListPart}
-use Rattle.walk.proofs.lines.list_part.Statement.{statement}
-use Rattle.walk.proofs.lines.list_part.Tie as tie
+use Rattle.walk.proofs.growing.list_part.Statement.{statement}
+use Rattle.walk.proofs.growing.list_part.Tie as tie
 
 module _ (end : ℕ) (l : lines.Line) where
   list-whole : lineFits l ≡ true → ListPart end l (record { end = end; shape = Box (l .size); run = l .run })

@@ -1,0 +1,88 @@
+// How a line grows, from nothing to a whole list.
+
+ghost use Rattle.scaled.specs.Signed.{Within};
+ghost use Rattle.formula.specs.Heads.{greatestKern};
+ghost use Rattle.walk.specs.Bounds.{longest, LineWithin};
+ghost use Rattle.walk.specs.Walked.{StartLine, KernedLine, ItemGoes, ExtendedLine, ListPart, SizesGo, SizesBeside};
+use crate::lines::Line;
+use crate::lines::list_fits;
+use crate::parts::Part;
+use boxes::Shape;
+use boxes::Size;
+use boxes::zero_size;
+use formula::Class;
+use nodes::run::Run;
+use scaled::Sp;
+use spacing::classes::Neighbour;
+
+pub fn start() -> Line
+    ensures { λ r. ⌜ StartLine r ⌝ }
+{
+    Line {
+        left: Neighbour::End,
+        size: zero_size(),
+        run: Run::empty(),
+    }
+}
+
+// The line with a kern behind it.
+pub fn kerned(line: Line, n: Sp) -> Line
+    requires { ⌜ LineWithin longest line × Within greatestKern (n .0) ⌝ }
+    ensures { λ r. ⌜ KernedLine line (n .0) r ⌝ }
+{
+    let left = line.left;
+    let run = line.run;
+    let mut size = line.size;
+    let width = size.width;
+    size.width = width.plus(n);
+    Line { left, size, run }
+}
+
+// A box of a list with another that stands at x.
+fn beside(a: Size, x: Sp, b: Size) -> Size
+    requires { ⌜ SizesGo (x .0) b ⌝ }
+    ensures { λ r. ⌜ SizesBeside a (x .0) b r ⌝ }
+{
+    let width = b.width;
+    let height = a.height;
+    let depth = a.depth;
+    Size {
+        width: x.plus(width),
+        height: height.max(b.height),
+        depth: depth.max(b.depth),
+    }
+}
+
+// The line with an item of this class and size behind it, at x.
+pub fn extended(line: Line, class: Class, x: Sp, size: Size, run: Run) -> Line
+    requires { ⌜ ItemGoes line (x .0) size run ⌝ }
+    ensures { λ r. ⌜ ExtendedLine line class (x .0) size run r ⌝ }
+{
+    let before = line.run;
+    Line {
+        left: Neighbour::Atom(class),
+        size: beside(line.size, x, size),
+        run: before.joined(run),
+    }
+}
+
+// A whole list as a field that ends at a place of its item. One that does not fit has no shape that matters.
+pub fn list_part(end: usize, line: Line) -> Part
+    ensures { λ r. ⌜ ListPart end line r ⌝ }
+{
+    if list_fits(line) {
+        let size = line.size;
+        let run = line.run;
+        Part {
+            end,
+            shape: Shape::Box(size),
+            run,
+        }
+    } else {
+        Part {
+            end,
+            shape: Shape::Nothing,
+            run: Run::too_large(),
+        }
+    }
+}
