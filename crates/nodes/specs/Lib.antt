@@ -7,6 +7,7 @@ pub mod Buffer
 pub mod BufferLaws
 pub mod Drawn
 pub mod Lent
+pub mod Kept
 pub mod Hull
 pub mod HullLaws
 pub mod Runs

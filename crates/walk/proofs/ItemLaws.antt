@@ -2,6 +2,7 @@
 --     item-moved                  its nodes in the list, part by part
 --     item-count, item-hull       how many they are, and how far they reach
 --     item-bytes                  what becomes of the buffer: a part that was set is moved, and a gap is filled
+--     item-kept                   what stays of the buffer, whatever the fields came to
 --     item-reach, item-grows      how far the nodes of an item, and the line with it, lie from zero
 -- Assumes nothing.
 use mathlib.Core.Path.{_≡_, refl, sym, ap, _∙_}
@@ -26,13 +27,14 @@ use Rattle.nodes.specs.Bounds.{greatestLength}
 use Rattle.nodes.specs.NodeLaws.{length-node-bytes, length-bytes, bytes-append, length-moved, moved-append, moved-twice}
 use Rattle.nodes.specs.Buffer.{put, movedFront, behindNodes}
 use Rattle.nodes.specs.BufferLaws.{behind-at, moved-run-at, put-at}
+use Rattle.nodes.specs.Kept.{Kept, kept-all, kept-more, kept-then, kept-put, kept-moved, kept-behind}
 use Rattle.nodes.specs.Hull.{Hull, hull, joined, movedHull, HullWithin}
 use Rattle.nodes.specs.HullLaws.{hull-append, hull-moved, join-within, moved-within, within-more}
 use Rattle.nodes.specs.Runs.{hullOf}
 use Rattle.setting.specs.Setting.{Part, ruleNode, ruleNodes, itemNodes}
 use Rattle.walk.specs.declared.lines.Line as lines
 use Rattle.walk.specs.Bounds.{stride, LineWithin}
-use Rattle.walk.specs.Walked.{besideSize, rulesPut, itemCount, itemBuffer, itemHull}
+use Rattle.walk.specs.Walked.{besideSize, rulesPut, firstAt, behindAt, secondAt, thirdAt, itemCount, itemBuffer, itemHull}
 
 -- ---- the nodes of an item in its list, where the item stands at x
 
@@ -177,6 +179,33 @@ module _ (x : ℤ) (A : Arranged) where
           item-moved,
         )
         (simp bytes-append)
+
+-- ---- what is kept
+
+rules-kept : (x : ℤ) (rs : List Rule) (n : ℕ) (b : List ℕ) → Kept (n + length rs) b (rulesPut x n rs b)
+unfolding rulesPut
+rules-kept x [] n b = kept-all (n + 0) b
+rules-kept x (r ∷ rs) n b =
+    let node = movedNode x (pos 0) (ruleNode r) in
+    let first : Kept (n + 1) b (behindNodes n (put node) b) = kept-behind n 1 (put node) b (kept-put node) in
+    let others = rules-kept x rs (n + 1) (behindNodes n (put node) b) in
+    kept-then (kept-more (omega arith) first) (kept-more (omega arith) others)
+
+module _ (x : ℤ) (A : Arranged) (i j k : ℕ) where
+  -- a field of n nodes, behind others
+  field-kept : (p : Place) (at n : ℕ) (b : List ℕ) → at + n ≤ itemCount x A i j k →
+      Kept (itemCount x A i j k) b (behindNodes at (movedFront (x +ℤ p .across) (p .up) n) b)
+  field-kept p at n b few =
+      let dx = x +ℤ p .across in
+      kept-more few (kept-behind at n (movedFront dx (p .up) n) b (kept-moved dx (p .up) n))
+
+  pub item-kept : (b : List ℕ) → Kept (itemCount x A i j k) b (itemBuffer x A i j k b)
+  item-kept b =
+      let first : Kept (itemCount x A i j k) b _ =
+      kept-then (kept-more (omega arith) (rules-kept x (A .own .before) 0 b)) (field-kept (A .first) (firstAt x A i j k) i _ (omega arith)) in
+      let owned : Kept (itemCount x A i j k) b _ = kept-then first (kept-more (omega arith) (rules-kept x (A .own .behind) (behindAt x A i j k) _)) in
+      let second : Kept (itemCount x A i j k) b _ = kept-then owned (field-kept (A .second) (secondAt x A i j k) j _ (omega arith)) in
+      kept-then second (field-kept (A .third) (thirdAt x A i j k) k _ (omega arith))
 
 -- an item has one rule before its first field at most, and one behind it
 pub few-rules : (r : Ruling) → length (rulingAs r) ≤ 1

@@ -1,74 +1,87 @@
 -- Parts that are set one behind another in a buffer, each into the rest of it: what was b₀ is b, and n nodes' bytes w stand at its
--- front, if what was set is known and there is room.
+-- front, if what was set is known and there is room. Whatever was set, all but m nodes of it is kept, and n is not more.
 --     laid-start     room that is left free at the front
 --     laid-gap       room that is left free behind
+--     laid-kept      what is kept once a part was lent
 --     laid-field     nodes that were set in the part of the buffer that was lent
 --     laid-none      a part without nodes
 -- Assumes nothing.
-use mathlib.Core.Path.{_≡_, refl, sym, ap, _∙_}
+use mathlib.Core.Path.{_≡_, sym, ap, _∙_}
 use mathlib.Core.Bool.{Bool, true, _&&_, and-eq-true-iff}
 use mathlib.Core.List.{List, [], _++_, append-nil, append-assoc}
 use Prim.Native.Nat.{ℕ, _+_, _-_, _*_, _≤_}
 use native.Mathlib.Omega.{arith}
 use lib.ListN.{length, take, drop, length-append, length-drop, take-append-drop}
 use lib.Seq.{length-take-le, take-at, drop-at, drop-drop}
-use borrow.Rule.Slice.PartMut.{putMid, same-len-mid}
+use borrow.Rule.Slice.PartMut.{putMid}
 use Rattle.nodes.specs.Nodes.{Node, bytesInNode, bytesOf}
 use Rattle.nodes.specs.NodeLaws.{length-bytes}
 use Rattle.nodes.specs.Buffer.{roomFor}
 use Rattle.nodes.specs.Drawn.{Drawn}
 use Rattle.nodes.specs.Lent.{rest-lent, rest-back}
+use Rattle.nodes.specs.Kept.{Kept, kept-all, kept-more, kept-next}
 
-pub record Laid (b₀ : List ℕ) (n : ℕ) (known : Bool) (w b : List ℕ) : Type 0 where
-  pub same : length b ≡ length b₀
+pub record Laid (b₀ : List ℕ) (m n : ℕ) (known : Bool) (w b : List ℕ) : Type 0 where
+  pub few : n ≤ m
+  pub kept : Kept m b₀ b
   pub laid : known ≡ true → bytesInNode * n ≤ length b₀ → (length w ≡ bytesInNode * n) × (b ≡ w ++ drop (bytesInNode * n) b₀)
 
-pub laid-start : (b₀ : List ℕ) (n : ℕ) → Laid b₀ n true (take (bytesInNode * n) b₀) b₀
-laid-start b₀ n =
+pub laid-start : {m : ℕ} (b₀ : List ℕ) (n : ℕ) → n ≤ m → Laid b₀ m n true (take (bytesInNode * n) b₀) b₀
+laid-start {m} b₀ n few =
     record {
-      same = refl;
+      few = few;
+      kept = kept-all m b₀;
       laid = λ h room. (length-take-le (bytesInNode * n) b₀ room, sym (take-append-drop (bytesInNode * n) b₀));
     }
 
-module _ {b₀ : List ℕ} {n : ℕ} {known : Bool} {w b : List ℕ} (so : Laid b₀ n known w b) where
-  pub laid-gap : (m : ℕ) → Laid b₀ (n + m) known (w ++ take (bytesInNode * m) (drop (bytesInNode * n) b₀)) b
-  laid-gap m =
+module _ {b₀ : List ℕ} {m n : ℕ} {known : Bool} {w b : List ℕ} (so : Laid b₀ m n known w b) where
+  pub laid-gap : (g : ℕ) → n + g ≤ m → Laid b₀ m (n + g) known (w ++ take (bytesInNode * g) (drop (bytesInNode * n) b₀)) b
+  laid-gap g few =
       record {
-        same = so .same;
+        few = few;
+        kept = so .kept;
         laid = λ h room.
             let was = so .laid h (omega arith) in
             let rest = drop (bytesInNode * n) b₀ in
-            let gap = take (bytesInNode * m) rest in
-            let long : length gap ≡ bytesInNode * m = length-take-le (bytesInNode * m) rest (omega (arith, length-drop (bytesInNode * n) b₀)) in
-            let whole : bytesInNode * n + bytesInNode * m ≡ bytesInNode * (n + m) = omega arith in
+            let gap = take (bytesInNode * g) rest in
+            let long : length gap ≡ bytesInNode * g = length-take-le (bytesInNode * g) rest (omega (arith, length-drop (bytesInNode * n) b₀)) in
+            let whole : bytesInNode * n + bytesInNode * g ≡ bytesInNode * (n + g) = omega arith in
             let front = was .0 in (
               omega (arith, length-append w gap),
-              was .1 ∙ ap (λ (r : List ℕ). w ++ r) (sym (take-append-drop (bytesInNode * m) rest))
-                  ∙ sym (append-assoc w gap (drop (bytesInNode * m) rest))
+              was .1 ∙ ap (λ (r : List ℕ). w ++ r) (sym (take-append-drop (bytesInNode * g) rest))
+                  ∙ sym (append-assoc w gap (drop (bytesInNode * g) rest))
                   ∙ ap (λ (r : List ℕ). (w ++ gap) ++ r)
-                  (drop-drop (bytesInNode * m) (bytesInNode * n) b₀ ∙ ap (λ (k : ℕ). drop k b₀) whole),
+                  (drop-drop (bytesInNode * g) (bytesInNode * n) b₀ ∙ ap (λ (k : ℕ). drop k b₀) whole),
             );
       }
 
-  pub laid-none : {k : ℕ} (fits : Bool) → k ≡ 0 → Laid b₀ (n + k) (known && fits) (w ++ []) b
-  laid-none {k} fits none-there =
+  pub laid-none : {k m′ : ℕ} (fits : Bool) → m ≤ m′ → k ≡ 0 → Laid b₀ m′ (n + k) (known && fits) (w ++ []) b
+  laid-none {k} fits more none-there =
       let e : n ≡ n + k = omega arith in
+      let few = so .few in
       record {
-        same = so .same;
+        few = omega arith;
+        kept = kept-more more (so .kept);
         laid = λ h room.
             let was = so .laid (and-eq-true-iff known fits .0 h .0) (omega arith) in
             (rw (append-nil w, ← e) (was .0), rw (append-nil w, ← e) (was .1));
       }
 
-  -- the nodes ns, k of them, were set in the part from j on, which is back as r
-  pub laid-field : {j k : ℕ} {fits : Bool} {r : List ℕ} (ns : List Node) → j ≡ roomFor n (length b) →
+  -- the part from j on was lent and is back as r, with all but i nodes kept
+  pub laid-kept : {i j m′ : ℕ} {r : List ℕ} → m + i ≤ m′ → j ≡ roomFor n (length b) → Kept i (take (length b - j) (drop j b)) r →
+      Kept m′ b₀ (putMid j (length b - j) b r)
+  laid-kept more at kept = kept-more more (kept-next (so .few) (so .kept) at kept)
+
+  -- the nodes ns, k of them, were set in it
+  pub laid-field : {i j k m′ : ℕ} {fits : Bool} {r : List ℕ} (ns : List Node) → n + k ≤ m′ → m + i ≤ m′ → j ≡ roomFor n (length b) →
       (fits ≡ true → k ≡ length ns) → (fits ≡ true → Drawn ns (take (length b - j) (drop j b)) r) →
-      length r ≡ length (take (length b - j) (drop j b)) →
-      Laid b₀ (n + k) (known && fits) (w ++ bytesOf ns) (putMid j (length b - j) b r)
-  laid-field {j} {k} {fits} {r} ns at count drawn kept =
-      let before = so .same in
+      Kept i (take (length b - j) (drop j b)) r →
+      Laid b₀ m′ (n + k) (known && fits) (w ++ bytesOf ns) (putMid j (length b - j) b r)
+  laid-field {j = j} {k} {fits = fits} {r} ns few more at count drawn kept =
+      let before = so .kept .same in
       record {
-        same = same-len-mid j (length b - j) b r kept ∙ before;
+        few = few;
+        kept = laid-kept more at kept;
         laid = λ h room.
             let each = and-eq-true-iff known fits .0 h in
             let few = count (each .1) in

@@ -13,7 +13,7 @@ use native.Mathlib.Omega.{arith}
 use lib.IntN.{ℤ}
 use lib.ListN.{length, take, drop, length-append, length-drop}
 use lib.Seq.{drop-drop}
-use borrow.Rule.Slice.PartMut.{putMid, same-len-mid}
+use borrow.Rule.Slice.PartMut.{putMid}
 use Rattle.scaled.specs.declared.Sp.{Sp}
 use Rattle.scaled.specs.Signed.{Within}
 use Rattle.scaled.specs.Linear.{#, _⊕_, within-by}
@@ -35,6 +35,7 @@ use Rattle.nodes.specs.Nodes.{Node}
 use Rattle.nodes.specs.Buffer.{roomFor}
 use Rattle.nodes.specs.Drawn.{Drawn, drawn-none}
 use Rattle.nodes.specs.Lent.{drawn-behind}
+use Rattle.nodes.specs.Kept.{kept-all, kept-more, kept-next}
 use Rattle.nodes.specs.Hull.{hull, joined}
 use Rattle.nodes.specs.HullLaws.{join-none, join-assoc, hull-append, within-more}
 use Rattle.nodes.specs.Runs.{hullOf, isLarge}
@@ -58,12 +59,14 @@ added-none l b =
     record {
       large-is = sym (or-false (isLarge (l .run)));
       more = omega arith;
+      few = omega arith;
       grows = λ k w. let e : k ≡ k + 0 = omega arith in rw (← e) w;
       left-is = λ h. refl;
       size-is = λ h. refl;
       count-is = λ h. omega arith;
       hull-is = λ h. sym (join-none (hullOf (l .run)));
       drawn = λ h. drawn-none b;
+      kept = kept-all 0 b;
     }
 
 pub added-kern : (F : Font) (s : Style) (right : Neighbour) (n : ℤ) (l r : lines.Line) (b : List ℕ) → Within greatestKern n →
@@ -74,6 +77,7 @@ added-kern F s right n l r b small k =
     record {
       large-is = rw run (sym (or-false (isLarge (l .run))));
       more = rw run (omega arith);
+      few = rw run (omega arith);
       grows = λ m w.
           let width : r .size .width .0 ≡ _ = ap (λ (z : Size). z .width) (k .size-is) in
           let far = w .width in
@@ -89,6 +93,7 @@ added-kern F s right n l r b small k =
       count-is = λ h. rw run (omega arith);
       hull-is = λ h. rw run (sym (join-none (hullOf (l .run))));
       drawn = λ h. drawn-none b;
+      kept = kept-all kernBytes b;
     }
 
 pub kern-done : (F : Font) (s : Style) (beyond : Neighbour) (bytes : List ℕ) (l r : lines.Line) (b : List ℕ) (n : Sp) →
@@ -121,12 +126,14 @@ added-like {f} {g} {M} {N} {k} {n} {l} {r} {b} {b′} e same size a =
     record {
       large-is = a .large-is ∙ rw e;
       more = a .more;
+      few = rw (← size) (a .few);
       grows = λ i w. rw (← size) (a .grows i w);
       left-is = λ h. a .left-is (was h) ∙ ap (λ (m : Line). m .left) (same (was h));
       size-is = λ h. a .size-is (was h) ∙ ap (λ (m : Line). m .box .size) (same (was h));
       count-is = λ h. a .count-is (was h) ∙ ap (λ (m : Line). l .run .count + length (m .box .nodes)) (same (was h));
       hull-is = λ h. a .hull-is (was h) ∙ ap (λ (m : Line). joined (hullOf (l .run)) (hull (m .box .nodes))) (same (was h));
       drawn = λ h. subst (λ (m : Line). Drawn (m .box .nodes) b b′) (same (was h)) (a .drawn (was h));
+      kept = rw (← size) (a .kept);
     }
 
 -- what was large before, or is so now
@@ -137,15 +144,16 @@ or-more false false c = refl
 
 -- M and then N, which was set in the part of the buffer from j on, back as v
 pub added-next : {f g : Bool} {M N : Line} {k n j : ℕ} {l₀ l r : lines.Line} {b₀ b v : List ℕ} → Added f M k l₀ b₀ l b →
-    length b ≡ length b₀ → j ≡ roomFor (l .run .count - l₀ .run .count) (length b) →
+    j ≡ roomFor (l .run .count - l₀ .run .count) (length b) →
     Added g N n l (take (length b - j) (drop j b)) r v →
     Added (f && g) (behind (M .box .nodes) N) (k + n) l₀ b₀ r (putMid j (length b - j) b v)
-added-next {f} {g} {M} {N} {k} {n} {j} {l₀} {l} {r} {b₀} {b} {v} a same at d =
+added-next {f} {g} {M} {N} {k} {n} {j} {l₀} {l} {r} {b₀} {b} {v} a at d =
     let both = length-append (M .box .nodes) (N .box .nodes) in
     let each = and-eq-true-iff f g .0 in
     record {
       large-is = d .large-is ∙ ap (λ (t : Bool). t || not g) (a .large-is) ∙ or-more (isLarge (l₀ .run)) f g;
       more = omega (arith, a .more, d .more);
+      few = omega (arith, a .few, d .few);
       grows = λ i w. let e : i + k + n ≡ i + (k + n) = omega arith in rw (← e) (d .grows (i + k) (a .grows i w));
       left-is = λ h. d .left-is (each h .1);
       size-is = λ h. d .size-is (each h .1);
@@ -156,8 +164,9 @@ added-next {f} {g} {M} {N} {k} {n} {j} {l₀} {l} {r} {b₀} {b} {v} a same at d
           ∙ join-assoc (hullOf (l₀ .run)) (hull (M .box .nodes)) (hull (N .box .nodes))
           ∙ ap (joined (hullOf (l₀ .run))) (sym (hull-append (M .box .nodes) (N .box .nodes)));
       drawn = λ h.
-          drawn-behind {j = j} {k = l .run .count - l₀ .run .count} (M .box .nodes) (N .box .nodes) b₀ b v same
+          drawn-behind {j = j} {k = l .run .count - l₀ .run .count} (M .box .nodes) (N .box .nodes) b₀ b v (a .kept .same)
           (omega (arith, a .count-is (each h .0))) at (a .drawn (each h .0)) (d .drawn (each h .1));
+      kept = kept-next {i = l .run .count - l₀ .run .count} (omega (arith, a .few)) (a .kept) at (d .kept);
     }
 
 -- ---- the loop
@@ -170,7 +179,6 @@ pub record Along (F : Font) (st : Style) (beyond : Neighbour) (s : List ℕ) (l�
   pub lacks : missingItems F st (treeOf s) ≡ later at (missingItems F st (treeOf (drop at s)))
   pub all-fit : itemsFit F st (treeOf s) ≡ (fits && itemsFit F st (treeOf (drop at s)))
   pub sets : fits ≡ true → setItems F st beyond (bareLine l₀) (treeOf s) ≡ setItems F st beyond line (treeOf (drop at s))
-  pub same : length b ≡ length b₀
   pub added : Added fits line at l₀ b₀ l b
 
 later-nowhere : (m : Option ℕ) → m ≡ later 0 m
@@ -199,7 +207,6 @@ module _ (F : Font) (st : Style) (beyond : Neighbour) (s : List ℕ) (l₀ : lin
         lacks = later-nowhere (missingItems F st (treeOf s));
         all-fit = refl;
         sets = λ h. refl;
-        same = refl;
         added = added-none l₀ b₀;
       }
 
@@ -241,58 +248,58 @@ module _ (F : Font) (st : Style) (beyond : Neighbour) (s : List ℕ) (l₀ : lin
       abbrev ItemSet : Step → Type 0
       ItemSet r = ItemDone F st beyond (take (length s - at) left) l (take (length b - j) (drop j b)) r v
 
-      pub along-stop : {place : ℕ} → ItemSet (steps.Missing place) →
-          (missingItems F st (treeOf s) ≡ some (at + place)) × (at + place ≤ length s)
-      unfolding later
-      along-stop {place} set =
-          let d = rw (tail-part s at) at set in
-          let low = stepped .fits in
-          let rests = length-drop at s in
-          let near = d .1 in
-          (lacks-first ∙ rw (d .0), omega arith)
+      module _ (place : j ≡ roomFor (l .run .count - l₀ .run .count) (length b)) where
+        pub along-stop : {missing : ℕ} → ItemSet (steps.Missing missing) →
+            ItemsDone F st beyond (treeOf s) (length s) l₀ b₀ (items.Missing (at + missing)) (putMid j (length b - j) b v)
+        unfolding later
+        along-stop {missing} set =
+            let d = rw (tail-part s at) at set in
+            let low = stepped .fits in
+            let rests = length-drop at s in
+            let near = d .1 in
+            let few = a .added .few in
+            (lacks-first ∙ rw (d .0), omega arith, kept-more (omega arith) (kept-next (omega arith) (a .added .kept) place (d .2)))
 
-      pub along-next : {n : ℕ} {r : lines.Line} → j ≡ roomFor (l .run .count - l₀ .run .count) (length b) →
-          length v ≡ length (take (length b - j) (drop j b)) → ItemSet (steps.Next n r) →
-          (0 < n) × Along F st beyond s l₀ b₀ (at + n) r (putMid j (length b - j) b v)
-      unfolding later itemsFit setItems
-      along-next {n} {r} place kept set =
-          let d = rw (tail-part s at) at set in
-          let p = stepped in
-          let is : n ≡ size = d .1 in
-          let positive = p .some in
-          let within = p .fits in
-          let long = length-drop at s in
-          let rest : drop size left ≡ drop (at + n) s = drop-drop size at s ∙ ap (λ (k : ℕ). drop (at + k) s) (sym is) in
-          let right = nextClass beyond (treeOf (drop size left)) in
-          let N = setItem F st right (bareLine l) first in
-          let M = a .line in
-          let low = a .low in (
-            omega arith,
-            record {
-              fits = a .fits && itemFits F st first;
-              line = behind (M .box .nodes) N;
-              low = omega arith;
-              rest = rw (← rest) (p .rest);
-              lacks =
-                  lacks-first ∙ (rw (d .0)) ∙ ap₂ (λ (k : ℕ) (t : List ℕ). later (at + k) (missingItems F st (treeOf t))) (sym is) rest;
-              all-fit =
-                  a .all-fit ∙ ap (λ (t : Items). a .fits && itemsFit F st t) (p .tree)
-                  ∙ sym (and-assoc (a .fits) (itemFits F st first) (itemsFit F st (treeOf (drop size left))))
-                  ∙ ap (λ (t : List ℕ). a .fits && itemFits F st first && itemsFit F st (treeOf t)) rest;
-              sets = λ h.
-                  let before = and-eq-true-iff (a .fits) (itemFits F st first) .0 h .0 in
-                  let bare : M ≡ behind (M .box .nodes) (bareLine l) =
-                  ap₂ (λ (m : Neighbour) (z : Size). record { left = m; box = sized z (M .box .nodes) })
-                  (sym (a .added .left-is before)) (sym (a .added .size-is before))
-                  ∙ ap (λ (ns : List Node). record { left = neighbourAs (l .left); box = sized (sizeAs (l .size)) ns }) (sym (append-nil (M .box .nodes))) in
-                  a .sets before ∙ ap (setItems F st beyond M) (p .tree)
-                  ∙ ap (λ (m : Line). setItems F st beyond (setItem F st right m first) (treeOf (drop size left))) bare
-                  ∙ ap (λ (m : Line). setItems F st beyond m (treeOf (drop size left))) (setItem-behind F st right (M .box .nodes) (bareLine l) first)
-                  ∙ ap (λ (t : List ℕ). setItems F st beyond (behind (M .box .nodes) N) (treeOf t)) rest;
-              same = same-len-mid j (length b - j) b v kept ∙ a .same;
-              added = added-next (a .added) (a .same) place (d .2);
-            },
-          )
+        pub along-next : {n : ℕ} {r : lines.Line} → ItemSet (steps.Next n r) →
+            (0 < n) × Along F st beyond s l₀ b₀ (at + n) r (putMid j (length b - j) b v)
+        unfolding later itemsFit setItems
+        along-next {n} {r} set =
+            let d = rw (tail-part s at) at set in
+            let p = stepped in
+            let is : n ≡ size = d .1 in
+            let positive = p .some in
+            let within = p .fits in
+            let long = length-drop at s in
+            let rest : drop size left ≡ drop (at + n) s = drop-drop size at s ∙ ap (λ (k : ℕ). drop (at + k) s) (sym is) in
+            let right = nextClass beyond (treeOf (drop size left)) in
+            let N = setItem F st right (bareLine l) first in
+            let M = a .line in
+            let low = a .low in (
+              omega arith,
+              record {
+                fits = a .fits && itemFits F st first;
+                line = behind (M .box .nodes) N;
+                low = omega arith;
+                rest = rw (← rest) (p .rest);
+                lacks =
+                    lacks-first ∙ (rw (d .0)) ∙ ap₂ (λ (k : ℕ) (t : List ℕ). later (at + k) (missingItems F st (treeOf t))) (sym is) rest;
+                all-fit =
+                    a .all-fit ∙ ap (λ (t : Items). a .fits && itemsFit F st t) (p .tree)
+                    ∙ sym (and-assoc (a .fits) (itemFits F st first) (itemsFit F st (treeOf (drop size left))))
+                    ∙ ap (λ (t : List ℕ). a .fits && itemFits F st first && itemsFit F st (treeOf t)) rest;
+                sets = λ h.
+                    let before = and-eq-true-iff (a .fits) (itemFits F st first) .0 h .0 in
+                    let bare : M ≡ behind (M .box .nodes) (bareLine l) =
+                    ap₂ (λ (m : Neighbour) (z : Size). record { left = m; box = sized z (M .box .nodes) })
+                    (sym (a .added .left-is before)) (sym (a .added .size-is before))
+                    ∙ ap (λ (ns : List Node). record { left = neighbourAs (l .left); box = sized (sizeAs (l .size)) ns }) (sym (append-nil (M .box .nodes))) in
+                    a .sets before ∙ ap (setItems F st beyond M) (p .tree)
+                    ∙ ap (λ (m : Line). setItems F st beyond (setItem F st right m first) (treeOf (drop size left))) bare
+                    ∙ ap (λ (m : Line). setItems F st beyond m (treeOf (drop size left))) (setItem-behind F st right (M .box .nodes) (bareLine l) first)
+                    ∙ ap (λ (t : List ℕ). setItems F st beyond (behind (M .box .nodes) N) (treeOf t)) rest;
+                added = added-next (a .added) place (d .2);
+              },
+            )
 
 -- what the item's setter is given, and how long it is
 pub rest-given : {t : List ℕ} {p : List (List ℕ)} {F : Font} {st : Style} {beyond : Neighbour} {s : List ℕ} {l₀ : lines.Line} {b₀ : List ℕ}

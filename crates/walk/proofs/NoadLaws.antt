@@ -14,7 +14,7 @@ use native.Mathlib.Omega.{arith}
 use lib.IntN.{ℤ, pos, _+ℤ_}
 use lib.ListN.{length, take, drop, length-drop}
 use lib.Seq.{length-take-le}
-use borrow.Rule.Slice.PartMut.{putMid, same-len-mid}
+use borrow.Rule.Slice.PartMut.{putMid}
 use Rattle.font.specs.Font.{Font}
 use Rattle.formula.specs.declared.Class.{Class}
 use Rattle.formula.specs.declared.Kind.{Kind}
@@ -36,6 +36,7 @@ use Rattle.boxes.specs.Values.{sizeAs}
 use Rattle.nodes.specs.Nodes.{Node, bytesInNode, bytesOf, moved}
 use Rattle.nodes.specs.Buffer.{roomFor}
 use Rattle.nodes.specs.Drawn.{Drawn}
+use Rattle.nodes.specs.Kept.{Kept, kept-more, kept-then}
 use Rattle.nodes.specs.Runs.{isLarge}
 use Rattle.setting.specs.Setting.{Part, nextClass, itemNodes, itemBox, placed, setField, setItem}
 use Rattle.setting.specs.Missing.{_orElse_, missingField, missingItem}
@@ -50,8 +51,8 @@ use Rattle.walk.specs.Values.{bareLine}
 use Rattle.walk.specs.Bounds.{longest, LineWithin}
 use Rattle.walk.specs.Walked.{EmptyPart, PartWithin, FieldWhole, FieldDone, HeadDone, ChangesAlike, FinishGiven, Finished, Added, StepDone, ItemDone, besideSize, itemCount, itemBuffer}
 use Rattle.walk.proofs.PartLaws.{field-empty}
-use Rattle.walk.proofs.ItemLaws.{item-count, item-hull, item-bytes}
-use Rattle.walk.proofs.Laid.{Laid, laid-start, laid-gap, laid-field, laid-none}
+use Rattle.walk.proofs.ItemLaws.{item-count, item-hull, item-bytes, item-kept}
+use Rattle.walk.proofs.Laid.{Laid, laid-start, laid-gap, laid-kept, laid-field, laid-none}
 
 -- one of two is large
 or-nots : (a b : Bool) → not a || not b ≡ not (a && b)
@@ -154,7 +155,7 @@ module _ (F : Font) (s : Style) (kind : Kind) (bytes : List ℕ) where
     pub own₁ : o₁ ≡ ownCounts (F .parameter) s kind .before
     pub own₂ : o₂ ≡ ownCounts (F .parameter) s kind .behind
     pub wx : WholeX a
-    pub so : Laid b₀ (o₁ + a .run .count + o₂) fitsX ((gap₁ a o₁ o₂ b₀ ++ bytesOf (partX .nodes)) ++ gap₂ a o₁ o₂ b₀) v
+    pub so : Laid b₀ (second bytes kind) (o₁ + a .run .count + o₂) fitsX ((gap₁ a o₁ o₂ b₀ ++ bytesOf (partX .nodes)) ++ gap₂ a o₁ o₂ b₀) v
 
   -- and the second, b
   pub record Two (o₁ o₂ : ℕ) (b₀ : List ℕ) (a b : parts.Part) (v : List ℕ) : Type 0 where
@@ -163,7 +164,7 @@ module _ (F : Font) (s : Style) (kind : Kind) (bytes : List ℕ) where
     pub own₂ : o₂ ≡ ownCounts (F .parameter) s kind .behind
     pub wx : WholeX a
     pub wy : WholeY b
-    pub so : Laid b₀ (o₁ + a .run .count + o₂ + b .run .count) (fitsX && fitsY)
+    pub so : Laid b₀ (third bytes kind) (o₁ + a .run .count + o₂ + b .run .count) (fitsX && fitsY)
         (((gap₁ a o₁ o₂ b₀ ++ bytesOf (partX .nodes)) ++ gap₂ a o₁ o₂ b₀) ++ bytesOf (partY .nodes)) v
 
   -- and the third, c
@@ -174,47 +175,88 @@ module _ (F : Font) (s : Style) (kind : Kind) (bytes : List ℕ) where
     pub wx : WholeX a
     pub wy : WholeY b
     pub wz : WholeZ c
-    pub so : Laid b₀ (o₁ + a .run .count + o₂ + b .run .count + c .run .count) (fitsX && fitsY && fitsZ)
+    pub so : Laid b₀ (end bytes kind) (o₁ + a .run .count + o₂ + b .run .count + c .run .count) (fitsX && fitsY && fitsZ)
         ((((gap₁ a o₁ o₂ b₀ ++ bytesOf (partX .nodes)) ++ gap₂ a o₁ o₂ b₀) ++ bytesOf (partY .nodes)) ++ bytesOf (partZ .nodes)) v
 
   -- the third field, or its first missing symbol
   abbrev pub ThirdDone : ℕ → ℕ → List ℕ → parts.Part → parts.Part → FieldSet → List ℕ → Type 0
   ThirdDone o₁ o₂ b₀ a b (field.Whole c) v = Three o₁ o₂ b₀ a b c v
-  ThirdDone o₁ o₂ b₀ a b (field.Missing place) v = (length v ≡ length b₀) × (lacksZ ≡ some place) × (place ≤ end bytes kind)
+  ThirdDone o₁ o₂ b₀ a b (field.Missing place) v =
+      Kept (end bytes kind) b₀ v × (lacksZ ≡ some place) × (place ≤ end bytes kind)
 
-  module _ {o₁ o₂ j : ℕ} (b₀ r : List ℕ) where
-    pub set-one : {a : parts.Part} → Noad bytes kind → o₁ ≡ ownCounts (F .parameter) s kind .before →
-        o₂ ≡ ownCounts (F .parameter) s kind .behind → j ≡ roomFor o₁ (length b₀) →
-        (let lent = take (length b₀ - j) (drop j b₀) in
-        HeadDone F (firstStyle kind s) (enlarges kind s) bytes (openingBytes kind) lent (field.Whole a) r × (length r ≡ length lent)) →
-        One o₁ o₂ b₀ a (putMid j (length b₀ - j) b₀ r)
-    set-one n own₁ own₂ at ((wx, drawn), kept) =
+  -- before its fields an item has two own nodes at most, and at least so many bytes
+  own-few : {o₁ o₂ : ℕ} → Noad bytes kind → o₁ ≡ ownCounts (F .parameter) s kind .before →
+      o₂ ≡ ownCounts (F .parameter) s kind .behind → o₁ + o₂ ≤ openingBytes kind
+  own-few n own₁ own₂ = omega (arith, few-own (F .parameter) s kind, n .opened)
+
+  module _ {o₁ o₂ j : ℕ} (b₀ r : List ℕ) (n : Noad bytes kind) (own₁ : o₁ ≡ ownCounts (F .parameter) s kind .before)
+      (own₂ : o₂ ≡ ownCounts (F .parameter) s kind .behind) (at : j ≡ roomFor o₁ (length b₀)) where
+    -- the first field's part of the buffer, and what its setter came to
+    abbrev FirstSet : FieldSet → Type 0
+    FirstSet x =
+        HeadDone F (firstStyle kind s) (enlarges kind s) bytes (openingBytes kind) (take (length b₀ - j) (drop j b₀)) x r
+
+    front : Laid b₀ (openingBytes kind) o₁ true (take (bytesInNode * o₁) b₀) b₀
+    front = laid-start b₀ o₁ (omega (arith, own-few n own₁ own₂))
+
+    pub set-one : {a : parts.Part} → FirstSet (field.Whole a) → One o₁ o₂ b₀ a (putMid j (length b₀ - j) b₀ r)
+    set-one {a} (wx, drawn, kept) =
+        let own = own-few n own₁ own₂ in
+        let behind = n .first-in in
+        let count = wx .small .count in
+        let ends = wx .end-is in
         record {
           noad = n;
           own₁ = own₁;
           own₂ = own₂;
           wx = wx;
-          so = laid-gap (laid-field (laid-start b₀ o₁) (partX .nodes) at (λ h. wx .is h .run-is .count-is) drawn kept) o₂;
+          so =
+              laid-gap
+              (laid-field front {k = a .run .count} {m′ = second bytes kind} (partX .nodes) (omega arith) (omega arith) at
+              (λ h. wx .is h .run-is .count-is) drawn kept)
+              o₂ (omega arith);
         }
 
-  module _ {o₁ o₂ : ℕ} {b₀ v : List ℕ} {a : parts.Part} (q : One o₁ o₂ b₀ a v) where
-    pub set-two : {j : ℕ} {b : parts.Part} (r : List ℕ) → j ≡ roomFor (o₁ + a .run .count + o₂) (length v) →
-        (let lent = take (length v - j) (drop j v) in
-        HeadDone F (secondStyle kind s) false bytes (second bytes kind) lent (field.Whole b) r × (length r ≡ length lent)) →
-        Two o₁ o₂ b₀ a b (putMid j (length v - j) v r)
-    set-two r at ((wy, drawn), kept) =
+    pub lacks-one : {place : ℕ} → FirstSet (field.Missing place) →
+        Kept (end bytes kind) b₀ (putMid j (length b₀ - j) b₀ r) × (lacksX ≡ some place) × (place ≤ end bytes kind)
+    lacks-one (lacks, low, kept) =
+        let x = n .first-in in
+        let y = n .second-in in
+        let z = n .third-in in
+        (laid-kept front (omega arith) at kept, lacks, omega arith)
+
+  module _ {o₁ o₂ j : ℕ} {b₀ v : List ℕ} {a : parts.Part} (q : One o₁ o₂ b₀ a v) (r : List ℕ)
+      (at : j ≡ roomFor (o₁ + a .run .count + o₂) (length v)) where
+    abbrev SecondSet : FieldSet → Type 0
+    SecondSet y = HeadDone F (secondStyle kind s) false bytes (second bytes kind) (take (length v - j) (drop j v)) y r
+
+    pub set-two : {b : parts.Part} → SecondSet (field.Whole b) → Two o₁ o₂ b₀ a b (putMid j (length v - j) v r)
+    set-two {b} (wy, drawn, kept) =
+        let few = q .so .few in
+        let behind = q .noad .second-in in
+        let count = wy .small .count in
+        let ends = wy .end-is in
         record {
           noad = q .noad;
           own₁ = q .own₁;
           own₂ = q .own₂;
           wx = q .wx;
           wy = wy;
-          so = laid-field (q .so) (partY .nodes) at (λ h. wy .is h .run-is .count-is) drawn kept;
+          so =
+              laid-field (q .so) {k = b .run .count} {m′ = third bytes kind} (partY .nodes) (omega arith) (omega arith) at
+              (λ h. wy .is h .run-is .count-is) drawn kept;
         }
+
+    pub lacks-two : {place : ℕ} → SecondSet (field.Missing place) →
+        Kept (end bytes kind) b₀ (putMid j (length v - j) v r) × (lacksY ≡ some place) × (place ≤ end bytes kind)
+    lacks-two (lacks, low, kept) =
+        let y = q .noad .second-in in
+        let z = q .noad .third-in in
+        (laid-kept (q .so) (omega arith) at kept, lacks, omega arith)
 
   module _ {o₁ o₂ : ℕ} {b₀ v : List ℕ} {a b : parts.Part} (q : Two o₁ o₂ b₀ a b v) where
     three : {c : parts.Part} {v′ : List ℕ} → WholeZ c →
-        Laid b₀ (o₁ + a .run .count + o₂ + b .run .count + c .run .count) (fitsX && fitsY && fitsZ)
+        Laid b₀ (end bytes kind) (o₁ + a .run .count + o₂ + b .run .count + c .run .count) (fitsX && fitsY && fitsZ)
         ((((gap₁ a o₁ o₂ b₀ ++ bytesOf (partX .nodes)) ++ gap₂ a o₁ o₂ b₀) ++ bytesOf (partY .nodes)) ++ bytesOf (partZ .nodes)) v′ →
         Three o₁ o₂ b₀ a b c v′
     three wz so =
@@ -222,10 +264,9 @@ module _ (F : Font) (s : Style) (kind : Kind) (bytes : List ℕ) where
 
     pub set-three : {j : ℕ} (z : FieldSet) (r : List ℕ) → hasThird kind ≡ true →
         j ≡ roomFor (o₁ + a .run .count + o₂ + b .run .count) (length v) →
-        (let lent = take (length v - j) (drop j v) in
-        HeadDone F (thirdStyle s) false bytes (third bytes kind) lent z r × (length r ≡ length lent)) →
+        HeadDone F (thirdStyle s) false bytes (third bytes kind) (take (length v - j) (drop j v)) z r →
         ThirdDone o₁ o₂ b₀ a b z (putMid j (length v - j) v r)
-    set-three {j} z r has at (d, kept) =
+    set-three {j} z r has at d =
         let lent = take (length v - j) (drop j v) in
         let here : FieldDone F (thirdStyle s) false fieldZ (third bytes kind) (end bytes kind) lent z r =
         subst (λ (t : Bool). FieldDone F (thirdStyle s) false (thirdIn bytes t (third bytes kind)) (third bytes kind) (thirdEnd bytes t (third bytes kind)) lent z r)
@@ -234,9 +275,17 @@ module _ (F : Font) (s : Style) (kind : Kind) (bytes : List ℕ) where
       where
         go : (z : FieldSet) → FieldDone F (thirdStyle s) false fieldZ (third bytes kind) (end bytes kind) (take (length v - j) (drop j v)) z r →
             ThirdDone o₁ o₂ b₀ a b z (putMid j (length v - j) v r)
-        go (field.Whole c) (wz, drawn) =
-            three wz (laid-field (q .so) (partZ .nodes) at (λ h. wz .is h .run-is .count-is) drawn kept)
-        go (field.Missing place) d = (same-len-mid j (length v - j) v r kept ∙ q .so .same, d .0, d .1)
+        go (field.Whole c) (wz, drawn, kept) =
+            let few = q .so .few in
+            let behind = q .noad .third-in in
+            let count = wz .small .count in
+            let ends = wz .end-is in
+            three wz
+            (laid-field (q .so) {k = c .run .count} {m′ = end bytes kind} (partZ .nodes) (omega arith) (omega arith) at
+            (λ h. wz .is h .run-is .count-is) drawn kept)
+        go (field.Missing place) (lacks, low, kept) =
+            let behind = q .noad .third-in in
+            (laid-kept (q .so) (omega arith) at kept, lacks, low)
 
     pub none-third : (c : parts.Part) → hasThird kind ≡ false → EmptyPart (b .end) c → Three o₁ o₂ b₀ a b c v
     unfolding setField bytesOf
@@ -250,8 +299,8 @@ module _ (F : Font) (s : Style) (kind : Kind) (bytes : List ℕ) where
         let n = o₁ + a .run .count + o₂ + b .run .count + c .run .count in
         let w = ((gap₁ a o₁ o₂ b₀ ++ bytesOf (partX .nodes)) ++ gap₂ a o₁ o₂ b₀) ++ bytesOf (partY .nodes) in
         three (d .0)
-        (subst (λ (ns : List Node). Laid b₀ n (fitsX && fitsY && fitsZ) (w ++ bytesOf ns) v) (sym blank)
-        (laid-none (q .so) fitsZ (e .run-is .count-is)))
+        (subst (λ (ns : List Node). Laid b₀ (end bytes kind) n (fitsX && fitsY && fitsZ) (w ++ bytesOf ns) v) (sym blank)
+        (laid-none (q .so) fitsZ (q .noad .third-in) (e .run-is .count-is)))
 
   -- the item is finished: the line l became r, and the buffer v′
   pub record NoadSet (beyond right : Neighbour) (l r : lines.Line) (o₁ o₂ : ℕ) (b₀ : List ℕ) (a b c : parts.Part) (v v′ : List ℕ) : Type 0 where
@@ -314,11 +363,12 @@ module _ (F : Font) (s : Style) (kind : Kind) (bytes : List ℕ) where
     own-behind-is = ap (λ (B : Arranged). length (B .own .behind)) (q .done .arranged-is) ∙ own-behind P s kind _ _ _ ∙ sym (q .fields .own₂)
 
     few : itemCount (q .done .x) (q .done .arranged) (a .run .count) (b .run .count) (c .run .count) ≤ end bytes kind
-    few =
-        let x = q .fields .wx .small .count in
-        let y = q .fields .wy .small .count in
-        let z = q .fields .wz .small .count in
-        omega (arith, own-before-is, own-behind-is, few-own P s kind, q .fields .noad .opened, q .fields .wx .end-is, q .fields .wy .end-is, q .fields .wz .end-is)
+    few = omega (arith, q .fields .so .few, own-before-is, own-behind-is)
+
+    kept : Kept (end bytes kind) b₀ v′
+    kept =
+        kept-then (q .fields .so .kept)
+        (rw (q .done .buffer-is) (kept-more few (item-kept (q .done .x) (q .done .arranged) (a .run .count) (b .run .count) (c .run .count) v)))
 
     count-is : Fits → length nodes ≡ total
     count-is h =
@@ -370,6 +420,7 @@ module _ (F : Font) (s : Style) (kind : Kind) (bytes : List ℕ) where
               ∙ ap (λ (t : Bool). isLarge (l .run) || t)
               (rw (q .fields .wx .large-is, q .fields .wy .large-is, q .fields .wz .large-is, or-nots fitsX fitsY) (or-nots (fitsX && fitsY) fitsZ));
           more = omega (arith, q .done .count-is);
+          few = omega (arith, q .done .count-is, few);
           grows = λ k w. q .done .grows k (end bytes kind) w (q .fields .noad .long) few;
           left-is = λ h. ap neighbourAs (q .done .left-is) ∙ ap some class-is;
           size-is = λ h.
@@ -387,6 +438,7 @@ module _ (F : Font) (s : Style) (kind : Kind) (bytes : List ℕ) where
                 item-hull at A partX partY partZ,
               );
           drawn = drawn;
+          kept = kept;
         }
 
   -- what is asked to finish an item, and what it comes to
@@ -414,8 +466,8 @@ module _ (F : Font) (s : Style) (kind : Kind) (bytes : List ℕ) where
         StepDone F s (nextClass beyond (treeOf (drop (itemSize bytes o) bytes))) (itemOf bytes o) (itemSize bytes o) l b r b′) (sym opens) d
 
     pub noad-lacks : {place : ℕ} → missingItem F s (itemOf bytes (Fields kind)) ≡ some place → place ≤ end bytes kind →
-        ItemDone F s beyond bytes l b (step.Missing place) b′
-    noad-lacks {place} lacks low = item-is (step.Missing place) (lacks, low)
+        Kept (end bytes kind) b b′ → ItemDone F s beyond bytes l b (step.Missing place) b′
+    noad-lacks {place} lacks low kept = item-is (step.Missing place) (lacks, low, kept)
 
     pub noad-done : {right : Neighbour} {r : lines.Line} {o₁ o₂ : ℕ} {x y z : parts.Part} {v : List ℕ} →
         NoadSet (nextClass beyond (treeOf (drop (end bytes kind) bytes))) right l r o₁ o₂ b x y z v b′ →

@@ -7,7 +7,7 @@ use mathlib.Core.Path.{_≡_, refl, sym, ap, subst, _∙_}
 use mathlib.Core.Bool.{Bool, true, and-eq-true-iff}
 use mathlib.Core.List.{List, [], _∷_}
 use mathlib.Core.Option.{none, some}
-use Prim.Native.Nat.{ℕ, _+_, _≤_, _<_}
+use Prim.Native.Nat.{ℕ, _+_, _-_, _≤_, _<_}
 use native.Mathlib.Omega.{arith}
 use lib.IntN.{pos}
 use Rattle.font.specs.Font.{Font}
@@ -23,6 +23,7 @@ use Rattle.nodes.specs.Nodes.{Node, glyph}
 use Rattle.nodes.specs.Bounds.{greatestLength}
 use Rattle.nodes.specs.Buffer.{put}
 use Rattle.nodes.specs.Drawn.{Drawn, drawn-none, drawn-put}
+use Rattle.nodes.specs.Kept.{Kept, kept-all, kept-more, kept-put}
 use Rattle.nodes.specs.Hull.{around, HullWithin}
 use Rattle.nodes.specs.Runs.{RunIs, PointRun}
 use Rattle.nodes.specs.RunLaws.{run-none, run-node}
@@ -52,6 +53,7 @@ module _ (F : Font) (s : Style) (enlarge : Bool) (at end : ℕ) (b : List ℕ) w
           is = λ h. record { shape-is = ap shapeAs (e .shape-is); run-is = run-none (e .run-is) };
         },
         λ h. drawn-none b,
+        kept-all (end - at) b,
       )
 
   module _ (family code : ℕ) (inside : at < end) where
@@ -80,19 +82,20 @@ module _ (F : Font) (s : Style) (enlarge : Bool) (at end : ℕ) (b : List ℕ) w
                 };
           },
           λ q. subst (λ (ns : List Node). Drawn ns b b′) (sym nodes) (subst (λ (t : List ℕ). Drawn (n ∷ []) b t) (sym written) (drawn-put n b)),
+          rw written (kept-more (omega arith) (kept-put n b)),
         )
 
-    pub symbol-missing : (b′ : List ℕ) → symbolIn F (fontSize s) enlarge family code ≡ none →
-        FieldDone F s enlarge (symbol family code) at end b (Missing at) b′
+    pub symbol-missing : symbolIn F (fontSize s) enlarge family code ≡ none →
+        FieldDone F s enlarge (symbol family code) at end b (Missing at) b
     unfolding missingField absentAt
-    symbol-missing b′ lacks = (ap (absentAt at) lacks, omega arith)
+    symbol-missing lacks = (ap (absentAt at) lacks, omega arith, kept-all (end - at) b)
 
   -- the list's n bytes stand behind its opening
   module _ (l : Items) (n : ℕ) (goes : end ≡ at + listOpeningBytes + n) (b′ : List ℕ) where
     pub list-whole : (line : lines.Line) (c : parts.Part) → ListDone F s l n b (items.Whole line) b′ → ListPart end line c →
         FieldDone F s enlarge (list l) at end b (Whole c) b′
     unfolding missingField fieldFits setField setList later
-    list-whole line c (w, drawn) p =
+    list-whole line c (w, drawn, kept) p =
         let fits : lineFits line ≡ fieldFits F s (list l) = line-fits w in
         let inner : fieldFits F s (list l) ≡ true → itemsFit F s l ≡ true = λ h. and-eq-true-iff (boxFits (setList F s l)) (itemsFit F s l) .0 h .1 in
         let few = p .count in
@@ -111,9 +114,11 @@ module _ (F : Font) (s : Style) (enlarge : Bool) (at end : ℕ) (b : List ℕ) w
                 };
           },
           λ h. drawn (inner h),
+          kept-more (omega arith) kept,
         )
 
     pub list-missing : (place : ℕ) → ListDone F s l n b (items.Missing place) b′ →
         FieldDone F s enlarge (list l) at end b (Missing (at + listOpeningBytes + place)) b′
     unfolding missingField later
-    list-missing place d = (ap (later (at + listOpeningBytes)) (d .0), let low = d .1 in omega arith)
+    list-missing place (lacks, low, kept) =
+        (ap (later (at + listOpeningBytes)) lacks, omega arith, kept-more (omega arith) kept)

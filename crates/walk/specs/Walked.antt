@@ -1,7 +1,9 @@
 -- What the functions of the walk ask and promise, in terms of the definition. In their order: fields, lines, items whose fields
 -- are set, and the setters, which come to the first missing symbol or to all of what they set (`FieldDone`, `ItemDone`,
 -- `ItemsDone`, `ListDone`).
--- Of what passes the greatest length nothing is promised but that it does so.
+-- Of what passes the greatest length nothing is promised but that it does so, and how many nodes it has at most.
+-- Whatever they come to, a missing symbol, something too large or too little room, a buffer keeps all but as many nodes as there are
+-- bytes in what was to be set (`Kept`).
 -- Assumes nothing.
 use mathlib.Core.Path.{_≡_}
 use mathlib.Core.Bool.{Bool, true, not, _||_}
@@ -39,6 +41,7 @@ use Rattle.nodes.specs.Nodes.{movedNode, moved}
 use Rattle.nodes.specs.Bounds.{greatestLength}
 use Rattle.nodes.specs.Buffer.{put, movedFront, behindNodes}
 use Rattle.nodes.specs.Drawn.{Drawn}
+use Rattle.nodes.specs.Kept.{Kept}
 use Rattle.nodes.specs.Hull.{Hull, none as unreached, joined, movedHull, hull, HullWithin}
 use Rattle.nodes.specs.Runs.{hullOf, isLarge, RunIs, EmptyRun, JoinedRun}
 use Rattle.setting.specs.Setting.{Line, ruleNode, ruleNodes, nextClass, setField, setItem, setItems, setList}
@@ -80,7 +83,9 @@ pub record FieldWhole (F : Font) (s : Style) (enlarge : Bool) (f : Field) (at en
 abbrev pub FieldDone : Font → Style → Bool → Field → ℕ → ℕ → List ℕ → FieldSet → List ℕ → Type 0
 FieldDone F s enlarge f at end b (field.Whole c) b′ =
     FieldWhole F s enlarge f at end c × (fieldFits F s f ≡ true → Drawn (setField F s enlarge f .nodes) b b′)
-FieldDone F s enlarge f at end b (field.Missing place) b′ = (missingField F s enlarge at f ≡ some place) × (place ≤ end)
+    × Kept (end - at) b b′
+FieldDone F s enlarge f at end b (field.Missing place) b′ =
+    (missingField F s enlarge at f ≡ some place) × (place ≤ end) × Kept (end - at) b b′
 
 -- ---- a line
 
@@ -281,22 +286,26 @@ pub record FieldGiven (t : List ℕ) (p : List (List ℕ)) (s : List ℕ) (at : 
 pub record Added (fits : Bool) (M : Line) (bytes : ℕ) (l : lines.Line) (b : List ℕ) (r : lines.Line) (b′ : List ℕ) : Type 0 where
   pub large-is : isLarge (r .run) ≡ (isLarge (l .run) || not fits)
   pub more : l .run .count ≤ r .run .count
+  pub few : r .run .count ≤ l .run .count + bytes
   pub grows : (k : ℕ) → LineWithin k l → LineWithin (k + bytes) r
   pub left-is : fits ≡ true → neighbourAs (r .left) ≡ M .left
   pub size-is : fits ≡ true → sizeAs (r .size) ≡ M .box .size
   pub count-is : fits ≡ true → r .run .count ≡ l .run .count + length (M .box .nodes)
   pub hull-is : fits ≡ true → hullOf (r .run) ≡ joined (hullOf (l .run)) (hull (M .box .nodes))
   pub drawn : fits ≡ true → Drawn (M .box .nodes) b b′
+  pub kept : Kept bytes b b′
 
 abbrev pub ItemsDone : Font → Style → Neighbour → Items → ℕ → lines.Line → List ℕ → ItemsSet → List ℕ → Type 0
 ItemsDone F s beyond l bytes line b (items.Whole r) b′ =
     (missingItems F s l ≡ none) × Added (itemsFit F s l) (setItems F s beyond (bareLine line) l) bytes line b r b′
-ItemsDone F s beyond l bytes line b (items.Missing place) b′ = (missingItems F s l ≡ some place) × (place ≤ bytes)
+ItemsDone F s beyond l bytes line b (items.Missing place) b′ =
+    (missingItems F s l ≡ some place) × (place ≤ bytes) × Kept bytes b b′
 
 abbrev pub StepDone : Font → Style → Neighbour → Item → ℕ → lines.Line → List ℕ → Step → List ℕ → Type 0
 StepDone F s right i bytes line b (step.Next n r) b′ =
     (missingItem F s i ≡ none) × (n ≡ bytes) × Added (itemFits F s i) (setItem F s right (bareLine line) i) n line b r b′
-StepDone F s right i bytes line b (step.Missing place) b′ = (missingItem F s i ≡ some place) × (place ≤ bytes)
+StepDone F s right i bytes line b (step.Missing place) b′ =
+    (missingItem F s i ≡ some place) × (place ≤ bytes) × Kept bytes b b′
 
 -- the item at the head of some bytes, and the class of the atom that follows
 abbrev pub ItemDone : Font → Style → Neighbour → List ℕ → lines.Line → List ℕ → Step → List ℕ → Type 0
@@ -315,8 +324,9 @@ pub record ListWhole (F : Font) (s : Style) (l : Items) (bytes : ℕ) (c : lines
 
 abbrev pub ListDone : Font → Style → Items → ℕ → List ℕ → ItemsSet → List ℕ → Type 0
 ListDone F s l bytes b (items.Whole c) b′ =
-    ListWhole F s l bytes c × (itemsFit F s l ≡ true → Drawn (setList F s l .nodes) b b′)
-ListDone F s l bytes b (items.Missing place) b′ = (missingItems F s l ≡ some place) × (place ≤ bytes)
+    ListWhole F s l bytes c × (itemsFit F s l ≡ true → Drawn (setList F s l .nodes) b b′) × Kept bytes b b′
+ListDone F s l bytes b (items.Missing place) b′ =
+    (missingItems F s l ≡ some place) × (place ≤ bytes) × Kept bytes b b′
 
 -- the field at a place of its item
 abbrev pub HeadDone : Font → Style → Bool → List ℕ → ℕ → List ℕ → FieldSet → List ℕ → Type 0

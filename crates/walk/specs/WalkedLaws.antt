@@ -86,5 +86,6 @@ list-of-items F s l n {c} b b′ (items.Whole r) o (present, a) =
             (record { count-is = omega (arith, a .count-is h); hull-is = a .hull-is h ∙ rw (o .run-is .hull-is) });
       },
       λ h. subst (λ (m : Line). Drawn (m .box .nodes) b b′) like (a .drawn h),
+      a .kept,
     )
 list-of-items F s l n b b′ (items.Missing place) o d = d

@@ -1,7 +1,9 @@
 -- The setting cycle meets its contracts: `set_items` calls `set_item`, that `set_noad`, that `set_field`, three times, and that
 -- `set_items` on a shorter list. The measure is four times the length of what is set, and one more for each of them upward.
--- At each call whose result is matched one helper says what is known there (`list-head`; `turn-next`, `turn-stop`; `one`, `two`,
--- `three`); each need follows by one law of `FieldLaws`, `ListLaws` or `NoadLaws`.
+-- The places of the code that are spoken of have names (`Read`, `Turned`, `First`, `Second`, ..), and `a-of` leads from a place back to
+-- an earlier one. At each call whose result is matched one helper says what is known there (`list-head`, `list-lacks`; `turn-next`,
+-- `turn-stop`; `one`, `two`, `three`, and `lacks-first` to `lacks-third`); each need follows by one law of `FieldLaws`, `ListLaws` or
+-- `NoadLaws`.
 -- Assumes nothing.
 use mathlib.Core.Path.{_≡_, refl, sym, subst, ap, _∙_}
 use mathlib.Core.Logic.{⊎-elim}
@@ -12,13 +14,17 @@ use Prim.Native.Nat.{ℕ, _+_, _-_, _*_, _≤_, _<_}
 use native.Mathlib.Omega.{arith}
 use lib.ListN.{length, take, drop}
 use borrow.Author.Needs.{needs}
-use borrow.Rule.Slice.PartMut.{putMid, same-len-mid}
+use borrow.Rule.Slice.PartMut.{putMid}
 use borrow.Fn.Kinds.{In}
 use borrow.Fn.PlainCycle.{Measures, is, falls, and}
 use Rattle.font.specs.Font.{fontOf}
+use Rattle.formula.specs.declared.FieldHead.{FieldHead}
 use Rattle.formula.specs.declared.FieldHead.the-variants.{Sublist}
+use Rattle.formula.specs.declared.Opening.{Opening}
 use Rattle.formula.specs.declared.Opening.the-variants.{NoItem}
-use Rattle.formula.specs.Places.{treeOf, end}
+use Rattle.formula.specs.Tree.{openingBytes}
+use Rattle.formula.specs.Heads.{openingOf}
+use Rattle.formula.specs.Places.{treeOf, second, end}
 use Rattle.formula.specs.HeadLaws.{kern-small}
 use Rattle.formula.specs.PlacesLaws.{step, Noad, noad-at, third-good}
 use Rattle.formula.proofs.heads.field_bytes.Reads as field-bytes-reads
@@ -27,23 +33,25 @@ use Rattle.formula.proofs.heads.has_third.Reads as has-third-reads
 use Rattle.formula.proofs.heads.opening.Reads as opening-reads
 use Rattle.formula.proofs.heads.opening_bytes.Reads as opening-bytes-reads
 use Rattle.boxes.specs.Parameters.{Parameters}
-use Rattle.arrange.specs.Arrange.{ownCounts}
+use Rattle.arrange.specs.Arrange.{ownCounts, firstStyle, secondStyle, enlarges}
 use Rattle.spacing.specs.Values.{neighbourAs}
 use Rattle.arrange.proofs.enlarges.Reads as enlarges-reads
 use Rattle.arrange.proofs.first_style.Reads as first-style-reads
 use Rattle.arrange.proofs.own_counts.Reads as own-counts-reads
 use Rattle.arrange.proofs.second_style.Reads as second-style-reads
 use Rattle.arrange.proofs.third_style.Reads as third-style-reads
+use Rattle.nodes.specs.Kept.{Kept}
 use Rattle.nodes.proofs.room.Reads as room-reads
-use Rattle.setting.specs.Missing.{missingItems}
+use Rattle.walk.specs.declared.parts.Part as parts
 use Rattle.walk.specs.declared.parts.FieldSet.{FieldSet}
 use Rattle.walk.specs.declared.parts.FieldSet.the-variants as field
+use Rattle.walk.specs.declared.lists.ItemsSet.the-variants as items
 use Rattle.walk.specs.declared.lists.Step.{Step}
 use Rattle.walk.specs.Bounds.{longest}
-use Rattle.walk.specs.Walked.{HeadDone, ItemDone}
+use Rattle.walk.specs.Walked.{HeadDone, ItemDone, ItemsDone}
 use Rattle.walk.proofs.FieldLaws.{Head, head-at, head-short, head-empty, head-symbol, head-whole, head-missing, list-given}
 use Rattle.walk.proofs.PlaceLaws.{tail-given, right-alike}
-use Rattle.walk.proofs.NoadLaws.{head-as, finished-by, lacksZ, first-lacks, second-lacks, third-lacks, One, Two, Three, ThirdDone, set-one, set-two, set-three, none-third, finish-given, noad-lacks, noad-done}
+use Rattle.walk.proofs.NoadLaws.{head-as, finished-by, lacksX, lacksY, first-lacks, second-lacks, third-lacks, One, Two, ThirdDone, set-one, set-two, set-three, lacks-one, lacks-two, none-third, finish-given, noad-lacks, noad-done}
 use Rattle.walk.proofs.ListLaws.{line-more, kern-done, rest-given, Along, along-start, along-next, along-stop, along-done}
 use Rattle.walk.proofs.lists.set_field.Reads as set-field
 use Rattle.walk.proofs.lists.set_field.Kinds as set-field-kinds
@@ -121,86 +129,138 @@ set-noad-claims t = (own-counts-reads.Asked, own-counts-reads.Learnt, room-reads
 
 -- ---- set_field
 
--- in the arm of a list: its head
+-- its head is read
+abbrev Read : ℕ → Type 0
+Read t = set-field-lts.After-field-bytes (set-field-claims t) (set-field-at t) set-field.Post
+
+abbrev read-start : (t : ℕ) → Read t → set-field-lts.Start (set-field-claims t) (set-field-at t) set-field.Post
+read-start t c = c .before .before .before .before .before .before
+
+head-of : (t : ℕ) (c : Read t) {h : FieldHead} → c .before .field-head .result ≡ h →
+    let a = read-start t c .args in
+    Head (a .s .now) (a .at) h (a .at + c .field-bytes .result)
+head-of t c is = head-at (read-start t c .pre .1) (c .before .field-head .ensures) (c .field-bytes .ensures) is
+
+-- in the arm of a list, and once its items are set
 abbrev Listed : ℕ → Type 0
 Listed t = set-field-lts.After-known-told2 (set-field-claims t) (set-field-at t) set-field.Post
 
-abbrev from-list : (t : ℕ) → Listed t → set-field-lts.Start (set-field-claims t) (set-field-at t) set-field.Post
-from-list t c = c .before .before .before .before .before .before .before .before .before
+abbrev Listing : ℕ → Type 0
+Listing t = set-field-lts.After-set-items (set-field-claims t) (set-field-at t) set-field.Post
+
+abbrev read-of : (t : ℕ) → Listed t → Read t
+read-of t c = c .before .before .before
+
+abbrev listed-of : (t : ℕ) → Listing t → Listed t
+listed-of t c = c .before .before .before .before
+
+abbrev list-buffer : (t : ℕ) → Listing t → List ℕ
+list-buffer t c = c .set-items .last .1 .1 .1 .1 .1 .1 .0
 
 list-head : (t : ℕ) (c : Listed t) →
-    let a = from-list t c .args in
-    Head (a .s .now) (a .at) (Sublist (c .before .head2 .given .0 .0) (c .before .head2 .given .0 .1 .0)) (a .at + c .before .before .before .field-bytes .result)
-list-head t c = head-at (from-list t c .pre .1) (c .before .before .before .before .field-head .ensures) (c .before .before .before .field-bytes .ensures) (c .before .head2 .given .1)
+    let a = read-start t (read-of t c) .args in
+    Head (a .s .now) (a .at) (Sublist (c .before .head2 .given .0 .0) (c .before .head2 .given .0 .1 .0)) (a .at + read-of t c .field-bytes .result)
+list-head t c = head-of t (read-of t c) (c .before .head2 .given .1)
 
 -- where the list lacks a symbol
-list-lacks : (t : ℕ) (c : set-field-lts.After-known-told4 (set-field-claims t) (set-field-at t) set-field.Post) →
-    let a = from-list t (c .before .before .before .before .before .before .before .before .before) .args in
-    let place = a .at + c .before .before .before .before .before .before .before .before .before .before .head2 .given .0 .0 + c .before .l2 .given .0 .0 in
-    HeadDone (fontOf (a .table .now)) (a .style) (a .enlarge) (a .s .now) (a .at) (a .buf .now) (field.Missing place) (c .before .before .before .before .before .set-items .last .1 .1 .1 .1 .1 .1 .0)
+abbrev Lacking : ℕ → Type 0
+Lacking t = set-field-lts.After-known-told4 (set-field-claims t) (set-field-at t) set-field.Post
+
+abbrev listing-of : (t : ℕ) → Lacking t → Listing t
+listing-of t c = c .before .before .before .before .before
+
+list-lacks : (t : ℕ) (c : Lacking t) →
+    let set = listing-of t c in
+    let a = read-start t (read-of t (listed-of t set)) .args in
+    let place = a .at + listed-of t set .before .head2 .given .0 .0 + c .before .l2 .given .0 .0 in
+    HeadDone (fontOf (a .table .now)) (a .style) (a .enlarge) (a .s .now) (a .at) (a .buf .now) (field.Missing place) (list-buffer t set)
     × (place ≤ length (a .s .now))
 list-lacks t c =
-    let a = from-list t (c .before .before .before .before .before .before .before .before .before) .args in
-    head-missing (fontOf (a .table .now)) (a .style) (a .enlarge) (a .buf .now) (c .before .before .before .before .before .set-items .last .1 .1 .1 .1 .1 .1 .0) (list-head t (c .before .before .before .before .before .before .before .before .before)) (c .before .before .before .before .before .before .before .start .ensures) _
-    (c .before .before .before .before .before .set-items .ensures) (c .before .l2 .given .1)
+    let set = listing-of t c in
+    let a = read-start t (read-of t (listed-of t set)) .args in
+    head-missing (fontOf (a .table .now)) (a .style) (a .enlarge) (a .buf .now) (list-buffer t set) (list-head t (listed-of t set)) (set .before .before .start .ensures) _
+    (set .set-items .ensures) (c .before .l2 .given .1)
 
 set-field-set-items-requires : (t : ℕ) → set-field-lts.Need-set-items-requires (set-field-claims t) (set-field-at t) set-field.Post
 set-field-set-items-requires t c κs =
-    let p = from-list t (c .before .before .before) .pre in
-    let g = list-given (p .1) (list-head t (c .before .before .before)) (c .before .start .ensures) in
+    let listed = c .before .before .before in
+    let p = read-start t (read-of t listed) .pre in
+    let g = list-given (p .1) (list-head t listed) (c .before .start .ensures) in
     (omega (arith, g .1, p .0), g .0)
 
 set-field-returns : (t : ℕ) → set-field-lts.Need-returns (set-field-claims t) (set-field-at t) set-field.Post
 set-field-returns t c =
-    let start = c .before .before .before .before .before .before .before .before .before in
-    head-empty (fontOf (start .args .table .now)) _ _ (start .args .buf .now) (head-at (start .pre .1) (c .before .before .before .before .field-head .ensures) (c .before .before .before .field-bytes .ensures) (c .before .enum-told .given .1)) refl
-    (c .empty-part .ensures)
+    let read = c .before .before .before in
+    let a = read-start t read .args in
+    head-empty (fontOf (a .table .now)) _ _ (a .buf .now) (head-of t read (c .before .enum-told .given .1)) refl (c .empty-part .ensures)
 
 set-field-returns-2 : (t : ℕ) → set-field-lts.Need-returns-2 (set-field-claims t) (set-field-at t) set-field.Post
 set-field-returns-2 t c =
-    let start = c .before .before .before .before .before .before .before .before .before in
-    head-empty (fontOf (start .args .table .now)) _ _ (start .args .buf .now) (head-at (start .pre .1) (c .before .before .before .before .field-head .ensures) (c .before .before .before .field-bytes .ensures) (c .before .enum-told2 .given .1)) refl
-    (c .empty-part2 .ensures)
+    let read = c .before .before .before in
+    let a = read-start t read .args in
+    head-empty (fontOf (a .table .now)) _ _ (a .buf .now) (head-of t read (c .before .enum-told2 .given .1)) refl (c .empty-part2 .ensures)
 
 set-field-returns-3 : (t : ℕ) → set-field-lts.Need-returns-3 (set-field-claims t) (set-field-at t) set-field.Post
 set-field-returns-3 t c =
-    let start = c .before .before .before .before .before .before .before .before .before .before .before .before .before in
-    head-symbol (fontOf (start .args .table .now)) (start .args .style) (start .args .enlarge) (start .args .buf .now) (c .before .before .symbol-part .last .1 .1 .1 .1 .1 .1 .1 .0)
-    (head-at (start .pre .1) (c .before .before .before .before .before .before .before .before .field-head .ensures) (c .before .before .before .before .before .before .before .field-bytes .ensures) (c .before .before .before .before .before .head .given .1)) (c .before .before .symbol-part .result) (c .before .before .symbol-part .ensures)
+    let set = c .before .before in
+    let arm = set .before .before .before in
+    let read = arm .before .before in
+    let a = read-start t read .args in
+    head-symbol (fontOf (a .table .now)) (a .style) (a .enlarge) (a .buf .now) (set .symbol-part .last .1 .1 .1 .1 .1 .1 .1 .0)
+    (head-of t read (arm .head .given .1)) (set .symbol-part .result) (set .symbol-part .ensures)
 
 set-field-returns-4 : (t : ℕ) → set-field-lts.Need-returns-4 (set-field-claims t) (set-field-at t) set-field.Post
 set-field-returns-4 t c =
-    let start = from-list t (c .before .before .before .before .before .before .before .before .before .before) in
-    head-whole (fontOf (start .args .table .now)) _ _ (start .args .buf .now) (c .before .before .before .before .before .before .set-items .last .1 .1 .1 .1 .1 .1 .0) (list-head t (c .before .before .before .before .before .before .before .before .before .before)) (c .before .before .before .before .before .before .before .before .start .ensures) _
-    (c .before .before .before .before .before .before .set-items .ensures) (c .before .before .l .given .1) (c .list-part .ensures)
+    let set = c .before .before .before .before .before .before in
+    let a = read-start t (read-of t (listed-of t set)) .args in
+    head-whole (fontOf (a .table .now)) _ _ (a .buf .now) (list-buffer t set) (list-head t (listed-of t set)) (set .before .before .start .ensures) _
+    (set .set-items .ensures) (c .before .before .l .given .1) (c .list-part .ensures)
 
 set-field-returns-6 : (t : ℕ) → set-field-lts.Need-returns-6 (set-field-claims t) (set-field-at t) set-field.Post
 set-field-returns-6 t c =
-    let start = c .before .before .before .before .before .before .before .before .before in
-    head-empty (fontOf (start .args .table .now)) _ _ (start .args .buf .now) (head-at (start .pre .1) (c .before .before .before .before .field-head .ensures) (c .before .before .before .field-bytes .ensures) (c .before .enum-told3 .given .1)) refl
-    (c .empty-part3 .ensures)
+    let read = c .before .before .before in
+    let a = read-start t read .args in
+    head-empty (fontOf (a .table .now)) _ _ (a .buf .now) (head-of t read (c .before .enum-told3 .given .1)) refl (c .empty-part3 .ensures)
+
+-- ---- set_item
+
+abbrev Opened : ℕ → Type 0
+Opened t = set-item-lts.After-opening (set-item-claims t) (set-item-at t) set-item.Post
+
+abbrev opened-start : (t : ℕ) → Opened t → set-item-lts.Start (set-item-claims t) (set-item-at t) set-item.Post
+opened-start t c = c .before .before .before .before
+
+opens : (t : ℕ) (c : Opened t) {o : Opening} → c .opening .result ≡ o → openingOf (opened-start t c .args .s .now) ≡ o
+opens t c is = sym (c .opening .ensures) ∙ is
 
 set-item-set-noad-requires : (t : ℕ) → set-item-lts.Need-set-noad-requires (set-item-claims t) (set-item-at t) set-item.Post
 set-item-set-noad-requires t c κs =
-    let p = c .before .before .before .before .before .before .before .before .pre in
-    (omega (arith, p .0), record { items = p .1 .0; opens = sym (c .before .before .before .before .opening .ensures) ∙ c .before .before .o .given .1 })
+    let opened = c .before .before .before .before in
+    let p = opened-start t opened .pre in
+    (omega (arith, p .0), record { items = p .1 .0; opens = opens t opened (c .before .before .o .given .1) })
 
 set-item-kerned-requires : (t : ℕ) → set-item-lts.Need-kerned-requires (set-item-claims t) (set-item-at t) set-item.Post
 set-item-kerned-requires t c κs =
-    let start = c .before .before .before .before .before .before .before in
+    let opened = c .before .before .before in
+    let start = opened-start t opened in
     let items = start .pre .1 .0 in
-    (line-more (omega arith) (items .small), kern-small (start .args .s .now) _ (sym (c .before .before .before .opening .ensures) ∙ c .before .o2 .given .1))
+    (line-more (omega arith) (items .small), kern-small (start .args .s .now) _ (opens t opened (c .before .o2 .given .1)))
 
 set-item-returns : (t : ℕ) → set-item-lts.Need-returns (set-item-claims t) (set-item-at t) set-item.Post
 set-item-returns t c =
-    let p = c .before .before .before .before .before .before .pre .1 in
-    absurd (step (c .before .before .before .before .before .before .args .s .now) NoItem (sym (c .before .before .opening .ensures) ∙ c .enum-told .given .1) (p .0 .list .readable) (p .1) .item)
+    let opened = c .before .before in
+    let start = opened-start t opened in
+    let p = start .pre .1 in
+    absurd (step (start .args .s .now) NoItem (opens t opened (c .enum-told .given .1)) (p .0 .list .readable) (p .1) .item)
 
 set-item-returns-3 : (t : ℕ) → set-item-lts.Need-returns-3 (set-item-claims t) (set-item-at t) set-item.Post
 set-item-returns-3 t c =
-    let a = c .before .before .before .before .before .before .before .before .args in
-    kern-done (fontOf (a .table .now)) (a .style) (neighbourAs (a .beyond)) (a .s .now) (a .line) (c .kerned .result) (a .buf .now) _ (sym (c .before .before .before .before .opening .ensures) ∙ c .before .before .o2 .given .1)
+    let opened = c .before .before .before .before in
+    let a = opened-start t opened .args in
+    kern-done (fontOf (a .table .now)) (a .style) (neighbourAs (a .beyond)) (a .s .now) (a .line) (c .kerned .result) (a .buf .now) _ (opens t opened (c .before .before .o2 .given .1))
     (c .kerned .ensures)
+
+-- ---- set_items: an item is set behind the line, or lacks a symbol
 
 abbrev set-items-Inv-loop : set-items-lts.InvT-loop
 set-items-Inv-loop table p style beyond s line buf₀ at₀ l₀ buf at l =
@@ -209,270 +269,375 @@ set-items-Inv-loop table p style beyond s line buf₀ at₀ l₀ buf at l =
 abbrev set-items-μ-loop : set-items-lts.MeasureT-loop
 set-items-μ-loop table p style beyond s line buf₀ at₀ l₀ buf at l = length s - at
 
--- ---- set_items: an item is set behind the line, or lacks a symbol
-
 abbrev Turn : ℕ → Type 0
 Turn t = set-items-lts.In-loop (set-items-claims t) (set-items-at t) set-items.Post set-items-Inv-loop set-items-μ-loop
 
 abbrev turn-start : (t : ℕ) → Turn t → set-items-lts.Start (set-items-claims t) (set-items-at t) set-items.Post set-items-Inv-loop set-items-μ-loop
 turn-start t c = c .before .before .before .before .before
 
-turn-next : (t : ℕ)
-    (c : set-items-lts.After-known-told (set-items-claims t) (set-items-at t) set-items.Post set-items-Inv-loop set-items-μ-loop) →
-    let a = turn-start t (c .before .before .before .before .before .before .before .before .before .before .before) .args in
-    let o = c .before .before .before .before .before .before .before .before .before .before .before .before .loop in
-    let j = c .before .before .before .before .before .before .before .before .room .result in
-    (0 < c .before .step .given .0 .0)
-    × Along (fontOf (a .table .now)) (a .style) (neighbourAs (a .beyond)) (a .s .now) (a .line) (a .buf .now) (o .at + c .before .step .given .0 .0) (c .before .step .given .0 .1 .0)
-    (putMid j (length (o .buf) - j) (o .buf) (c .before .before .before .before .before .set-item .last .1 .1 .1 .1 .1 .1 .0))
-turn-next t c =
-    let a = turn-start t (c .before .before .before .before .before .before .before .before .before .before .before) .args in
-    let o = c .before .before .before .before .before .before .before .before .before .before .before .before .loop in
-    let j = c .before .before .before .before .before .before .before .before .room .result in
-    let v = c .before .before .before .before .before .set-item .last .1 .1 .1 .1 .1 .1 .0 in
-    along-next _ _ _ _ _ _ (o .inv) (c .before .before .before .before .before .before .before .before .before .before .before .loop-test .taken) j v (c .before .before .before .before .before .before .before .before .room .ensures) (c .before .before .before .before .before .set-item .kept .1 .1 .1 .1 .1 .1 .0)
-    (subst (λ (r : Step). ItemDone (fontOf (a .table .now)) (a .style) (neighbourAs (a .beyond)) (take (length (a .s .now) - o .at) (drop (o .at) (a .s .now))) (o .l) (take (length (o .buf) - j) (drop j (o .buf))) r v)
-    (c .before .step .given .1) (c .before .before .before .before .before .set-item .ensures))
+-- once the item is set
+abbrev Turned : ℕ → Type 0
+Turned t = set-items-lts.After-set-item (set-items-claims t) (set-items-at t) set-items.Post set-items-Inv-loop set-items-μ-loop
 
-turn-stop : (t : ℕ)
-    (c : set-items-lts.After-known-told2 (set-items-claims t) (set-items-at t) set-items.Post set-items-Inv-loop set-items-μ-loop) →
-    let a = turn-start t (c .before .before .before .before .before .before .before .before .before .before .before) .args in
-    let place = c .before .before .before .before .before .before .before .before .before .before .before .before .loop .at + c .before .step2 .given .0 .0 in
-    (missingItems (fontOf (a .table .now)) (a .style) (treeOf (a .s .now)) ≡ some place) × (place ≤ length (a .s .now))
+abbrev turn-of : (t : ℕ) → Turned t → Turn t
+turn-of t c = c .before .before .before .before .before .before
+
+abbrev item-buffer : (t : ℕ) → Turned t → List ℕ
+item-buffer t c =
+    let b = turn-of t c .before .loop .buf in
+    let j = c .before .before .before .room .result in
+    putMid j (length b - j) b (c .set-item .last .1 .1 .1 .1 .1 .1 .0)
+
+abbrev Next : ℕ → Type 0
+Next t = set-items-lts.After-known-told (set-items-claims t) (set-items-at t) set-items.Post set-items-Inv-loop set-items-μ-loop
+
+abbrev next-turned : (t : ℕ) → Next t → Turned t
+next-turned t c = c .before .before .before .before .before
+
+abbrev Stop : ℕ → Type 0
+Stop t = set-items-lts.After-known-told2 (set-items-claims t) (set-items-at t) set-items.Post set-items-Inv-loop set-items-μ-loop
+
+abbrev stop-turned : (t : ℕ) → Stop t → Turned t
+stop-turned t c = c .before .before .before .before .before
+
+-- what the item came to
+item-done : (t : ℕ) (c : Turned t) {r : Step} → c .set-item .result ≡ r →
+    let a = turn-start t (turn-of t c) .args in
+    let o = turn-of t c .before .loop in
+    let j = c .before .before .before .room .result in
+    ItemDone (fontOf (a .table .now)) (a .style) (neighbourAs (a .beyond)) (take (length (a .s .now) - o .at) (drop (o .at) (a .s .now))) (o .l) (take (length (o .buf) - j) (drop j (o .buf))) r (c .set-item .last .1 .1 .1 .1 .1 .1 .0)
+item-done t c is =
+    let a = turn-start t (turn-of t c) .args in
+    let o = turn-of t c .before .loop in
+    let j = c .before .before .before .room .result in
+    subst (λ (r : Step). ItemDone (fontOf (a .table .now)) (a .style) (neighbourAs (a .beyond)) (take (length (a .s .now) - o .at) (drop (o .at) (a .s .now))) (o .l) (take (length (o .buf) - j) (drop j (o .buf))) r (c .set-item .last .1 .1 .1 .1 .1 .1 .0))
+    is (c .set-item .ensures)
+
+turn-next : (t : ℕ) (c : Next t) →
+    let set = next-turned t c in
+    let a = turn-start t (turn-of t set) .args in
+    (0 < c .before .step .given .0 .0)
+    × Along (fontOf (a .table .now)) (a .style) (neighbourAs (a .beyond)) (a .s .now) (a .line) (a .buf .now) (turn-of t set .before .loop .at + c .before .step .given .0 .0) (c .before .step .given .0 .1 .0)
+    (item-buffer t set)
+turn-next t c =
+    let set = next-turned t c in
+    let turn = turn-of t set in
+    let room = set .before .before .before .room in
+    along-next _ _ _ _ _ _ (turn .before .loop .inv) (turn .loop-test .taken) (room .result) (set .set-item .last .1 .1 .1 .1 .1 .1 .0) (room .ensures)
+    (item-done t set (c .before .step .given .1))
+
+turn-stop : (t : ℕ) (c : Stop t) →
+    let set = stop-turned t c in
+    let a = turn-start t (turn-of t set) .args in
+    ItemsDone (fontOf (a .table .now)) (a .style) (neighbourAs (a .beyond)) (treeOf (a .s .now)) (length (a .s .now)) (a .line) (a .buf .now)
+    (items.Missing (turn-of t set .before .loop .at + c .before .step2 .given .0 .0)) (item-buffer t set)
 turn-stop t c =
-    let a = turn-start t (c .before .before .before .before .before .before .before .before .before .before .before) .args in
-    let o = c .before .before .before .before .before .before .before .before .before .before .before .before .loop in
-    let j = c .before .before .before .before .before .before .before .before .room .result in
-    let v = c .before .before .before .before .before .set-item .last .1 .1 .1 .1 .1 .1 .0 in
-    along-stop _ _ _ _ _ _ (o .inv) (c .before .before .before .before .before .before .before .before .before .before .before .loop-test .taken) j v
-    (subst (λ (r : Step). ItemDone (fontOf (a .table .now)) (a .style) (neighbourAs (a .beyond)) (take (length (a .s .now) - o .at) (drop (o .at) (a .s .now))) (o .l) (take (length (o .buf) - j) (drop j (o .buf))) r v)
-    (c .before .step2 .given .1) (c .before .before .before .before .before .set-item .ensures))
+    let set = stop-turned t c in
+    let turn = turn-of t set in
+    let room = set .before .before .before .room in
+    along-stop _ _ _ _ _ _ (turn .before .loop .inv) (turn .loop-test .taken) (room .result) (set .set-item .last .1 .1 .1 .1 .1 .1 .0) (room .ensures)
+    (item-done t set (c .before .step2 .given .1))
 
 set-items-set-item-requires : (t : ℕ) → set-items-lts.Need-set-item-requires (set-items-claims t) (set-items-at t) set-items.Post set-items-Inv-loop set-items-μ-loop
 set-items-set-item-requires t c κs =
-    let start = turn-start t (c .before .before .before .before .before) in
-    let g = rest-given (start .pre .1) (c .before .before .before .before .before .before .loop .inv) (c .before .before .before .before .before .loop-test .taken) in
+    let turn = c .before .before .before .before .before in
+    let start = turn-start t turn in
+    let g = rest-given (start .pre .1) (turn .before .loop .inv) (turn .loop-test .taken) in
     (omega (arith, g .1, start .pre .0), (g .0, omega (arith, g .2)))
-
-set-items-same-length : (t : ℕ) → set-items-lts.Need-same-length (set-items-claims t) (set-items-at t) set-items.Post set-items-Inv-loop set-items-μ-loop
-set-items-same-length t c =
-    let o = c .before .before .before .before .before .before .before .before .before .before .before .before .loop in
-    let j = c .before .before .before .before .before .before .before .before .room .result in
-    same-len-mid j (length (o .buf) - j) (o .buf) (c .before .before .before .before .before .set-item .last .1 .1 .1 .1 .1 .1 .0) (c .before .before .before .before .before .set-item .kept .1 .1 .1 .1 .1 .1 .0) ∙ o .inv .same
 
 -- ---- set_noad: behind each field what stands so far
 
 abbrev Start : ℕ → Type 0
 Start t = set-noad-lts.Start (set-noad-claims t) (set-noad-at t) set-noad.Post
 
-abbrev X : ℕ → Type 0
-X t = set-noad-lts.After-known-told (set-noad-claims t) (set-noad-at t) set-noad.Post
+noad-of : (t : ℕ) (c : Start t) → Noad (c .args .s .now) (c .args .kind)
+noad-of t c = noad-at (c .args .s .now) (c .args .kind) (c .pre .1 .opens) (c .pre .1 .items .list .readable)
 
-abbrev Y : ℕ → Type 0
-Y t = set-noad-lts.After-known-told3 (set-noad-claims t) (set-noad-at t) set-noad.Post
+-- the first field is set
+abbrev First : ℕ → Type 0
+First t = set-noad-lts.After-set-field (set-noad-claims t) (set-noad-at t) set-noad.Post
 
--- where the first field, the second, the third lacks a symbol
+abbrev Counted : ℕ → Type 0
+Counted t = set-noad-lts.After-own-counts (set-noad-claims t) (set-noad-at t) set-noad.Post
+
+abbrev Styled : ℕ → Type 0
+Styled t = set-noad-lts.After-first-style (set-noad-claims t) (set-noad-at t) set-noad.Post
+
+abbrev styled-of : (t : ℕ) → First t → Styled t
+styled-of t c = c .before .before .before .before
+
+abbrev counted-of : (t : ℕ) → First t → Counted t
+counted-of t c = styled-of t c .before .before
+
+abbrev start-of : (t : ℕ) → First t → Start t
+start-of t c = counted-of t c .before .before .before .before
+
+abbrev first-back : (t : ℕ) → First t → List ℕ
+first-back t c = c .set-field .last .1 .1 .1 .1 .1 .1 .0
+
+abbrev first-buffer : (t : ℕ) → First t → List ℕ
+first-buffer t c =
+    let b = start-of t c .args .buf .now in
+    let j = styled-of t c .before .room .result in
+    putMid j (length b - j) b (first-back t c)
+
+abbrev OneAt : (t : ℕ) → First t → parts.Part → Type 0
+OneAt t c x =
+    let a = start-of t c .args in
+    let own = counted-of t c .own-counts .result in
+    One (fontOf (a .table .now)) (a .style) (a .kind) (a .s .now) (own .before) (own .behind) (a .buf .now) x (first-buffer t c)
+
+-- its own nodes are as many as the definition says
+own-is : (t : ℕ) (c : First t) →
+    let a = start-of t c .args in
+    let own = counted-of t c .own-counts .result in
+    let defined = ownCounts (fontOf (a .table .now) .parameter) (a .style) (a .kind) in
+    (own .before ≡ defined .before) × (own .behind ≡ defined .behind)
+own-is t c =
+    let start = start-of t c in
+    let a = start .args in
+    let own = counted-of t c .own-counts .ensures in
+    let params = start .pre .1 .items .list .parameters-are in (
+      own .before-is ∙ ap (λ (P : Parameters). ownCounts P (a .style) (a .kind) .before) params,
+      own .behind-is ∙ ap (λ (P : Parameters). ownCounts P (a .style) (a .kind) .behind) params,
+    )
+
+first-done : (t : ℕ) (c : First t) {r : FieldSet} → c .set-field .result ≡ r →
+    let a = start-of t c .args in
+    let j = styled-of t c .before .room .result in
+    HeadDone (fontOf (a .table .now)) (firstStyle (a .kind) (a .style)) (enlarges (a .kind) (a .style)) (a .s .now) (openingBytes (a .kind)) (take (length (a .buf .now) - j) (drop j (a .buf .now))) r (first-back t c)
+first-done t c is =
+    let a = start-of t c .args in
+    let j = styled-of t c .before .room .result in
+    head-as (fontOf (a .table .now)) (a .s .now) (take (length (a .buf .now) - j) (drop j (a .buf .now))) (first-back t c) (styled-of t c .first-style .ensures) (c .before .before .before .enlarges .ensures) (c .before .before .opening-bytes .ensures) is
+    (c .set-field .ensures)
+
+one : (t : ℕ) (c : First t) {x : parts.Part} → c .set-field .result ≡ field.Whole x → OneAt t c x
+one t c is =
+    let start = start-of t c in
+    let a = start .args in
+    let own = own-is t c in
+    set-one (fontOf (a .table .now)) (a .style) (a .kind) (a .s .now) (a .buf .now) (first-back t c) (noad-of t start) (own .0) (own .1) (styled-of t c .before .room .ensures) (first-done t c is)
+
+-- it lacks a symbol
 abbrev X2 : ℕ → Type 0
 X2 t = set-noad-lts.After-known-told2 (set-noad-claims t) (set-noad-at t) set-noad.Post
 
+abbrev first-of-x2 : (t : ℕ) → X2 t → First t
+first-of-x2 t c = c .before .before .before .before .before
+
+lacks-first : (t : ℕ) (c : X2 t) →
+    let first = first-of-x2 t c in
+    let a = start-of t first .args in
+    Kept (end (a .s .now) (a .kind)) (a .buf .now) (first-buffer t first)
+    × (lacksX (fontOf (a .table .now)) (a .style) (a .kind) (a .s .now) ≡ some (c .before .x2 .given .0 .0))
+    × (c .before .x2 .given .0 .0 ≤ end (a .s .now) (a .kind))
+lacks-first t c =
+    let first = first-of-x2 t c in
+    let start = start-of t first in
+    let a = start .args in
+    let own = own-is t first in
+    lacks-one (fontOf (a .table .now)) (a .style) (a .kind) (a .s .now) (a .buf .now) (first-back t first) (noad-of t start) (own .0) (own .1) (styled-of t first .before .room .ensures) (first-done t first (c .before .x2 .given .1))
+
+-- it is whole
+abbrev X : ℕ → Type 0
+X t = set-noad-lts.After-known-told (set-noad-claims t) (set-noad-at t) set-noad.Post
+
+abbrev first-of-x : (t : ℕ) → X t → First t
+first-of-x t c = c .before .before .before .before .before
+
+abbrev part-x : (t : ℕ) → X t → parts.Part
+part-x t c = c .before .x .given .0 .0
+
+one-at : (t : ℕ) (c : X t) → OneAt t (first-of-x t c) (part-x t c)
+one-at t c = one t (first-of-x t c) (c .before .x .given .1)
+
+few-one : (t : ℕ) (c : X t) →
+    let own = counted-of t (first-of-x t c) .own-counts .result in
+    own .before + part-x t c .run .count + own .behind ≤ longest
+few-one t c =
+    let o = one-at t c in
+    let n = o .noad in
+    omega (arith, o .so .few, n .second-in, n .third-in, n .end-in, start-of t (first-of-x t c) .pre .1 .items .list .short)
+
+-- the second field is set
+abbrev Second : ℕ → Type 0
+Second t = set-noad-lts.After-set-field2 (set-noad-claims t) (set-noad-at t) set-noad.Post
+
+abbrev Placed : ℕ → Type 0
+Placed t = set-noad-lts.After-room2 (set-noad-claims t) (set-noad-at t) set-noad.Post
+
+abbrev placed-of : (t : ℕ) → Second t → Placed t
+placed-of t c = c .before .before .before
+
+abbrev x-of : (t : ℕ) → Second t → X t
+x-of t c = placed-of t c .before .before .before .before
+
+abbrev first-of : (t : ℕ) → Second t → First t
+first-of t c = first-of-x t (x-of t c)
+
+abbrev second-back : (t : ℕ) → Second t → List ℕ
+second-back t c = c .set-field2 .last .1 .1 .1 .1 .1 .1 .0
+
+abbrev second-buffer : (t : ℕ) → Second t → List ℕ
+second-buffer t c =
+    let v = first-buffer t (first-of t c) in
+    let j = placed-of t c .room2 .result in
+    putMid j (length v - j) v (second-back t c)
+
+abbrev TwoAt : (t : ℕ) → Second t → parts.Part → Type 0
+TwoAt t c y =
+    let a = start-of t (first-of t c) .args in
+    let own = counted-of t (first-of t c) .own-counts .result in
+    Two (fontOf (a .table .now)) (a .style) (a .kind) (a .s .now) (own .before) (own .behind) (a .buf .now) (part-x t (x-of t c)) y (second-buffer t c)
+
+second-done : (t : ℕ) (c : Second t) {r : FieldSet} → c .set-field2 .result ≡ r →
+    let a = start-of t (first-of t c) .args in
+    let v = first-buffer t (first-of t c) in
+    let j = placed-of t c .room2 .result in
+    HeadDone (fontOf (a .table .now)) (secondStyle (a .kind) (a .style)) false (a .s .now) (second (a .s .now) (a .kind)) (take (length v - j) (drop j v)) r (second-back t c)
+second-done t c is =
+    let a = start-of t (first-of t c) .args in
+    let v = first-buffer t (first-of t c) in
+    let j = placed-of t c .room2 .result in
+    head-as (fontOf (a .table .now)) (a .s .now) (take (length v - j) (drop j v)) (second-back t c) (c .before .before .second-style .ensures) refl (one-at t (x-of t c) .wx .end-is) is
+    (c .set-field2 .ensures)
+
+two : (t : ℕ) (c : Second t) {y : parts.Part} → c .set-field2 .result ≡ field.Whole y → TwoAt t c y
+two t c is =
+    let a = start-of t (first-of t c) .args in
+    set-two (fontOf (a .table .now)) (a .style) (a .kind) (a .s .now) (one-at t (x-of t c)) (second-back t c) (placed-of t c .room2 .ensures) (second-done t c is)
+
+-- it lacks a symbol
 abbrev Y2 : ℕ → Type 0
 Y2 t = set-noad-lts.After-known-told4 (set-noad-claims t) (set-noad-at t) set-noad.Post
 
-abbrev Z2 : ℕ → Type 0
-Z2 t = set-noad-lts.After-known-told6 (set-noad-claims t) (set-noad-at t) set-noad.Post
+abbrev second-of-y2 : (t : ℕ) → Y2 t → Second t
+second-of-y2 t c = c .before .before .before .before .before
 
--- where the third field is there or not
+lacks-second : (t : ℕ) (c : Y2 t) →
+    let set = second-of-y2 t c in
+    let a = start-of t (first-of t set) .args in
+    Kept (end (a .s .now) (a .kind)) (a .buf .now) (second-buffer t set)
+    × (lacksY (fontOf (a .table .now)) (a .style) (a .kind) (a .s .now) ≡ some (c .before .y2 .given .0 .0))
+    × (c .before .y2 .given .0 .0 ≤ end (a .s .now) (a .kind))
+lacks-second t c =
+    let set = second-of-y2 t c in
+    let a = start-of t (first-of t set) .args in
+    lacks-two (fontOf (a .table .now)) (a .style) (a .kind) (a .s .now) (one-at t (x-of t set)) (second-back t set) (placed-of t set .room2 .ensures) (second-done t set (c .before .y2 .given .1))
+
+-- it is whole
+abbrev Y : ℕ → Type 0
+Y t = set-noad-lts.After-known-told3 (set-noad-claims t) (set-noad-at t) set-noad.Post
+
+abbrev second-of-y : (t : ℕ) → Y t → Second t
+second-of-y t c = c .before .before .before .before .before
+
+abbrev part-y : (t : ℕ) → Y t → parts.Part
+part-y t c = c .before .y .given .0 .0
+
+abbrev start-of-y : (t : ℕ) → Y t → Start t
+start-of-y t c = start-of t (first-of t (second-of-y t c))
+
+two-at : (t : ℕ) (c : Y t) → TwoAt t (second-of-y t c) (part-y t c)
+two-at t c = two t (second-of-y t c) (c .before .y .given .1)
+
+few-two : (t : ℕ) (c : Y t) →
+    let set = second-of-y t c in
+    let own = counted-of t (first-of t set) .own-counts .result in
+    own .before + part-x t (x-of t set) .run .count + own .behind + part-y t c .run .count ≤ longest
+few-two t c =
+    let o = two-at t c in
+    let n = o .noad in
+    omega (arith, o .so .few, n .third-in, n .end-in, start-of-y t c .pre .1 .items .list .short)
+
+-- the third field, if there is one
 abbrev Joined : ℕ → Type 0
 Joined t = set-noad-lts.Joined1 (set-noad-claims t) (set-noad-at t) set-noad.Post
-
-abbrev Z : ℕ → Type 0
-Z t = set-noad-lts.After-known-told5 (set-noad-claims t) (set-noad-at t) set-noad.Post
-
--- the ways back
-abbrev from-x : (t : ℕ) → X t → Start t
-from-x t c = c .before .before .before .before .before .before .before .before .before .before .before .before .before .before .before
-
-abbrev from-x2 : (t : ℕ) → X2 t → Start t
-from-x2 t c = c .before .before .before .before .before .before .before .before .before .before .before .before .before .before .before
-
-abbrev x-of : (t : ℕ) → Y t → X t
-x-of t c = c .before .before .before .before .before .before .before .before .before .before .before .before
-
-abbrev x-of-y2 : (t : ℕ) → Y2 t → X t
-x-of-y2 t c = c .before .before .before .before .before .before .before .before .before .before .before .before
 
 abbrev y-of : (t : ℕ) → Joined t → Y t
 y-of t c = c .before .before .before .before
 
-abbrev y-of-z : (t : ℕ) → Z t → Y t
-y-of-z t c = y-of t (c .before .before .before)
+abbrev ThirdAt : (t : ℕ) → Joined t → FieldSet → List ℕ → Type 0
+ThirdAt t c z b =
+    let set = second-of-y t (y-of t c) in
+    let a = start-of t (first-of t set) .args in
+    let own = counted-of t (first-of t set) .own-counts .result in
+    ThirdDone (fontOf (a .table .now)) (a .style) (a .kind) (a .s .now) (own .before) (own .behind) (a .buf .now) (part-x t (x-of t set)) (part-y t (y-of t c)) z b
 
-abbrev y-of-z2 : (t : ℕ) → Z2 t → Y t
-y-of-z2 t c = y-of t (c .before .before .before)
-
-abbrev from-y : (t : ℕ) → Y t → Start t
-from-y t c = from-x t (x-of t c)
-
-noad-of : (t : ℕ) (c : Start t) → Noad (c .args .s .now) (c .args .kind)
-noad-of t c = noad-at (c .args .s .now) (c .args .kind) (c .pre .1 .opens) (c .pre .1 .items .list .readable)
-
--- the buffer with the first field
-abbrev first-buffer : (t : ℕ) → X t → List ℕ
-first-buffer t c =
-    let a = from-x t c .args in
-    let j = c .before .before .before .before .before .before .before .before .before .before .room .result in
-    putMid j (length (a .buf .now) - j) (a .buf .now) (c .before .before .before .before .before .set-field .last .1 .1 .1 .1 .1 .1 .0)
-
-one : (t : ℕ) (c : X t) →
-    let a = from-x t c .args in
-    let own = c .before .before .before .before .before .before .before .before .before .before .before .own-counts .result in
-    One (fontOf (a .table .now)) (a .style) (a .kind) (a .s .now) (own .before) (own .behind) (a .buf .now) (c .before .x .given .0 .0) (first-buffer t c)
-one t c =
-    let start = from-x t c in
-    let a = start .args in
-    let j = c .before .before .before .before .before .before .before .before .before .before .room .result in
-    let own = c .before .before .before .before .before .before .before .before .before .before .before .own-counts .ensures in
-    let params = start .pre .1 .items .list .parameters-are in
-    let lent = take (length (a .buf .now) - j) (drop j (a .buf .now)) in
-    set-one (fontOf (a .table .now)) (a .style) (a .kind) (a .s .now) (a .buf .now) (c .before .before .before .before .before .set-field .last .1 .1 .1 .1 .1 .1 .0) (noad-of t start)
-    (own .before-is ∙ ap (λ (P : Parameters). ownCounts P (a .style) (a .kind) .before) params)
-    (own .behind-is ∙ ap (λ (P : Parameters). ownCounts P (a .style) (a .kind) .behind) params) (c .before .before .before .before .before .before .before .before .before .before .room .ensures) (
-      head-as (fontOf (a .table .now)) (a .s .now) lent (c .before .before .before .before .before .set-field .last .1 .1 .1 .1 .1 .1 .0) (c .before .before .before .before .before .before .before .before .before .first-style .ensures) (c .before .before .before .before .before .before .before .before .enlarges .ensures) (c .before .before .before .before .before .before .before .opening-bytes .ensures) (c .before .x .given .1) (c .before .before .before .before .before .set-field .ensures),
-      c .before .before .before .before .before .set-field .kept .1 .1 .1 .1 .1 .1 .0,
-    )
-
-few-one : (t : ℕ) (c : X t) → c .before .x .given .0 .0 .run .count ≤ longest
-few-one t c =
-    let o = one t c in
-    let n = o .noad in
-    omega (arith, o .wx .small .count, o .wx .end-is, n .second-in, n .third-in, n .end-in, from-x t c .pre .1 .items .list .short)
-
-few-own : (t : ℕ) (c : X t) →
-    let own = c .before .before .before .before .before .before .before .before .before .before .before .own-counts .result in
-    own .before + own .behind ≤ 2
-few-own t c = c .before .before .before .before .before .before .before .before .before .before .before .own-counts .ensures .few
-
--- the buffer with the second field
-abbrev second-buffer : (t : ℕ) → Y t → List ℕ
-second-buffer t c =
-    let v = first-buffer t (x-of t c) in
-    let j = c .before .before .before .before .before .before .before .before .room2 .result in
-    putMid j (length v - j) v (c .before .before .before .before .before .set-field2 .last .1 .1 .1 .1 .1 .1 .0)
-
-two : (t : ℕ) (c : Y t) →
-    let x = x-of t c in
-    let a = from-x t x .args in
-    let own = x .before .before .before .before .before .before .before .before .before .before .before .own-counts .result in
-    Two (fontOf (a .table .now)) (a .style) (a .kind) (a .s .now) (own .before) (own .behind) (a .buf .now) (x .before .x .given .0 .0) (c .before .y .given .0 .0) (second-buffer t c)
-two t c =
-    let x = x-of t c in
-    let a = from-x t x .args in
-    let v = first-buffer t x in
-    let j = c .before .before .before .before .before .before .before .before .room2 .result in
-    let o = one t x in
-    set-two (fontOf (a .table .now)) (a .style) (a .kind) (a .s .now) o (c .before .before .before .before .before .set-field2 .last .1 .1 .1 .1 .1 .1 .0) (c .before .before .before .before .before .before .before .before .room2 .ensures) (
-      head-as (fontOf (a .table .now)) (a .s .now) (take (length v - j) (drop j v)) (c .before .before .before .before .before .set-field2 .last .1 .1 .1 .1 .1 .1 .0) (c .before .before .before .before .before .before .before .second-style .ensures) refl (o .wx .end-is) (c .before .y .given .1) (c .before .before .before .before .before .set-field2 .ensures),
-      c .before .before .before .before .before .set-field2 .kept .1 .1 .1 .1 .1 .1 .0,
-    )
-
-few-two : (t : ℕ) (c : Y t) → c .before .y .given .0 .0 .run .count ≤ longest
-few-two t c =
-    let o = two t c in
-    let n = o .noad in
-    omega (arith, o .wy .small .count, o .wy .end-is, n .third-in, n .end-in, from-y t c .pre .1 .items .list .short)
-
--- the third field, if there is one
-third-done : (t : ℕ) (c : Joined t) →
-    let y = y-of t c in
-    let x = x-of t y in
-    let a = from-x t x .args in
-    let own = x .before .before .before .before .before .before .before .before .before .before .before .own-counts .result in
-    ThirdDone (fontOf (a .table .now)) (a .style) (a .kind) (a .s .now) (own .before) (own .behind) (a .buf .now) (x .before .x .given .0 .0) (y .before .y .given .0 .0) (c .if1 .z) (c .if1 .buf)
+third-done : (t : ℕ) (c : Joined t) → ThirdAt t c (c .if1 .z) (c .if1 .buf)
 third-done t c =
-    let y = y-of t c in
-    let x = x-of t y in
-    let a = from-x t x .args in
+    let set = second-of-y t (y-of t c) in
+    let a = start-of t (first-of t set) .args in
     let F = fontOf (a .table .now) in
-    let own = x .before .before .before .before .before .before .before .before .before .before .before .own-counts .result in
-    let v = second-buffer t y in
+    let v = second-buffer t set in
     let k = c .before .before .room3 .result in
-    let o = two t y in
+    let o = two-at t (y-of t c) in
     ⊎-elim
     (λ w.
     let r = w .3 .last .1 .1 .1 .1 .1 .1 .0 in
-    subst (λ (b : List ℕ). ThirdDone F (a .style) (a .kind) (a .s .now) (own .before) (own .behind) (a .buf .now) (x .before .x .given .0 .0) (y .before .y .given .0 .0) (c .if1 .z) b) (sym (w .6))
-    (subst (λ (z : FieldSet). ThirdDone F (a .style) (a .kind) (a .s .now) (own .before) (own .behind) (a .buf .now) (x .before .x .given .0 .0) (y .before .y .given .0 .0) z (putMid k (length v - k) v r)) (sym (w .7))
-    (set-three F (a .style) (a .kind) (a .s .now) o (w .3 .result) r (sym (c .before .has-third .ensures) ∙ w .0 .taken) (c .before .before .room3 .ensures) (
-      head-as F (a .s .now) (take (length v - k) (drop k v)) r {e = false} {r = w .3 .result} (w .1 .ensures) refl (o .wy .end-is) refl (w .3 .ensures),
-      w .3 .kept .1 .1 .1 .1 .1 .1 .0,
-    ))))
+    subst (ThirdAt t c (c .if1 .z)) (sym (w .6))
+    (subst (λ (z : FieldSet). ThirdAt t c z (putMid k (length v - k) v r)) (sym (w .7))
+    (set-three F (a .style) (a .kind) (a .s .now) o (w .3 .result) r (sym (c .before .has-third .ensures) ∙ w .0 .taken) (c .before .before .room3 .ensures)
+    (head-as F (a .s .now) (take (length v - k) (drop k v)) r {e = false} {r = w .3 .result} (w .1 .ensures) refl (o .wy .end-is) refl (w .3 .ensures)))))
     (λ w.
-    subst (λ (b : List ℕ). ThirdDone F (a .style) (a .kind) (a .s .now) (own .before) (own .behind) (a .buf .now) (x .before .x .given .0 .0) (y .before .y .given .0 .0) (c .if1 .z) b) (sym (w .2))
-    (subst (λ (z : FieldSet). ThirdDone F (a .style) (a .kind) (a .s .now) (own .before) (own .behind) (a .buf .now) (x .before .x .given .0 .0) (y .before .y .given .0 .0) z v) (sym (w .3))
+    subst (ThirdAt t c (c .if1 .z)) (sym (w .2))
+    (subst (λ (z : FieldSet). ThirdAt t c z v) (sym (w .3))
     (none-third F (a .style) (a .kind) (a .s .now) o (w .1 .result) (sym (c .before .has-third .ensures) ∙ w .0 .left) (w .1 .ensures))))
     (c .if1 .came)
 
-three : (t : ℕ) (c : Z t) →
-    let y = y-of-z t c in
-    let x = x-of t y in
-    let a = from-x t x .args in
-    let own = x .before .before .before .before .before .before .before .before .before .before .before .own-counts .result in
-    Three (fontOf (a .table .now)) (a .style) (a .kind) (a .s .now) (own .before) (own .behind) (a .buf .now) (x .before .x .given .0 .0) (y .before .y .given .0 .0) (c .before .z .given .0 .0) (c .before .before .before .if1 .buf)
-three t c =
-    let y = y-of-z t c in
-    let x = x-of t y in
-    let a = from-x t x .args in
-    let own = x .before .before .before .before .before .before .before .before .before .before .before .own-counts .result in
-    subst (λ (z : FieldSet). ThirdDone (fontOf (a .table .now)) (a .style) (a .kind) (a .s .now) (own .before) (own .behind) (a .buf .now) (x .before .x .given .0 .0) (y .before .y .given .0 .0) z (c .before .before .before .if1 .buf))
-    (c .before .z .given .1) (third-done t (c .before .before .before))
+-- it lacks a symbol
+abbrev Z2 : ℕ → Type 0
+Z2 t = set-noad-lts.After-known-told6 (set-noad-claims t) (set-noad-at t) set-noad.Post
 
-lacks-third : (t : ℕ) (c : Z2 t) →
-    let a = from-y t (y-of-z2 t c) .args in
-    (length (c .before .before .before .if1 .buf) ≡ length (a .buf .now))
-    × (lacksZ (fontOf (a .table .now)) (a .style) (a .kind) (a .s .now) ≡ some (c .before .z2 .given .0 .0))
-    × (c .before .z2 .given .0 .0 ≤ end (a .s .now) (a .kind))
+abbrev joined-of-z2 : (t : ℕ) → Z2 t → Joined t
+joined-of-z2 t c = c .before .before .before
+
+lacks-third : (t : ℕ) (c : Z2 t) → ThirdAt t (joined-of-z2 t c) (field.Missing (c .before .z2 .given .0 .0)) (joined-of-z2 t c .if1 .buf)
 lacks-third t c =
-    let y = y-of-z2 t c in
-    let x = x-of t y in
-    let a = from-x t x .args in
-    let own = x .before .before .before .before .before .before .before .before .before .before .before .own-counts .result in
-    subst (λ (z : FieldSet). ThirdDone (fontOf (a .table .now)) (a .style) (a .kind) (a .s .now) (own .before) (own .behind) (a .buf .now) (x .before .x .given .0 .0) (y .before .y .given .0 .0) z (c .before .before .before .if1 .buf))
-    (c .before .z2 .given .1) (third-done t (c .before .before .before))
+    subst (λ (z : FieldSet). ThirdAt t (joined-of-z2 t c) z (joined-of-z2 t c .if1 .buf)) (c .before .z2 .given .1) (third-done t (joined-of-z2 t c))
+
+-- it is whole, or there is none
+abbrev Z : ℕ → Type 0
+Z t = set-noad-lts.After-known-told5 (set-noad-claims t) (set-noad-at t) set-noad.Post
+
+abbrev joined-of : (t : ℕ) → Z t → Joined t
+joined-of t c = c .before .before .before
+
+abbrev start-of-z : (t : ℕ) → Z t → Start t
+start-of-z t c = start-of-y t (y-of t (joined-of t c))
+
+three : (t : ℕ) (c : Z t) → ThirdAt t (joined-of t c) (field.Whole (c .before .z .given .0 .0)) (joined-of t c .if1 .buf)
+three t c = subst (λ (z : FieldSet). ThirdAt t (joined-of t c) z (joined-of t c .if1 .buf)) (c .before .z .given .1) (third-done t (joined-of t c))
 
 set-noad-set-field-requires : (t : ℕ) → set-noad-lts.Need-set-field-requires (set-noad-claims t) (set-noad-at t) set-noad.Post
 set-noad-set-field-requires t c κs =
-    let start = c .before .before .before .before .before .before .before .before .before in
+    let opened = c .before in
+    let counted = opened .before .before .before .before in
+    let start = counted .before .before .before .before in
     let n = noad-of t start in
     let items = start .pre .1 .items .list in (
       omega (arith, start .pre .0),
       record {
         parameters-are = items .parameters-are;
-        good = rw (c .before .opening-bytes .ensures) (n .x);
-        inside = rw (c .before .opening-bytes .ensures) (omega (arith, n .first-in, n .second-in, n .third-in, n .end-in));
+        good = rw (opened .opening-bytes .ensures) (n .x);
+        inside = rw (opened .opening-bytes .ensures) (omega (arith, n .first-in, n .second-in, n .third-in, n .end-in));
         short = items .short;
       },
     )
 
-set-noad-same-length : (t : ℕ) → set-noad-lts.Need-same-length (set-noad-claims t) (set-noad-at t) set-noad.Post
-set-noad-same-length t c =
-    let a = from-x2 t c .args in
-    let j = c .before .before .before .before .before .before .before .before .before .before .room .result in
-    same-len-mid j (length (a .buf .now) - j) (a .buf .now) (c .before .before .before .before .before .set-field .last .1 .1 .1 .1 .1 .1 .0) (c .before .before .before .before .before .set-field .kept .1 .1 .1 .1 .1 .1 .0)
-
 set-noad-returns : (t : ℕ) → set-noad-lts.Need-returns (set-noad-claims t) (set-noad-at t) set-noad.Post
 set-noad-returns t c =
-    let start = from-x2 t c in
+    let start = start-of t (first-of-x2 t c) in
     let a = start .args in
-    let j = c .before .before .before .before .before .before .before .before .before .before .room .result in
-    let lent = take (length (a .buf .now) - j) (drop j (a .buf .now)) in
-    let n = noad-of t start in
-    let d = head-as (fontOf (a .table .now)) (a .s .now) lent (c .before .before .before .before .before .set-field .last .1 .1 .1 .1 .1 .1 .0) (c .before .before .before .before .before .before .before .before .before .first-style .ensures) (c .before .before .before .before .before .before .before .before .enlarges .ensures) (c .before .before .before .before .before .before .before .opening-bytes .ensures) (c .before .x2 .given .1) (c .before .before .before .before .before .set-field .ensures) in
-    noad-lacks _ (a .style) (a .kind) (a .s .now) (neighbourAs (a .beyond)) (a .line) (a .buf .now) (a .buf .now) (start .pre .1 .opens) (first-lacks _ _ _ _ n (d .0)) (omega (arith, d .1, n .second-in, n .third-in))
+    let d = lacks-first t c in
+    noad-lacks _ (a .style) (a .kind) (a .s .now) (neighbourAs (a .beyond)) (a .line) (a .buf .now) (first-buffer t (first-of-x2 t c)) (start .pre .1 .opens) (first-lacks _ _ _ _ (noad-of t start) (d .1)) (d .2) (d .0)
 
 set-noad-set-field-requires-2 : (t : ℕ) → set-noad-lts.Need-set-field-requires-2 (set-noad-claims t) (set-noad-at t) set-noad.Post
 set-noad-set-field-requires-2 t c κs =
-    let start = from-x t (c .before .before .before .before .before .before) in
-    let o = one t (c .before .before .before .before .before .before) in
+    let x = c .before .before .before .before .before .before in
+    let start = start-of t (first-of-x t x) in
+    let o = one-at t x in
     let items = start .pre .1 .items .list in (
       omega (arith, start .pre .0),
       record {
@@ -483,28 +648,20 @@ set-noad-set-field-requires-2 t c κs =
       },
     )
 
-set-noad-same-length-2 : (t : ℕ) → set-noad-lts.Need-same-length-2 (set-noad-claims t) (set-noad-at t) set-noad.Post
-set-noad-same-length-2 t c =
-    let o = one t (x-of-y2 t c) in
-    let v = first-buffer t (x-of-y2 t c) in
-    let j = c .before .before .before .before .before .before .before .before .room2 .result in
-    same-len-mid j (length v - j) v (c .before .before .before .before .before .set-field2 .last .1 .1 .1 .1 .1 .1 .0) (c .before .before .before .before .before .set-field2 .kept .1 .1 .1 .1 .1 .1 .0) ∙ o .so .same
-
 set-noad-returns-2 : (t : ℕ) → set-noad-lts.Need-returns-2 (set-noad-claims t) (set-noad-at t) set-noad.Post
 set-noad-returns-2 t c =
-    let x = x-of-y2 t c in
-    let start = from-x t x in
+    let set = second-of-y2 t c in
+    let start = start-of t (first-of t set) in
     let a = start .args in
-    let o = one t x in
-    let v = first-buffer t x in
-    let j = c .before .before .before .before .before .before .before .before .room2 .result in
-    let d = head-as (fontOf (a .table .now)) (a .s .now) (take (length v - j) (drop j v)) (c .before .before .before .before .before .set-field2 .last .1 .1 .1 .1 .1 .1 .0) (c .before .before .before .before .before .before .before .second-style .ensures) refl (o .wx .end-is) (c .before .y2 .given .1) (c .before .before .before .before .before .set-field2 .ensures) in
-    noad-lacks _ (a .style) (a .kind) (a .s .now) (neighbourAs (a .beyond)) (a .line) (a .buf .now) (a .buf .now) (start .pre .1 .opens) (second-lacks _ _ _ _ (o .noad) (o .wx .present) (d .0)) (omega (arith, d .1, o .noad .third-in))
+    let o = one-at t (x-of t set) in
+    let d = lacks-second t c in
+    noad-lacks _ (a .style) (a .kind) (a .s .now) (neighbourAs (a .beyond)) (a .line) (a .buf .now) (second-buffer t set) (start .pre .1 .opens) (second-lacks _ _ _ _ (o .noad) (o .wx .present) (d .1)) (d .2) (d .0)
 
 set-noad-set-field-requires-3 : (t : ℕ) → set-noad-lts.Need-set-field-requires-3 (set-noad-claims t) (set-noad-at t) set-noad.Post
 set-noad-set-field-requires-3 t c κs =
-    let start = from-y t (c .before .before .before .before .before .before) in
-    let o = two t (c .before .before .before .before .before .before) in
+    let y = c .before .before .before .before .before .before in
+    let start = start-of-y t y in
+    let o = two-at t y in
     let items = start .pre .1 .items .list in
     let has = sym (c .before .before .before .has-third .ensures) ∙ c .before .before .if1 .taken in (
       omega (arith, start .pre .0),
@@ -518,33 +675,38 @@ set-noad-set-field-requires-3 t c κs =
 
 set-noad-returns-3 : (t : ℕ) → set-noad-lts.Need-returns-3 (set-noad-claims t) (set-noad-at t) set-noad.Post
 set-noad-returns-3 t c =
-    let start = from-y t (y-of-z2 t c) in
+    let joined = joined-of-z2 t c in
+    let start = start-of-y t (y-of t joined) in
     let a = start .args in
-    let o = two t (y-of-z2 t c) in
+    let o = two-at t (y-of t joined) in
     let d = lacks-third t c in
-    noad-lacks _ (a .style) (a .kind) (a .s .now) (neighbourAs (a .beyond)) (a .line) (a .buf .now) (a .buf .now) (start .pre .1 .opens) (third-lacks _ _ _ _ (o .noad) (o .wx .present) (o .wy .present) (d .1)) (d .2)
+    noad-lacks _ (a .style) (a .kind) (a .s .now) (neighbourAs (a .beyond)) (a .line) (a .buf .now) (joined .if1 .buf) (start .pre .1 .opens) (third-lacks _ _ _ _ (o .noad) (o .wx .present) (o .wy .present) (d .1)) (d .2) (d .0)
 
 set-noad-right-of-requires : (t : ℕ) → set-noad-lts.Need-right-of-requires (set-noad-claims t) (set-noad-at t) set-noad.Post
 set-noad-right-of-requires t c κs =
     let q = three t (c .before) in
-    let start = from-y t (y-of-z t (c .before)) in
+    let start = start-of-z t (c .before) in
     tail-given (start .args .s .now) _ (q .wz .end-is) (q .noad .rest) (start .pre .1 .items .list .short)
 
 set-noad-finished-requires : (t : ℕ) → set-noad-lts.Need-finished-requires (set-noad-claims t) (set-noad-at t) set-noad.Post
 set-noad-finished-requires t c κs =
-    let items = from-y t (y-of-z t (c .before .before .before)) .pre .1 .items in
-    finish-given _ _ _ _ (three t (c .before .before .before)) (line-more (omega arith) (items .small)) (items .list .short)
+    let z = c .before .before .before in
+    let items = start-of-z t z .pre .1 .items in
+    finish-given _ _ _ _ (three t z) (line-more (omega arith) (items .small)) (items .list .short)
 
 set-noad-returns-4 : (t : ℕ) → set-noad-lts.Need-returns-4 (set-noad-claims t) (set-noad-at t) set-noad.Post
 set-noad-returns-4 t c =
-    let start = from-y t (y-of-z t (c .before .before .before .before .before .before)) in
+    let done = c .before .before in
+    let next = done .before .before in
+    let z = next .before .before in
+    let start = start-of-z t z in
     let a = start .args in
-    let q = three t (c .before .before .before .before .before .before) in
-    noad-done _ (a .style) (a .kind) (a .s .now) (neighbourAs (a .beyond)) (a .line) (a .buf .now) (c .before .before .finished .last .1 .1 .1 .1 .1 .1 .1 .1 .0) (start .pre .1 .opens)
+    let q = three t z in
+    noad-done _ (a .style) (a .kind) (a .s .now) (neighbourAs (a .beyond)) (a .line) (a .buf .now) (done .finished .last .1 .1 .1 .1 .1 .1 .1 .1 .0) (start .pre .1 .opens)
     (record {
       fields = q;
-      alike = right-alike (a .kind) (a .s .now) (neighbourAs (a .beyond)) (neighbourAs (c .before .before .before .before .right-of .result)) (q .wz .end-is) (c .before .before .before .before .right-of .ensures);
-      done = finished-by (start .pre .1 .items .list .parameters-are) (c .before .before .finished .ensures);
+      alike = right-alike (a .kind) (a .s .now) (neighbourAs (a .beyond)) (neighbourAs (next .right-of .result)) (q .wz .end-is) (next .right-of .ensures);
+      done = finished-by (start .pre .1 .items .list .parameters-are) (done .finished .ensures);
     })
 
 pub +set-field+set-item+set-items+set-noad-spec : {M : Type 1} → statement M
@@ -555,24 +717,24 @@ pub +set-field+set-item+set-items+set-noad-spec : {M : Type 1} → statement M
     (λ c. search needs)
     (λ c κs. search needs)
     (λ c κs. omega (arith, head-short (c .before .before .before .before .before .pre .1) (c .field-head .ensures)))
-    (λ c. omega (arith, head-short (c .before .before .before .before .before .before .pre .1) (c .before .field-head .ensures), c .field-bytes .ensures))
+    (λ c. omega (arith, head-short (read-start t c .pre .1) (c .before .field-head .ensures), c .field-bytes .ensures))
     (λ c. search needs)
     (λ c κs. search needs)
     (λ c. search needs)
     (λ c κs. search needs)
     (λ c. search needs)
-    (λ c κs. omega (arith, head-at (c .before .before .before .before .before .before .before .before .before .before .pre .1) (c .before .before .before .before .before .field-head .ensures) (c .before .before .before .before .field-bytes .ensures) (c .before .before .head .given .1) .goes))
+    (λ c κs. omega (arith, head-of t (c .before .before .before .before) (c .before .before .head .given .1) .goes))
     (λ c. search needs)
-    (λ c. omega (arith, list-head t c .goes, list-head t c .inside, c .before .before .before .before .before .before .before .before .before .pre .1 .short))
-    (λ c. omega (arith, list-head t c .goes, list-head t c .inside, c .before .before .before .before .before .before .before .before .before .pre .1 .short))
-    (λ c. omega (arith, list-head t c .goes, list-head t c .inside, c .before .before .before .before .before .before .before .before .before .pre .1 .short))
-    (λ c. omega (arith, list-head t c .goes, list-head t c .inside, c .before .before .before .before .before .before .before .before .before .pre .1 .short))
+    (λ c. omega (arith, list-head t c .goes, list-head t c .inside, read-start t (read-of t c) .pre .1 .short))
+    (λ c. omega (arith, list-head t c .goes, list-head t c .inside, read-start t (read-of t c) .pre .1 .short))
+    (λ c. omega (arith, list-head t c .goes, list-head t c .inside, read-start t (read-of t c) .pre .1 .short))
+    (λ c. omega (arith, list-head t c .goes, list-head t c .inside, read-start t (read-of t c) .pre .1 .short))
     (λ c κs. search needs)
     (set-field-set-items-requires t)
     (λ c. search needs)
     (λ c κs. search needs)
     (λ c. search needs)
-    (λ c. omega (arith, list-lacks t c .1, from-list t (c .before .before .before .before .before .before .before .before .before) .pre .1 .short))
+    (λ c. omega (arith, list-lacks t c .1, read-start t (read-of t (listed-of t (listing-of t c))) .pre .1 .short))
     (λ c. search needs)
     (λ c κs. search needs)
     (set-field-returns t)
@@ -581,7 +743,7 @@ pub +set-field+set-item+set-items+set-noad-spec : {M : Type 1} → statement M
     (set-field-returns-3 t)
     (λ c. c .before .before .before .before .before .before .set-items .kept .1 .1 .1 .1 .1 .1 .0)
     (set-field-returns-4 t)
-    (λ c. c .before .before .before .before .before .set-items .kept .1 .1 .1 .1 .1 .1 .0)
+    (λ c. listing-of t c .set-items .kept .1 .1 .1 .1 .1 .1 .0)
     (λ c. list-lacks t c .0)
     (set-field-returns-6 t))
     (λ t. set-item-lts.spec (set-item-claims t) (set-item-at t) set-item.Post
@@ -607,14 +769,14 @@ pub +set-field+set-item+set-items+set-noad-spec : {M : Type 1} → statement M
     (λ c. omega (arith, c .before .room .ensures))
     (set-items-set-item-requires t)
     (λ c. search needs)
-    (λ c. omega (arith, turn-next t c .1 .low, turn-start t (c .before .before .before .before .before .before .before .before .before .before .before) .pre .1 .list .short))
-    (λ c. omega (arith, turn-next t c .0, c .before .before .before .before .before .before .before .before .before .before .before .loop-test .taken))
+    (λ c. omega (arith, turn-next t c .1 .low, turn-start t (turn-of t (next-turned t c)) .pre .1 .list .short))
+    (λ c. omega (arith, turn-next t c .0, turn-of t (next-turned t c) .loop-test .taken))
     (λ c. turn-next t c .1)
     (λ c. search needs)
-    (λ c. omega (arith, turn-stop t c .1, turn-start t (c .before .before .before .before .before .before .before .before .before .before .before) .pre .1 .list .short))
-    (set-items-same-length t)
+    (λ c. omega (arith, turn-stop t c .1, turn-start t (turn-of t (stop-turned t c)) .pre .1 .list .short))
+    (λ c. turn-stop t c .2 .same)
     (λ c. turn-stop t c)
-    (λ c. c .before .loop .inv .same)
+    (λ c. c .before .loop .inv .added .kept .same)
     (λ c. along-done _ _ _ _ _ _ (c .before .loop .inv) (c .loop-test .left)))
     λ t. set-noad-lts.spec (set-noad-claims t) (set-noad-at t) set-noad.Post
     (λ c κs. search needs)
@@ -628,10 +790,10 @@ pub +set-field+set-item+set-items+set-noad-spec : {M : Type 1} → statement M
     (set-noad-set-field-requires t)
     (λ c. search needs)
     (λ c. search needs)
-    (set-noad-same-length t)
+    (λ c. lacks-first t c .0 .same)
     (set-noad-returns t)
-    (λ c. omega (arith, few-one t (c .before .before), few-own t (c .before .before)))
-    (λ c. omega (arith, few-one t (c .before .before .before), few-own t (c .before .before .before)))
+    (λ c. omega (arith, few-one t (c .before .before)))
+    (λ c. omega (arith, few-one t (c .before .before .before)))
     (λ c κs. search needs)
     (λ c κs. search needs)
     (λ c. omega (arith, c .before .room2 .ensures))
@@ -640,9 +802,9 @@ pub +set-field+set-item+set-items+set-noad-spec : {M : Type 1} → statement M
     (set-noad-set-field-requires-2 t)
     (λ c. search needs)
     (λ c. search needs)
-    (set-noad-same-length-2 t)
+    (λ c. lacks-second t c .0 .same)
     (set-noad-returns-2 t)
-    (λ c. omega (arith, few-one t (x-of t (c .before)), few-two t (c .before), few-own t (x-of t (c .before))))
+    (λ c. omega (arith, few-two t (c .before)))
     (λ c κs. search needs)
     (λ c κs. search needs)
     (λ c κs. search needs)
@@ -653,12 +815,12 @@ pub +set-field+set-item+set-items+set-noad-spec : {M : Type 1} → statement M
     (λ c κs. search needs)
     (λ c. search needs)
     (λ c. search needs)
-    (λ c. lacks-third t c .0)
+    (λ c. lacks-third t c .0 .same)
     (set-noad-returns-3 t)
     (λ c. omega (arith, three t c .wz .end-is, three t c .noad .end-in))
     (λ c. omega (arith, three t c .wz .end-is, three t c .noad .end-in))
     (λ c. omega (arith, three t c .wz .end-is, three t c .noad .end-in))
     (set-noad-right-of-requires t)
     (set-noad-finished-requires t)
-    (λ c. c .before .before .finished .kept .1 .1 .1 .1 .1 .1 .1 .1 .0 ∙ three t (c .before .before .before .before .before .before) .so .same)
+    (λ c. c .before .before .finished .kept .1 .1 .1 .1 .1 .1 .1 .1 .0 ∙ three t (c .before .before .before .before .before .before) .so .kept .same)
     (set-noad-returns-4 t)

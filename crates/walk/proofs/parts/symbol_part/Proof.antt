@@ -56,7 +56,7 @@ returns-2 c =
     let size = looked .before .font-size .ensures .0 in
     let lacks : symbolIn (fontOf (a .table .now)) (fontSize (a .style)) (a .enlarge) (a .family) (a .code) ≡ none =
     rw (← size) (sym (looked .symbol-in .ensures) ∙ ap soughtAs (c .enum-told .given .1)) in
-    symbol-missing (fontOf (a .table .now)) (a .style) (a .enlarge) (a .at) (a .end) (a .buf .now) (a .family) (a .code) (start .pre) (a .buf .now) lacks
+    symbol-missing (fontOf (a .table .now)) (a .style) (a .enlarge) (a .at) (a .end) (a .buf .now) (a .family) (a .code) (start .pre) lacks
 
 pub symbol-part-spec : {M : Type 1} → statement M
 symbol-part-spec =
