@@ -31,11 +31,11 @@ use Rattle.formula.specs.Reading.{Read, good, fault, Got, got, stopped, _thenAt
 use Rattle.boxes.specs.declared.styles.Style.{Style}
 use Rattle.boxes.specs.Styles.{styleOf, fontSize}
 use Rattle.spacing.specs.Classes.{Neighbour}
-use Rattle.boxes.specs.Boxes.{Rule}
 use Rattle.arrange.specs.Arrange.{firstStyle, secondStyle, thirdStyle, enlarges}
 use Rattle.arrange.specs.ArrangeLaws.{own-before, own-behind, few-own}
 use Rattle.nodes.specs.NodeLaws.{length-moved}
-use Rattle.setting.specs.Setting.{Box, Line, Symbol as SetSymbol, Part, symbolIn, symbolPart, ruleNodes, itemNodes, itemBox, placed, nextClass, start, setItems, setItem, setField, setList}
+use Rattle.setting.specs.Setting.{Box, Line, Symbol as SetSymbol, Part, symbolIn, symbolPart, itemNodes, itemBox, placed, nextClass, start, setItems, setItem, setField, setList}
+use Rattle.setting.specs.SettingLaws.{length-rules}
 use Rattle.setting.specs.Missing.{_orElse_, later, absentAt, missingItems, missingItem, missingField}
 use Rattle.setting.specs.Fitting.{listFits}
 use Rattle.answers.specs.Answers.{Answered, Result, boxed, refused, refusal, accepted, noRoomNumber, ifFits, ifPresent, ifRead, ifGood, ifStyle, resultOf, measuredBy, measured, hasRoom, setBy, setting}
@@ -160,11 +160,6 @@ either-place : (n place : ℕ) (x y : Option ℕ) → ((p : ℕ) → x ≡ some 
     (x orElse y) ≡ some place → place ≤ n
 either-place n place none y f g e = g place e
 either-place n place (some p) y f g e = f place e
-
-length-rules : (rs : List Rule) → length (ruleNodes rs) ≡ length rs
-unfolding ruleNodes
-length-rules [] = refl
-length-rules (r ∷ rs) = ap suc (length-rules rs)
 
 opened : (kind : Kind) → 2 ≤ openingBytes kind
 opened (Scripted (Atom class limits)) = omega arith

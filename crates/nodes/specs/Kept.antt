@@ -16,7 +16,7 @@ use lib.ListN.{length, take, drop, set, length-append, length-drop, drop-of-leng
 use lib.Seq.{sets, length-take-le, length-sets, take-all, drop-drop, drop-at, drop-append-add, drop-set-lt}
 use borrow.Author.Tests.{leb-true, leb-false}
 use borrow.Rule.Slice.PartMut.{putMid}
-use Rattle.scaled.specs.Words.{littleEndian, wordOf, fourBytes}
+use Rattle.words.specs.Words.{littleEndian, wordOf, fourBytes}
 use Rattle.nodes.specs.Nodes.{Node, bytesInNode, nodeBytes}
 use Rattle.nodes.specs.NodeLaws.{length-node-bytes}
 use Rattle.nodes.specs.Buffer.{written, put, addedAt, movedHead, movedBytes, movedFront, roomFor, behindNodes}

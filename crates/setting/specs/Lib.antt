@@ -1,5 +1,6 @@
 -- The box of a list, what is missing and what is too large; and how a list field stands in the whole. Assumes nothing.
 pub mod Setting
+pub mod SettingLaws
 pub mod Examples
 pub mod Missing
 pub mod Fitting

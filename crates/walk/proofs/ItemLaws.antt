@@ -7,7 +7,7 @@
 -- Assumes nothing.
 use mathlib.Core.Path.{_≡_, refl, sym, ap, _∙_}
 use mathlib.Core.List.{List, [], _∷_, _++_, append-nil, append-assoc}
-use Prim.Native.Nat.{ℕ, suc, _+_, _*_, _≤_}
+use Prim.Native.Nat.{ℕ, _+_, _*_, _≤_}
 use native.Mathlib.Omega.{arith}
 use lib.IntN.{ℤ, pos, _+ℤ_}
 use lib.ListN.{length, take, drop, length-append, length-drop, take-append-drop}
@@ -32,6 +32,7 @@ use Rattle.nodes.specs.Hull.{Hull, hull, joined, movedHull, HullWithin}
 use Rattle.nodes.specs.HullLaws.{hull-append, hull-moved, join-within, moved-within, within-more}
 use Rattle.nodes.specs.Runs.{hullOf}
 use Rattle.setting.specs.Setting.{Part, ruleNode, ruleNodes, itemNodes}
+use Rattle.setting.specs.SettingLaws.{length-rules}
 use Rattle.walk.specs.declared.lines.Line as lines
 use Rattle.walk.specs.Bounds.{stride, LineWithin}
 use Rattle.walk.specs.Walked.{besideSize, rulesPut, firstAt, behindAt, secondAt, thirdAt, itemCount, itemBuffer, itemHull}
@@ -55,11 +56,6 @@ placed-is x p ns = rw (moved-twice x (pos 0) (p .across) (p .up) ns, other-way (
 pub rule-moved : (x : ℤ) (r : Rule) →
     movedNode x (pos 0) (ruleNode r) ≡ rule (x +ℤ r .place .across) (r .place .up) (r .width) (r .thickness)
 rule-moved x r = rw (other-way (r .place .across) x, zero-place (r .place .up))
-
-pub length-rules : (rs : List Rule) → length (ruleNodes rs) ≡ length rs
-unfolding ruleNodes
-length-rules [] = refl
-length-rules (r ∷ rs) = ap suc (length-rules rs)
 
 -- ---- a buffer, part by part: w stands before
 
