@@ -23,7 +23,7 @@ use Rattle.nodes.specs.Nodes.{Node, glyph}
 use Rattle.nodes.specs.Bounds.{greatestLength}
 use Rattle.nodes.specs.Buffer.{put}
 use Rattle.nodes.specs.Drawn.{Drawn, drawn-none, drawn-put}
-use Rattle.nodes.specs.Kept.{Kept, kept-all, kept-more, kept-put}
+use Rattle.nodes.specs.Kept.{kept-all, kept-more, kept-put}
 use Rattle.nodes.specs.Hull.{around, HullWithin}
 use Rattle.nodes.specs.Runs.{RunIs, PointRun}
 use Rattle.nodes.specs.RunLaws.{run-none, run-node}
@@ -88,7 +88,7 @@ module _ (F : Font) (s : Style) (enlarge : Bool) (at end : ℕ) (b : List ℕ) w
     pub symbol-missing : symbolIn F (fontSize s) enlarge family code ≡ none →
         FieldDone F s enlarge (symbol family code) at end b (Missing at) b
     unfolding missingField absentAt
-    symbol-missing lacks = (ap (absentAt at) lacks, omega arith, kept-all (end - at) b)
+    symbol-missing lacks = (ap (absentAt at) lacks, omega arith, kept-all _ b)
 
   -- the list's n bytes stand behind its opening
   module _ (l : Items) (n : ℕ) (goes : end ≡ at + listOpeningBytes + n) (b′ : List ℕ) where

@@ -44,7 +44,7 @@ use Rattle.nodes.specs.Drawn.{Drawn}
 use Rattle.nodes.specs.Kept.{Kept}
 use Rattle.nodes.specs.Hull.{Hull, none as unreached, joined, movedHull, hull, HullWithin}
 use Rattle.nodes.specs.Runs.{hullOf, isLarge, RunIs, EmptyRun, JoinedRun}
-use Rattle.setting.specs.Setting.{Line, ruleNode, ruleNodes, nextClass, setField, setItem, setItems, setList}
+use Rattle.setting.specs.Setting.{Line, start, ruleNode, ruleNodes, nextClass, setField, setItem, setItems, setList}
 use Rattle.setting.specs.Missing.{missingField, missingItem, missingItems}
 use Rattle.setting.specs.Fitting.{fieldFits, itemFits, itemsFit}
 use Rattle.walk.specs.declared.parts.Part as parts
@@ -319,6 +319,7 @@ pub record ListWhole (F : Font) (s : Style) (l : Items) (bytes : ℕ) (c : lines
   pub present : missingItems F s l ≡ none
   pub large-is : isLarge (c .run) ≡ not (itemsFit F s l)
   pub count : c .run .count ≤ bytes
+  pub left-is : itemsFit F s l ≡ true → neighbourAs (c .left) ≡ setItems F s none start l .left
   pub size-is : itemsFit F s l ≡ true → sizeAs (c .size) ≡ setList F s l .size
   pub run-is : itemsFit F s l ≡ true → RunIs (setList F s l .nodes) (c .run)
 

@@ -80,6 +80,7 @@ list-of-items F s l n {c} b b′ (items.Whole r) o (present, a) =
         present = present;
         large-is = a .large-is ∙ rw (o .run-is .large-is);
         count = omega arith;
+        left-is = λ h. a .left-is h ∙ ap (λ (m : Line). m .left) like;
         size-is = λ h. a .size-is h ∙ ap (λ (m : Line). m .box .size) like;
         run-is = λ h.
             subst (λ (m : Line). RunIs (m .box .nodes) (r .run)) like

@@ -1,6 +1,6 @@
 // An item whose fields have been set, arranged and put at its place in the list. Nothing here calls a setter.
 
-ghost use Rattle.arrange.specs.Arrange as rules;
+ghost use Rattle.arrange.specs.Arrange as definition;
 ghost use Rattle.boxes.specs.Values.{parametersIn, shapeAs, placeAs, rulingAs, arrangedAs};
 ghost use Rattle.spacing.specs.Values.{neighbourAs};
 ghost use Rattle.boxes.specs.Bounds.{ModerateShape};
@@ -46,7 +46,7 @@ fn setting_of(
     z: Shape,
 ) -> Setting
     requires { ⌜ LineWithin longest line × ModerateShape x × ModerateShape y × ModerateShape z ⌝ }
-    ensures { λ r. ⌜ SettingIs (parametersIn (now (p .entry))) style kind (neighbourAs right) (neighbourAs (line .left)) (line .size .width .0) (rules.arrange (parametersIn (now (p .entry))) style kind (shapeAs x) (shapeAs y) (shapeAs z)) r ⌝ }
+    ensures { λ r. ⌜ SettingIs (parametersIn (now (p .entry))) style kind (neighbourAs right) (neighbourAs (line .left)) (line .size .width .0) (definition.arrange (parametersIn (now (p .entry))) style kind (shapeAs x) (shapeAs y) (shapeAs z)) r ⌝ }
 {
     let left = line.left;
     let size = line.size;

@@ -125,15 +125,10 @@ fn set_noad(
 {
     let own = own_counts(p, style, kind);
     let i = room(own.before, buf.len());
-    let x = set_field(
-        table,
-        p,
-        first_style(kind, style),
-        enlarges(kind, style),
-        s,
-        opening_bytes(kind),
-        &mut buf[i..],
-    );
+    let first = first_style(kind, style);
+    let large = enlarges(kind, style);
+    let at = opening_bytes(kind);
+    let x = set_field(table, p, first, large, s, at, &mut buf[i..]);
     let a = match x {
         FieldSet::Whole(a) => a,
         FieldSet::Missing(place) => {
@@ -142,15 +137,8 @@ fn set_noad(
     };
     let n = own.before + a.run.count + own.behind;
     let j = room(n, buf.len());
-    let y = set_field(
-        table,
-        p,
-        second_style(kind, style),
-        false,
-        s,
-        a.end,
-        &mut buf[j..],
-    );
+    let second = second_style(kind, style);
+    let y = set_field(table, p, second, false, s, a.end, &mut buf[j..]);
     let b = match y {
         FieldSet::Whole(b) => b,
         FieldSet::Missing(place) => {

@@ -28,8 +28,8 @@ setting-of-requires c κs = search needs
 
 put-item-requires : tie.Need-put-item-requires
 put-item-requires c κs =
-    let start = c .before .before .before .before .before in
-    let g = start .pre in
+    let set = c .before .before .before in
+    let g = set .before .before .pre in
     let one = g .first .count in
     let two = g .second .count in
     let three = g .third .count in
@@ -39,15 +39,16 @@ put-item-requires c κs =
       first = g .first .hull;
       second = g .second .hull;
       third = g .third .hull;
-      x-small = x-near (g .line .width) (c .before .before .before .setting-of .ensures .space) (c .before .before .before .setting-of .ensures .x-is);
-      bounded = c .before .before .before .setting-of .ensures .bounded;
+      x-small = x-near (g .line .width) (set .setting-of .ensures .space) (set .setting-of .ensures .x-is);
+      bounded = set .setting-of .ensures .bounded;
     }
 
 extended-requires : tie.Need-extended-requires
 extended-requires c κs =
-    let start = c .before .before .before .before .before .before .before .before in
-    let g = start .pre in
-    let s = c .before .before .before .before .before .before .setting-of in
+    let put = c .before .before in
+    let set = put .before .before .before .before in
+    let g = set .before .before .pre in
+    let s = set .setting-of in
     let one = g .first .count in
     let two = g .second .count in
     let three = g .third .count in
@@ -62,7 +63,7 @@ extended-requires c κs =
       few =
           omega (
             arith,
-            c .before .before .put-item .ensures .count-is,
+            put .put-item .ensures .count-is,
             few-rules (s .result .arranged .own .before),
             few-rules (s .result .arranged .own .behind),
           );
@@ -73,13 +74,15 @@ same-length c = search needs
 
 returns : tie.Need-returns
 returns c =
-    let start = c .before .before .before .before .before .before .before .before .before in
+    let at-put = c .before .before .before in
+    let at-set = at-put .before .before .before .before in
+    let start = at-set .before .before in
     let a = start .args in
     let g = start .pre in
-    let s = c .before .before .before .before .before .before .before .setting-of .ensures in
-    let put = c .before .before .before .put-item .ensures in
+    let s = at-set .setting-of .ensures in
+    let put = at-put .put-item .ensures in
     let e = c .extended .ensures in
-    let setting = c .before .before .before .before .before .before .before .setting-of .result in
+    let setting = at-set .setting-of .result in
     let space = spaceBefore (parametersIn (a .p .now)) (a .style) (neighbourAs (a .line .left)) (setting .class) in
     let counts = e .run-is .count-is ∙ ap (λ (n : ℕ). a .line .run .count + n) (put .count-is) in
     let hulls = e .run-is .hull-is ∙ ap (joined (hullOf (a .line .run))) (put .hull-is) in

@@ -25,82 +25,108 @@ empty-requires c κs = search needs
 put-own-requires : tie.Need-put-own-requires
 put-own-requires c κs = search needs
 
+-- each proof goes back from step to step: `ahead`, `first`, `owned`, `second` and `third` are the places behind them
 move-field-requires : tie.Need-move-field-requires
 move-field-requires c κs =
-    let start = c .before .before .before .before .before .before .before .before in
+    let ahead = c .before .before .before in
+    let empty = ahead .before .before in
+    let start = empty .before .before .before in
     let g = start .pre in
     let few = few-rules (start .args .arranged .own .before) in
-    let n₀ = c .before .before .before .before .before .empty .ensures .count-is in
-    let n₁ = c .before .before .before .put-own .ensures .count-is in
+    let n₀ = empty .empty .ensures .count-is in
+    let n₁ = ahead .put-own .ensures .count-is in
     record { few = omega arith; hull = g .first; x-small = g .x-small; place = g .bounded .first }
 
 put-own-requires-2 : tie.Need-put-own-requires-2
 put-own-requires-2 c κs =
-    let start = c .before .before .before .before .before .before .before .before .before .before .before .before in
+    let first = c .before .before .before in
+    let ahead = first .before .before .before .before in
+    let empty = ahead .before .before in
+    let start = empty .before .before .before in
     let g = start .pre in
     let few = few-rules (start .args .arranged .own .before) in
-    let n₀ = c .before .before .before .before .before .before .before .before .before .empty .ensures .count-is in
-    let n₁ = c .before .before .before .before .before .before .before .put-own .ensures .count-is in
-    let n₂ = c .before .before .before .move-field .ensures .count-is in
+    let n₀ = empty .empty .ensures .count-is in
+    let n₁ = ahead .put-own .ensures .count-is in
+    let n₂ = first .move-field .ensures .count-is in
     record { few = omega arith; rules = g .bounded .own .behind; x-small = g .x-small }
 
 move-field-requires-2 : tie.Need-move-field-requires-2
 move-field-requires-2 c κs =
-    let start = c .before .before .before .before .before .before .before .before .before .before .before .before .before .before .before .before in
+    let owned = c .before .before .before in
+    let first = owned .before .before .before .before in
+    let ahead = first .before .before .before .before in
+    let empty = ahead .before .before in
+    let start = empty .before .before .before in
     let g = start .pre in
     let few = few-rules (start .args .arranged .own .before) in
     let few-2 = few-rules (start .args .arranged .own .behind) in
-    let n₀ = c .before .before .before .before .before .before .before .before .before .before .before .before .before .empty .ensures .count-is in
-    let n₁ = c .before .before .before .before .before .before .before .before .before .before .before .put-own .ensures .count-is in
-    let n₂ = c .before .before .before .before .before .before .before .move-field .ensures .count-is in
-    let n₃ = c .before .before .before .put-own2 .ensures .count-is in
+    let n₀ = empty .empty .ensures .count-is in
+    let n₁ = ahead .put-own .ensures .count-is in
+    let n₂ = first .move-field .ensures .count-is in
+    let n₃ = owned .put-own2 .ensures .count-is in
     record { few = omega arith; hull = g .second; x-small = g .x-small; place = g .bounded .second }
 
 move-field-requires-3 : tie.Need-move-field-requires-3
 move-field-requires-3 c κs =
-    let start = c .before .before .before .before .before .before .before .before .before .before .before .before .before .before .before .before .before .before .before .before in
+    let second = c .before .before .before in
+    let owned = second .before .before .before .before in
+    let first = owned .before .before .before .before in
+    let ahead = first .before .before .before .before in
+    let empty = ahead .before .before in
+    let start = empty .before .before .before in
     let g = start .pre in
     let few = few-rules (start .args .arranged .own .before) in
     let few-2 = few-rules (start .args .arranged .own .behind) in
-    let n₀ = c .before .before .before .before .before .before .before .before .before .before .before .before .before .before .before .before .before .empty .ensures .count-is in
-    let n₁ = c .before .before .before .before .before .before .before .before .before .before .before .before .before .before .before .put-own .ensures .count-is in
-    let n₂ = c .before .before .before .before .before .before .before .before .before .before .before .move-field .ensures .count-is in
-    let n₃ = c .before .before .before .before .before .before .before .put-own2 .ensures .count-is in
-    let n₄ = c .before .before .before .move-field2 .ensures .count-is in
+    let n₀ = empty .empty .ensures .count-is in
+    let n₁ = ahead .put-own .ensures .count-is in
+    let n₂ = first .move-field .ensures .count-is in
+    let n₃ = owned .put-own2 .ensures .count-is in
+    let n₄ = second .move-field2 .ensures .count-is in
     record { few = omega arith; hull = g .third; x-small = g .x-small; place = g .bounded .third }
 
 same-length : tie.Need-same-length
 same-length c =
-    c .before .before .move-field3 .kept .1 .1 .1 .1 .0
-    ∙ c .before .before .before .before .before .before .move-field2 .kept .1 .1 .1 .1 .0
-    ∙ c .before .before .before .before .before .before .before .before .before .before .put-own2 .kept .1 .1 .1 .0
-    ∙ c .before .before .before .before .before .before .before .before .before .before .before .before .before .before .move-field .kept .1 .1 .1 .1 .0
-    ∙ c .before .before .before .before .before .before .before .before .before .before .before .before .before .before .before .before .before .before .put-own .kept .1 .1 .1 .0
+    let third = c .before .before in
+    let second = third .before .before .before .before in
+    let owned = second .before .before .before .before in
+    let first = owned .before .before .before .before in
+    let ahead = first .before .before .before .before in
+    third .move-field3 .kept .1 .1 .1 .1 .0
+    ∙ second .move-field2 .kept .1 .1 .1 .1 .0
+    ∙ owned .put-own2 .kept .1 .1 .1 .0
+    ∙ first .move-field .kept .1 .1 .1 .1 .0
+    ∙ ahead .put-own .kept .1 .1 .1 .0
 
 returns : tie.Need-returns
 returns c =
-    let start = c .before .before .before .before .before .before .before .before .before .before .before .before .before .before .before .before .before .before .before .before .before .before .before in
+    let last = c .before .before in
+    let at-second = last .before .before .before .before in
+    let at-owned = at-second .before .before .before .before in
+    let at-first = at-owned .before .before .before .before in
+    let at-ahead = at-first .before .before .before .before in
+    let at-none = at-ahead .before .before in
+    let start = at-none .before .before .before in
     let x = start .args .x .0 in
     let A = arrangedAs (start .args .arranged) in
     let i = start .args .a .count in
     let j = start .args .b .count in
     let k = start .args .c .count in
-    let none-there = c .before .before .before .before .before .before .before .before .before .before .before .before .before .before .before .before .before .before .before .before .empty .ensures in
-    let ahead = c .before .before .before .before .before .before .before .before .before .before .before .before .before .before .before .before .before .before .put-own .ensures in
-    let first = c .before .before .before .before .before .before .before .before .before .before .before .before .before .before .move-field .ensures in
-    let owned = c .before .before .before .before .before .before .before .before .before .before .put-own2 .ensures in
-    let second = c .before .before .before .before .before .before .move-field2 .ensures in
-    let third = c .before .before .move-field3 .ensures in
+    let none-there = at-none .empty .ensures in
+    let ahead = at-ahead .put-own .ensures in
+    let first = at-first .move-field .ensures in
+    let owned = at-owned .put-own2 .ensures in
+    let second = at-second .move-field2 .ensures in
+    let third = last .move-field3 .ensures in
     let zero = none-there .count-is in
     let n₀ = ahead .count-is in
     let n₁ = first .count-is in
     let n₂ = owned .count-is in
     let n₃ = second .count-is in
     let n₄ = third .count-is in
-    let at₁ : c .before .before .before .before .before .before .before .before .before .before .before .before .before .before .before .before .before .before .put-own .result .count ≡ length (A .own .before) = omega arith in
-    let at₂ : c .before .before .before .before .before .before .before .before .before .before .before .before .before .before .move-field .result .count ≡ length (A .own .before) + i = omega arith in
-    let at₃ : c .before .before .before .before .before .before .before .before .before .before .put-own2 .result .count ≡ length (A .own .before) + i + length (A .own .behind) = omega arith in
-    let at₄ : c .before .before .before .before .before .before .move-field2 .result .count ≡ length (A .own .before) + i + length (A .own .behind) + j = omega arith in
+    let at₁ : at-ahead .put-own .result .count ≡ length (A .own .before) = omega arith in
+    let at₂ : at-first .move-field .result .count ≡ length (A .own .before) + i = omega arith in
+    let at₃ : at-owned .put-own2 .result .count ≡ length (A .own .before) + i + length (A .own .behind) = omega arith in
+    let at₄ : at-second .move-field2 .result .count ≡ length (A .own .before) + i + length (A .own .behind) + j = omega arith in
     let b₀ = ahead .buffer-is ∙ ap (λ (n : ℕ). rulesPut x n (A .own .before) (start .args .buf .now)) zero in
     let b₁ = first .buffer-is ∙ ap₂ (λ (n : ℕ) (b : List ℕ). behindNodes n (movedFront (x +ℤ A .first .across) (A .first .up) i) b) at₁ b₀ in
     let b₂ = owned .buffer-is ∙ ap₂ (λ (n : ℕ) (b : List ℕ). rulesPut x n (A .own .behind) b) at₂ b₁ in

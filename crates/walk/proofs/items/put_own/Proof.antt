@@ -57,9 +57,10 @@ same-length c = search needs
 returns-2 : tie.Need-returns-2
 unfolding rulesPut ruleNodes moved
 returns-2 c =
-    let sum = c .before .before .before .before .before .before .before in
-    let arm = c .before .before .before .before .before .before .before .before .before .before .before in
-    let start = c .before .before .before .before .before .before .before .before .before .before .before .before .before .before in
+    let ruled = c .before .before .before .before in
+    let sum = ruled .before .before .before in
+    let arm = sum .before .before .before .before in
+    let start = arm .before .before .before in
     let before = start .args .before in
     let r = arm .own .given .0 .0 in
     let x = start .args .x .0 in
@@ -73,7 +74,7 @@ returns-2 c =
       count-is = omega (arith, c .joined .ensures .count-is);
       large-is = c .joined .ensures .large-is ∙ rw (point .large-is) (or-false (isLarge before));
       hull-is = c .joined .ensures .hull-is ∙ ap (joined (hullOf before)) (point .hull-is ∙ rw at (sym (hull-node n)) ∙ ap (λ (m : Node). hull (m ∷ [])) (sym node));
-      buffer-is = c .before .before .before .before .put-rule .ensures ∙ rw at (ap (λ (m : Node). behindNodes (before .count) (put m) (start .args .buf .now)) (sym node));
+      buffer-is = ruled .put-rule .ensures ∙ rw at (ap (λ (m : Node). behindNodes (before .count) (put m) (start .args .buf .now)) (sym node));
     })
 
 pub put-own-spec : {M : Type 1} → statement M
