@@ -11,7 +11,7 @@ use Rattle.formula.specs.Reading.{listGot, fieldBy, fieldAt, thirdAt, noadAt, o
 use Rattle.boxes.specs.Styles.{styleOf}
 use Rattle.spacing.specs.Classes.{changedClass}
 use Rattle.spacing.specs.Spacing.{row, chart, spaceBefore}
-use Rattle.scripts.specs.Scripts.{greatest, drops, subscriptDown, leastUp, superscriptUp, pairDown, gapDown, ψOf, lifted, spread, pairShifts, scripted}
+use Rattle.scripts.specs.Scripts.{drops, greatest, subscriptCandidates, leastUp, superscriptCandidates, pairCandidates, gapDown, ψOf, lifted, spread, pairShifts, reach, scripted}
 use Rattle.nucleus.specs.Limits.{limited}
 use Rattle.fractions.specs.Fractions.{fractionShifts, parted, shiftsWithoutBar, cleared, shiftsWithBar, fraction}
 use Rattle.arrange.specs.Arrange.{nucleusOf, arrange}
@@ -23,5 +23,5 @@ use Rattle.setting.specs.Fitting.{boxFits, itemsFit, itemFits, fieldFits, listF
 use Rattle.answers.specs.Answers.{ifFits, ifPresent, ifRead, ifGood, ifStyle, resultOf, measuredBy, measured, hasRoom, setBy, setting, bufferBy, bufferAfter}
 
 unfoldable pub definitions : Unit {0}
-unfolding pick maxℤ minℤ half atQuad littleEndian signedWord wordOf fourBytes pieces characterCount parameterRecords characterRecords words marked parameterWords metricWords every goodParameters goodCharacter before rising goodLength goodTable successorOf metricsOf isOf lookup fontOf itemsBytes itemBytes fieldBytes markIn markOf atomOf atomOpening fractionOf fractionOpening kernWithin kernOpening opens openingOf symbolHead listHead fieldHead listGot fieldBy fieldAt thirdAt noadAt openedBy itemBy beforeReading restBy listBy readBy read readFormula styleOf changedClass row chart spaceBefore greatest limited drops subscriptDown leastUp superscriptUp pairDown gapDown ψOf lifted spread pairShifts scripted fractionShifts parted shiftsWithoutBar cleared shiftsWithBar fraction nucleusOf arrange moved signedBytes nodeBytes bytesOf found successor enlarged symbolIn symbolPart ruleNodes itemNodes itemBox placed nextClass setItems setItem setField setList later absentAt missingItems missingItem missingField nodesFit boxFits itemsFit itemFits fieldFits listFits ifFits ifPresent ifRead ifGood ifStyle resultOf measuredBy measured hasRoom setBy setting bufferBy bufferAfter
+unfolding pick maxℤ minℤ half atQuad littleEndian signedWord wordOf fourBytes pieces characterCount parameterRecords characterRecords words marked parameterWords metricWords every goodParameters goodCharacter before rising goodLength goodTable successorOf metricsOf isOf lookup fontOf itemsBytes itemBytes fieldBytes markIn markOf atomOf atomOpening fractionOf fractionOpening kernWithin kernOpening opens openingOf symbolHead listHead fieldHead listGot fieldBy fieldAt thirdAt noadAt openedBy itemBy beforeReading restBy listBy readBy read readFormula styleOf changedClass row chart spaceBefore limited drops greatest subscriptCandidates leastUp superscriptCandidates pairCandidates gapDown ψOf lifted spread pairShifts reach scripted fractionShifts parted shiftsWithoutBar cleared shiftsWithBar fraction nucleusOf arrange moved signedBytes nodeBytes bytesOf found successor enlarged symbolIn symbolPart ruleNodes itemNodes itemBox placed nextClass setItems setItem setField setList later absentAt missingItems missingItem missingField nodesFit boxFits itemsFit itemFits fieldFits listFits ifFits ifPresent ifRead ifGood ifStyle resultOf measuredBy measured hasRoom setBy setting bufferBy bufferAfter
 definitions = tt

@@ -15,7 +15,7 @@ use Rattle.boxes.specs.Styles.{plain}
 use Rattle.boxes.specs.Boxes.{nothing, char, Arranged, at, origin, noOwn, ruledBehind}
 use Rattle.boxes.proofs.Bench.{bench, a, f, largeSum, minus, arranged}
 use Rattle.nucleus.specs.Limits.{limited}
-use Rattle.scripts.specs.Scripts.{drops, leastUp, superscriptUp, pairDown, gapDown, ψOf, lifted, spread, pairShifts, greatest, scripted}
+use Rattle.scripts.specs.Scripts.{drops, greatest, leastUp, superscriptCandidates, pairCandidates, gapDown, ψOf, lifted, spread, pairShifts, reach, scripted}
 use Rattle.fractions.specs.Fractions.{fractionShifts, cleared, shiftsWithBar, fraction}
 use Rattle.arrange.specs.Arrange.{nucleusOf, arrange}
 
@@ -36,5 +36,5 @@ stated =
 
 examples-hold : set ≡ stated
 unfolding
-    bench set stated pick maxℤ half limited drops leastUp superscriptUp pairDown gapDown ψOf lifted spread pairShifts greatest scripted fractionShifts cleared shiftsWithBar fraction nucleusOf arrange
+    bench set stated pick maxℤ half limited drops greatest leastUp superscriptCandidates pairCandidates gapDown ψOf lifted spread pairShifts reach scripted fractionShifts cleared shiftsWithBar fraction nucleusOf arrange
 examples-hold = refl

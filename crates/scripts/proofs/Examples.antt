@@ -12,7 +12,7 @@ use Rattle.boxes.specs.Styles.{plain, cramp}
 use Rattle.boxes.specs.Boxes.{Size, charSize, Arranged, at, origin, noOwn}
 use Rattle.boxes.proofs.Bench.{bench, a, f, minus, arranged}
 use Rattle.nucleus.specs.Nucleus.{symbolNucleus}
-use Rattle.scripts.specs.Scripts.{drops, subscriptDown, leastUp, superscriptUp, pairDown, gapDown, ψOf, lifted, spread, pairShifts, greatest, scripted}
+use Rattle.scripts.specs.Scripts.{drops, greatest, leastUp, superscriptCandidates, pairCandidates, gapDown, ψOf, lifted, spread, pairShifts, reach, scripted}
 
 abbrev script : Size
 script = charSize a
@@ -35,5 +35,5 @@ stated =
 
 examples-hold : set ≡ stated
 unfolding
-    bench set stated pick maxℤ drops subscriptDown leastUp superscriptUp pairDown gapDown ψOf lifted spread pairShifts greatest scripted
+    bench set stated pick maxℤ drops greatest leastUp superscriptCandidates pairCandidates gapDown ψOf lifted spread pairShifts reach scripted
 examples-hold = refl

@@ -1,2 +1,4 @@
--- Superscripts and subscripts. Assumes nothing.
+-- Superscripts and subscripts; candidates in the code. Assumes nothing.
 pub mod Scripts
+pub mod Values
+pub mod Bounds

@@ -36,12 +36,29 @@ drops p s n =
       | false ↦ record { up = n .size .height -ℤ supDrop p size; down = n .size .depth +ℤ subDrop p size }
     ]
 
+-- ---- the candidates for a shift: 18b to 18d say which there are, and take the greatest
+
+pub record Candidates : Type 0 where
+  pub dropped : ℤ  -- what the nucleus asks for by its drop
+  pub least : ℤ  -- the font's least shift
+  pub free : Option ℤ  -- what keeps the script's other edge free; 18d has none, for 18e sees to the gap
+
+abbrev pub keptFree : ℤ → Option ℤ → ℤ
+keptFree shift none = shift
+keptFree shift (some free) = maxℤ shift free
+
+unfoldable pub greatest : Candidates → ℤ
+greatest c = keptFree (maxℤ (c .dropped) (c .least)) (c .free)
+
 -- ---- 18b: a subscript y alone
 
-unfoldable pub subscriptDown : Parameters → Style → Nucleus → Size → ℤ
-subscriptDown p s n y =
+unfoldable pub subscriptCandidates : Parameters → Style → Nucleus → Size → Candidates
+subscriptCandidates p s n y =
     let size = fontSize s in
-    maxℤ (maxℤ (drops p s n .down) (sub1 p size)) (y .height -ℤ fourFifthsXHeight p size)
+    record { dropped = drops p s n .down; least = sub1 p size; free = some (y .height -ℤ fourFifthsXHeight p size) }
+
+abbrev pub subscriptDown : Parameters → Style → Nucleus → Size → ℤ
+subscriptDown p s n y = greatest (subscriptCandidates p s n y)
 
 -- ---- 18c: a superscript x
 
@@ -51,13 +68,20 @@ leastUp p s =
     let size = fontSize s in
     pick (s .cramped) (sup3 p size) (pick (isDisplay (s .level)) (sup1 p size) (sup2 p size))
 
-unfoldable pub superscriptUp : Parameters → Style → Nucleus → Size → ℤ
-superscriptUp p s n x = maxℤ (maxℤ (drops p s n .up) (leastUp p s)) (x .depth +ℤ quarterXHeight p (fontSize s))
+unfoldable pub superscriptCandidates : Parameters → Style → Nucleus → Size → Candidates
+superscriptCandidates p s n x =
+    record { dropped = drops p s n .up; least = leastUp p s; free = some (x .depth +ℤ quarterXHeight p (fontSize s)) }
+
+abbrev pub superscriptUp : Parameters → Style → Nucleus → Size → ℤ
+superscriptUp p s n x = greatest (superscriptCandidates p s n x)
 
 -- ---- 18d: the subscript of a pair, at first
 
-unfoldable pub pairDown : Parameters → Style → Nucleus → ℤ
-pairDown p s n = maxℤ (drops p s n .down) (sub2 p (fontSize s))
+unfoldable pub pairCandidates : Parameters → Style → Nucleus → Candidates
+pairCandidates p s n = record { dropped = drops p s n .down; least = sub2 p (fontSize s); free = none }
+
+abbrev pub pairDown : Parameters → Style → Nucleus → ℤ
+pairDown p s n = greatest (pairCandidates p s n)
 
 -- ---- 18e: superscript x and subscript y, with the shifts u and v so far
 
@@ -93,14 +117,14 @@ unfoldable pub pairShifts : Parameters → Style → Nucleus → Size → Size �
 pairShifts p s n x y =
     spread p (fontSize s) x y (record { up = superscriptUp p s n x; down = pairDown p s n })
 
--- the greatest of 0 and some numbers
-unfoldable pub greatest : List ℤ → ℤ
-greatest [] = pos 0
-greatest (z ∷ l) = maxℤ z (greatest l)
-
 -- ---- the item: scripts start where the nucleus ends; it is as high and as deep as nucleus and scripts reach
 
--- from the places and the width of the scripts, and how high and how deep they reach, at least 0
+-- how far some edges reach, at least 0
+unfoldable pub reach : List ℤ → ℤ
+reach [] = pos 0
+reach (z ∷ l) = maxℤ z (reach l)
+
+-- from the places and the width of the scripts, and how high and how deep they reach
 abbrev pub assembled : Nucleus → Place → Place → ℤ → ℤ → ℤ → Arranged
 assembled n second third w top bottom =
     record {
@@ -117,27 +141,32 @@ assembled n second third w top bottom =
     }
 
 abbrev pub withoutScripts : Nucleus → Arranged
-withoutScripts n = assembled n origin origin (pos 0) (greatest []) (greatest [])
+withoutScripts n = assembled n origin origin (pos 0) (reach []) (reach [])
+
+-- one script z, its baseline up from the nucleus's: down where that is negative
+abbrev pub alone : Nucleus → Size → Place → Place → ℤ → Arranged
+alone n z second third up =
+    assembled n second third (z .width +ℤ scriptSpace) (reach ((z .height +ℤ up) ∷ [])) (reach ((z .depth -ℤ up) ∷ []))
 
 abbrev pub withSuperscript : Nucleus → Size → ℤ → Arranged
-withSuperscript n x u =
-    assembled n (at (n .size .width) u) origin (x .width +ℤ scriptSpace)
-    (greatest ((x .height +ℤ u) ∷ [])) (greatest ((x .depth -ℤ u) ∷ []))
+withSuperscript n x u = alone n x (at (n .size .width) u) origin u
 
 abbrev pub withSubscript : Nucleus → Size → ℤ → Arranged
-withSubscript n y v =
-    assembled n origin (at (n .size .width) (negℤ v)) (y .width +ℤ scriptSpace)
-    (greatest ((y .height -ℤ v) ∷ [])) (greatest ((y .depth +ℤ v) ∷ []))
+withSubscript n y v = alone n y origin (at (n .size .width) (negℤ v)) (negℤ v)
 
 -- 18f: the superscript of a pair stands δ further right
 abbrev pub pairWidth : Nucleus → Size → Size → ℤ
 pairWidth n x y = maxℤ (x .width +ℤ scriptSpace +ℤ n .δ) (y .width +ℤ scriptSpace)
 
+-- how far a pair reaches to the side that one script is shifted toward, and the other away from
+abbrev pub pairReach : ℤ → ℤ → ℤ → ℤ → ℤ
+pairReach near toward far away = reach ((near +ℤ toward) ∷ (far -ℤ away) ∷ [])
+
 abbrev pub pairTop : Size → Size → Shifts → ℤ
-pairTop x y t = greatest ((x .height +ℤ t .up) ∷ (y .height -ℤ t .down) ∷ [])
+pairTop x y t = pairReach (x .height) (t .up) (y .height) (t .down)
 
 abbrev pub pairBottom : Size → Size → Shifts → ℤ
-pairBottom x y t = greatest ((x .depth -ℤ t .up) ∷ (y .depth +ℤ t .down) ∷ [])
+pairBottom x y t = pairReach (y .depth) (t .down) (x .depth) (t .up)
 
 abbrev pub withPair : Nucleus → Size → Size → Shifts → Arranged
 withPair n x y t =

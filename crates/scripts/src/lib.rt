@@ -25,8 +25,10 @@ use scaled::Sp;
 ghost use mathlib.Core.Path.{_≡_};
 ghost use Prim.Native.Nat.{_<_};
 ghost use Rattle.scaled.specs.Signed.{Within};
-ghost use Rattle.scripts.specs.Scripts.{quarterXHeight, fourFifthsXHeight, subscriptDown, leastUp, superscriptUp, pairDown, fourRules, gapDown, ψOf, pairShifts, withoutScripts, withSuperscript, withSubscript, withPair, pairWidth, pairTop, pairBottom};
+ghost use Rattle.scripts.specs.Scripts.{quarterXHeight, fourFifthsXHeight, subscriptCandidates, subscriptDown, leastUp, superscriptCandidates, superscriptUp, pairCandidates, fourRules, gapDown, ψOf, pairShifts, withoutScripts, withSuperscript, withSubscript, withPair, pairWidth, pairReach};
 ghost use Rattle.scripts.specs.Scripts as rule;
+ghost use Rattle.scripts.specs.Values.{candidatesAs};
+ghost use Rattle.scripts.specs.Bounds.{CandidatesWithin};
 ghost use Rattle.boxes.specs.Values.{parametersIn, sizeAs, scriptAs, placeAs, shiftsAs, arrangedAs};
 ghost use Rattle.nucleus.specs.Values.{nucleusAs};
 ghost use Rattle.boxes.specs.Bounds.{words, itemWords, Moderate, ModerateScript, PlaceWithin, ShiftsWithin, Bounded};
@@ -48,11 +50,11 @@ pub fn scripted(
     match superscript {
         Script::Absent => match subscript {
             Script::Absent => without_scripts(n),
-            Script::Given(y) => with_subscript(n, y, subscript_down(p, style, n, y)),
+            Script::Given(y) => with_subscript(p, style, n, y),
         },
         Script::Given(x) => match subscript {
-            Script::Absent => with_superscript(n, x, superscript_up(p, style, n, x)),
-            Script::Given(y) => with_pair(n, x, y, pair_shifts(p, style, n, x, y)),
+            Script::Absent => with_superscript(p, style, n, x),
+            Script::Given(y) => with_pair(p, style, n, x, y),
         },
     }
 }
@@ -75,27 +77,57 @@ fn drops(p: &Parameters, style: Style, n: Nucleus) -> Shifts
     }
 }
 
+// The candidates for a shift: 18b to 18d say which there are, and take the greatest.
+struct Candidates {
+    // What the nucleus asks for by its drop.
+    dropped: Sp,
+    // The font's least shift.
+    least: Sp,
+    free: Free,
+}
+
+// What keeps the script's other edge free, where a rule asks for that.
+enum Free {
+    Unasked,
+    Asked(Sp),
+}
+
+fn greatest(c: Candidates) -> Sp
+    ensures { λ r. ⌜ (r .0 ≡ rule.greatest (candidatesAs c)) × (CandidatesWithin 8 c → Within (words 8) (r .0)) ⌝ }
+{
+    let shift = c.dropped.max(c.least);
+    let free = c.free;
+    match free {
+        Free::Unasked => shift,
+        Free::Asked(edge) => shift.max(edge),
+    }
+}
+
 // 18b: a subscript y alone.
-fn subscript_down(p: &Parameters, style: Style, n: Nucleus, y: Size) -> Sp
+fn subscript_candidates(p: &Parameters, style: Style, n: Nucleus, y: Size) -> Candidates
     requires { ⌜ ModerateNucleus n × Moderate y ⌝ }
-    ensures { λ r. ⌜ (r .0 ≡ subscriptDown (parametersIn (now (p .entry))) style (nucleusAs n) (sizeAs y)) × Within (words 8) (r .0) ⌝ }
+    ensures { λ r. ⌜ (candidatesAs r ≡ subscriptCandidates (parametersIn (now (p .entry))) style (nucleusAs n) (sizeAs y)) × CandidatesWithin 8 r ⌝ }
 {
     let size = font_size(style);
     let dropped = drops(p, style, n).down;
-    let least = parameter(p, size, SUB1);
-    let free = y.height.minus(four_fifths_x_height(p, size));
-    dropped.max(least).max(free)
+    Candidates {
+        dropped,
+        least: parameter(p, size, SUB1),
+        free: Free::Asked(y.height.minus(four_fifths_x_height(p, size))),
+    }
 }
 
 // 18c: a superscript x.
-fn superscript_up(p: &Parameters, style: Style, n: Nucleus, x: Size) -> Sp
+fn superscript_candidates(p: &Parameters, style: Style, n: Nucleus, x: Size) -> Candidates
     requires { ⌜ ModerateNucleus n × Moderate x ⌝ }
-    ensures { λ r. ⌜ (r .0 ≡ superscriptUp (parametersIn (now (p .entry))) style (nucleusAs n) (sizeAs x)) × Within (words 8) (r .0) ⌝ }
+    ensures { λ r. ⌜ (candidatesAs r ≡ superscriptCandidates (parametersIn (now (p .entry))) style (nucleusAs n) (sizeAs x)) × CandidatesWithin 8 r ⌝ }
 {
     let dropped = drops(p, style, n).up;
-    let least = least_up(p, style);
-    let free = x.depth.plus(quarter_x_height(p, font_size(style)));
-    dropped.max(least).max(free)
+    Candidates {
+        dropped,
+        least: least_up(p, style),
+        free: Free::Asked(x.depth.plus(quarter_x_height(p, font_size(style)))),
+    }
 }
 
 // 18c: σ15 in cramped styles, σ13 in D, else σ14.
@@ -113,13 +145,16 @@ fn least_up(p: &Parameters, style: Style) -> Sp
 }
 
 // 18d: the subscript of a pair, at first.
-fn pair_down(p: &Parameters, style: Style, n: Nucleus) -> Sp
+fn pair_candidates(p: &Parameters, style: Style, n: Nucleus) -> Candidates
     requires { ⌜ ModerateNucleus n ⌝ }
-    ensures { λ r. ⌜ (r .0 ≡ pairDown (parametersIn (now (p .entry))) style (nucleusAs n)) × Within (words 8) (r .0) ⌝ }
+    ensures { λ r. ⌜ (candidatesAs r ≡ pairCandidates (parametersIn (now (p .entry))) style (nucleusAs n)) × CandidatesWithin 8 r ⌝ }
 {
     let dropped = drops(p, style, n).down;
-    let least = parameter(p, font_size(style), SUB2);
-    dropped.max(least)
+    Candidates {
+        dropped,
+        least: parameter(p, font_size(style), SUB2),
+        free: Free::Unasked,
+    }
 }
 
 // 18c to 18e: superscript x and subscript y.
@@ -128,8 +163,8 @@ fn pair_shifts(p: &Parameters, style: Style, n: Nucleus, x: Size, y: Size) -> Sh
     ensures { λ r. ⌜ (shiftsAs r ≡ pairShifts (parametersIn (now (p .entry))) style (nucleusAs n) (sizeAs x) (sizeAs y)) × ShiftsWithin 24 r ⌝ }
 {
     let first = Shifts {
-        up: superscript_up(p, style, n, x),
-        down: pair_down(p, style, n),
+        up: greatest(superscript_candidates(p, style, n, x)),
+        down: greatest(pair_candidates(p, style, n)),
     };
     spread(p, font_size(style), x, y, first)
 }
@@ -220,43 +255,41 @@ fn without_scripts(n: Nucleus) -> Arranged
     assembled(n, origin(), origin(), Sp(0), Sp(0), Sp(0))
 }
 
-fn with_superscript(n: Nucleus, x: Size, u: Sp) -> Arranged
-    requires { ⌜ ModerateNucleus n × Moderate x × Within (words 8) (u .0) ⌝ }
-    ensures { λ r. ⌜ (arrangedAs r ≡ withSuperscript (nucleusAs n) (sizeAs x) (u .0)) × Bounded r ⌝ }
+fn with_superscript(p: &Parameters, style: Style, n: Nucleus, x: Size) -> Arranged
+    requires { ⌜ ModerateNucleus n × Moderate x ⌝ }
+    ensures { λ r. ⌜ (arrangedAs r ≡ withSuperscript (nucleusAs n) (sizeAs x) (superscriptUp (parametersIn (now (p .entry))) style (nucleusAs n) (sizeAs x))) × Bounded r ⌝ }
 {
-    let w = x.width.plus(Sp(SCRIPT_SPACE));
-    let top = x.height.plus(u).max(Sp(0));
-    let bottom = x.depth.minus(u).max(Sp(0));
+    let up = greatest(superscript_candidates(p, style, n, x));
     let across = n.size.width;
-    assembled(n, Place { across, up: u }, origin(), w, top, bottom)
+    alone(n, x, Place { across, up }, origin(), up)
 }
 
-fn with_subscript(n: Nucleus, y: Size, v: Sp) -> Arranged
-    requires { ⌜ ModerateNucleus n × Moderate y × Within (words 8) (v .0) ⌝ }
-    ensures { λ r. ⌜ (arrangedAs r ≡ withSubscript (nucleusAs n) (sizeAs y) (v .0)) × Bounded r ⌝ }
+fn with_subscript(p: &Parameters, style: Style, n: Nucleus, y: Size) -> Arranged
+    requires { ⌜ ModerateNucleus n × Moderate y ⌝ }
+    ensures { λ r. ⌜ (arrangedAs r ≡ withSubscript (nucleusAs n) (sizeAs y) (subscriptDown (parametersIn (now (p .entry))) style (nucleusAs n) (sizeAs y))) × Bounded r ⌝ }
 {
-    let w = y.width.plus(Sp(SCRIPT_SPACE));
-    let top = y.height.minus(v).max(Sp(0));
-    let bottom = y.depth.plus(v).max(Sp(0));
+    let up = greatest(subscript_candidates(p, style, n, y)).negated();
     let across = n.size.width;
-    assembled(
-        n,
-        origin(),
-        Place {
-            across,
-            up: v.negated(),
-        },
-        w,
-        top,
-        bottom,
-    )
+    alone(n, y, origin(), Place { across, up }, up)
+}
+
+// One script z, its baseline up from the nucleus's: down where that is negative.
+fn alone(n: Nucleus, z: Size, second: Place, third: Place, up: Sp) -> Arranged
+    requires { ⌜ ModerateNucleus n × Moderate z × PlaceWithin itemWords second × PlaceWithin itemWords third × Within (words 8) (up .0) ⌝ }
+    ensures { λ r. ⌜ (arrangedAs r ≡ rule.alone (nucleusAs n) (sizeAs z) (placeAs second) (placeAs third) (up .0)) × Bounded r ⌝ }
+{
+    let w = z.width.plus(Sp(SCRIPT_SPACE));
+    let top = z.height.plus(up).max(Sp(0));
+    let bottom = z.depth.minus(up).max(Sp(0));
+    assembled(n, second, third, w, top, bottom)
 }
 
 // 18f: the superscript of a pair stands δ further right.
-fn with_pair(n: Nucleus, x: Size, y: Size, t: Shifts) -> Arranged
-    requires { ⌜ ModerateNucleus n × Moderate x × Moderate y × ShiftsWithin 24 t ⌝ }
-    ensures { λ r. ⌜ (arrangedAs r ≡ withPair (nucleusAs n) (sizeAs x) (sizeAs y) (shiftsAs t)) × Bounded r ⌝ }
+fn with_pair(p: &Parameters, style: Style, n: Nucleus, x: Size, y: Size) -> Arranged
+    requires { ⌜ ModerateNucleus n × Moderate x × Moderate y ⌝ }
+    ensures { λ r. ⌜ (arrangedAs r ≡ withPair (nucleusAs n) (sizeAs x) (sizeAs y) (pairShifts (parametersIn (now (p .entry))) style (nucleusAs n) (sizeAs x) (sizeAs y))) × Bounded r ⌝ }
 {
+    let t = pair_shifts(p, style, n, x, y);
     let up = t.up;
     let second = Place {
         across: n.size.width.plus(n.delta),
@@ -272,8 +305,8 @@ fn with_pair(n: Nucleus, x: Size, y: Size, t: Shifts) -> Arranged
         second,
         third,
         pair_width(n, x, y),
-        pair_top(x, y, t),
-        pair_bottom(x, y, t),
+        pair_reach(x.height, t.up, y.height, t.down),
+        pair_reach(y.depth, t.down, x.depth, t.up),
     )
 }
 
@@ -287,18 +320,12 @@ fn pair_width(n: Nucleus, x: Size, y: Size) -> Sp
         .max(y.width.plus(Sp(SCRIPT_SPACE)))
 }
 
-fn pair_top(x: Size, y: Size, t: Shifts) -> Sp
-    requires { ⌜ Moderate x × Moderate y × ShiftsWithin 24 t ⌝ }
-    ensures { λ r. ⌜ (r .0 ≡ pairTop (sizeAs x) (sizeAs y) (shiftsAs t)) × Within (words itemWords) (r .0) ⌝ }
+// How far a pair reaches to the side that one script is shifted toward, and the other away from.
+fn pair_reach(near: Sp, toward: Sp, far: Sp, away: Sp) -> Sp
+    requires { ⌜ Within (words 1) (near .0) × Within (words 24) (toward .0) × Within (words 1) (far .0) × Within (words 24) (away .0) ⌝ }
+    ensures { λ r. ⌜ (r .0 ≡ pairReach (near .0) (toward .0) (far .0) (away .0)) × Within (words itemWords) (r .0) ⌝ }
 {
-    x.height.plus(t.up).max(y.height.minus(t.down).max(Sp(0)))
-}
-
-fn pair_bottom(x: Size, y: Size, t: Shifts) -> Sp
-    requires { ⌜ Moderate x × Moderate y × ShiftsWithin 24 t ⌝ }
-    ensures { λ r. ⌜ (r .0 ≡ pairBottom (sizeAs x) (sizeAs y) (shiftsAs t)) × Within (words itemWords) (r .0) ⌝ }
-{
-    x.depth.minus(t.up).max(y.depth.plus(t.down).max(Sp(0)))
+    near.plus(toward).max(far.minus(away).max(Sp(0)))
 }
 
 // The item: scripts start where the nucleus ends, and reach up to top and down to bottom.

@@ -1,37 +1,58 @@
 -- `pair_shifts` meets its contract: the first shifts are those of the definition.
 -- Assumes nothing.
+use mathlib.Core.Path.{ap, _∙_}
 use borrow.Author.Needs.{needs}
-use Rattle.scripts.specs.Scripts.{pairShifts}
+use Rattle.scripts.specs.Scripts.{greatest, pairShifts}
 use Rattle.scripts.proofs.pair_shifts.Statement.{statement}
 use Rattle.scripts.proofs.pair_shifts.Tie as tie
 
-superscript-up-requires : tie.Need-superscript-up-requires
-superscript-up-requires c κs = search needs
+superscript-candidates-requires : tie.Need-superscript-candidates-requires
+superscript-candidates-requires c κs = search needs
 
-pair-down-requires : tie.Need-pair-down-requires
-pair-down-requires c κs = search needs
+greatest-requires : tie.Need-greatest-requires
+greatest-requires c κs = search needs
+
+pair-candidates-requires : tie.Need-pair-candidates-requires
+pair-candidates-requires c κs = search needs
+
+greatest-requires-2 : tie.Need-greatest-requires-2
+greatest-requires-2 c κs = search needs
 
 font-size-requires : tie.Need-font-size-requires
 font-size-requires c κs = search needs
 
 spread-requires : tie.Need-spread-requires
-spread-requires c κs = search needs
+spread-requires c κs =
+    let down = c .before in
+    let up = down .before .before in
+    let pre = up .before .before .pre in (
+      c .font-size .ensures .1,
+      pre .1,
+      pre .2,
+      record {
+        up = up .greatest .ensures .1 (up .before .superscript-candidates .ensures .1);
+        down = down .greatest2 .ensures .1 (down .before .pair-candidates .ensures .1);
+      },
+    )
 
 returns : tie.Need-returns
 unfolding pairShifts
 returns c =
     let size = c .before in
-    let down = size .before in (
-      rw (size .font-size .ensures .0, down .pair-down .ensures .0, down .before .superscript-up .ensures .0) at (c .spread .ensures .0),
-      c .spread .ensures .1,
-    )
+    let down = size .before in
+    let up = down .before .before in
+    let v = down .greatest2 .ensures .0 ∙ ap greatest (down .before .pair-candidates .ensures .0) in
+    let u = up .greatest .ensures .0 ∙ ap greatest (up .before .superscript-candidates .ensures .0) in
+    (rw (size .font-size .ensures .0, v, u) at (c .spread .ensures .0), c .spread .ensures .1)
 
 pub pair-shifts-spec : {M : Type 1} → statement M
 pair-shifts-spec =
     tie.close
     (tie.spec
-    superscript-up-requires
-    pair-down-requires
+    superscript-candidates-requires
+    greatest-requires
+    pair-candidates-requires
+    greatest-requires-2
     font-size-requires
     spread-requires
     returns)

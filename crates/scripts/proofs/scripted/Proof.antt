@@ -1,10 +1,7 @@
 -- `scripted` meets its contract: each arm is a clause of the definition.
 -- Assumes nothing.
-use mathlib.Core.Path.{ap, _∙_}
 use borrow.Author.Needs.{needs}
-use Rattle.scripts.specs.Scripts.{withPair, scripted}
-use Rattle.nucleus.specs.Values.{nucleusAs}
-use Rattle.boxes.specs.Values.{sizeAs}
+use Rattle.scripts.specs.Scripts.{scripted}
 use Rattle.scripts.proofs.scripted.Statement.{statement}
 use Rattle.scripts.proofs.scripted.Tie as tie
 
@@ -20,17 +17,11 @@ without-scripts-requires c κs = search needs
 enum-known-subscript : tie.Need-enum-known-subscript
 enum-known-subscript c = search needs
 
-subscript-down-requires : tie.Need-subscript-down-requires
-subscript-down-requires c κs =
+with-subscript-requires : tie.Need-with-subscript-requires
+with-subscript-requires c κs =
     let arm = c .before in
     let pre = arm .before .before .before .before .pre in
     (pre .0, rw (arm .subscript .given .1) at (pre .2))
-
-with-subscript-requires : tie.Need-with-subscript-requires
-with-subscript-requires c κs =
-    let arm = c .before .before in
-    let pre = arm .before .before .before .before .pre in
-    (pre .0, rw (arm .subscript .given .1) at (pre .2), c .subscript-down .ensures .1)
 
 enum-known-superscript : tie.Need-enum-known-superscript
 enum-known-superscript c = search needs
@@ -38,34 +29,21 @@ enum-known-superscript c = search needs
 enum-told-3 : tie.Need-enum-told-3
 enum-told-3 c = search needs
 
-superscript-up-requires : tie.Need-superscript-up-requires
-superscript-up-requires c κs =
+with-superscript-requires : tie.Need-with-superscript-requires
+with-superscript-requires c κs =
     let arm = c .before .before .before in
     let pre = arm .before .before .pre in
     (pre .0, rw (arm .superscript .given .1) at (pre .1))
 
-with-superscript-requires : tie.Need-with-superscript-requires
-with-superscript-requires c κs =
-    let arm = c .before .before .before .before in
-    let pre = arm .before .before .pre in
-    (pre .0, rw (arm .superscript .given .1) at (pre .1), c .superscript-up .ensures .1)
-
 enum-known-subscript-2 : tie.Need-enum-known-subscript-2
 enum-known-subscript-2 c = search needs
 
-pair-shifts-requires : tie.Need-pair-shifts-requires
-pair-shifts-requires c κs =
+with-pair-requires : tie.Need-with-pair-requires
+with-pair-requires c κs =
     let lower = c .before in
     let upper = lower .before .before .before in
     let pre = upper .before .before .pre in
     (pre .0, rw (upper .superscript .given .1) at (pre .1), rw (lower .subscript2 .given .1) at (pre .2))
-
-with-pair-requires : tie.Need-with-pair-requires
-with-pair-requires c κs =
-    let lower = c .before .before in
-    let upper = lower .before .before .before in
-    let pre = upper .before .before .pre in
-    (pre .0, rw (upper .superscript .given .1) at (pre .1), rw (lower .subscript2 .given .1) at (pre .2), c .pair-shifts .ensures .1)
 
 returns : tie.Need-returns
 unfolding scripted
@@ -76,30 +54,21 @@ returns c =
 returns-2 : tie.Need-returns-2
 unfolding scripted
 returns-2 c =
-    let arm = c .before .before .before in (
-      rw (arm .subscript .given .1, arm .before .before .enum-told .given .1) (rw (c .before .subscript-down .ensures .0) at (c .with-subscript .ensures .0)),
-      c .with-subscript .ensures .1,
-    )
+    let arm = c .before .before in
+    (rw (arm .subscript .given .1, arm .before .before .enum-told .given .1) (c .with-subscript .ensures .0), c .with-subscript .ensures .1)
 
 returns-3 : tie.Need-returns-3
 unfolding scripted
 returns-3 c =
-    let arm = c .before .before in (
-      rw (arm .enum-told3 .given .1, arm .before .before .before .superscript .given .1) (rw (c .before .superscript-up .ensures .0) at (c .with-superscript .ensures .0)),
-      c .with-superscript .ensures .1,
-    )
+    let arm = c .before in
+    (rw (arm .enum-told3 .given .1, arm .before .before .before .superscript .given .1) (c .with-superscript .ensures .0), c .with-superscript .ensures .1)
 
 returns-4 : tie.Need-returns-4
 unfolding scripted
 returns-4 c =
-    let lower = c .before .before .before in
+    let lower = c .before .before in
     let upper = lower .before .before .before in
-    let n = nucleusAs (upper .before .before .args .n) in
-    let x = sizeAs (upper .superscript .given .0 .0) in
-    let y = sizeAs (lower .subscript2 .given .0 .0) in (
-      rw (lower .subscript2 .given .1, upper .superscript .given .1) (c .with-pair .ensures .0 ∙ ap (withPair n x y) (c .before .pair-shifts .ensures .0)),
-      c .with-pair .ensures .1,
-    )
+    (rw (lower .subscript2 .given .1, upper .superscript .given .1) (c .with-pair .ensures .0), c .with-pair .ensures .1)
 
 pub scripted-spec : {M : Type 1} → statement M
 scripted-spec =
@@ -109,14 +78,11 @@ scripted-spec =
     enum-told-2
     without-scripts-requires
     enum-known-subscript
-    subscript-down-requires
     with-subscript-requires
     enum-known-superscript
     enum-told-3
-    superscript-up-requires
     with-superscript-requires
     enum-known-subscript-2
-    pair-shifts-requires
     with-pair-requires
     returns
     returns-2

@@ -1,9 +1,16 @@
 -- `with_pair` meets its contract: what it assembles is that of the definition.
 -- Assumes nothing.
+use mathlib.Core.Path.{ap, _∙_}
 use native.Mathlib.Omega.{arith}
 use borrow.Author.Needs.{needs}
+use Rattle.boxes.specs.Values.{sizeAs}
+use Rattle.nucleus.specs.Values.{nucleusAs}
+use Rattle.scripts.specs.Scripts.{withPair}
 use Rattle.scripts.proofs.with_pair.Statement.{statement}
 use Rattle.scripts.proofs.with_pair.Tie as tie
+
+pair-shifts-requires : tie.Need-pair-shifts-requires
+pair-shifts-requires c κs = search needs
 
 plus-requires : tie.Need-plus-requires
 plus-requires c κs = search needs
@@ -14,11 +21,11 @@ negated-requires c κs = search needs
 pair-width-requires : tie.Need-pair-width-requires
 pair-width-requires c κs = search needs
 
-pair-top-requires : tie.Need-pair-top-requires
-pair-top-requires c κs = search needs
+pair-reach-requires : tie.Need-pair-reach-requires
+pair-reach-requires c κs = search needs
 
-pair-bottom-requires : tie.Need-pair-bottom-requires
-pair-bottom-requires c κs = search needs
+pair-reach-requires-2 : tie.Need-pair-reach-requires-2
+pair-reach-requires-2 c κs = search needs
 
 assembled-requires : tie.Need-assembled-requires
 assembled-requires c κs =
@@ -26,13 +33,15 @@ assembled-requires c κs =
     let width = top .before in
     let third = width .before in
     let second = third .before .before in
-    let pre = second .before .before .pre in (
-      pre .0,
-      omega (arith, second .plus .ensures .parts, pre),
-      omega (arith, third .negated .ensures .parts, pre),
+    let shifts = second .before .before in
+    let pre = shifts .before .pre .0 in
+    let within = shifts .pair-shifts .ensures .1 in (
+      pre,
+      omega (arith, second .plus .ensures .parts, within, pre .size .width, pre .delta),
+      omega (arith, third .negated .ensures .parts, within, pre .size .width),
       width .pair-width .ensures .1,
-      top .pair-top .ensures .1,
-      c .pair-bottom .ensures .1,
+      top .pair-reach .ensures .1,
+      c .pair-reach2 .ensures .1,
     )
 
 returns : tie.Need-returns
@@ -41,8 +50,11 @@ returns c =
     let top = bottom .before in
     let width = top .before in
     let third = width .before in
-    let second = third .before .before in (
-      rw (bottom .pair-bottom .ensures .0, top .pair-top .ensures .0, width .pair-width .ensures .0, third .negated .ensures .is, second .plus .ensures .is) at (c .assembled .ensures .0),
+    let second = third .before .before in
+    let shifts = second .before .before in
+    let start = shifts .before in
+    let is = rw (bottom .pair-reach2 .ensures .0, top .pair-reach .ensures .0, width .pair-width .ensures .0, third .negated .ensures .is, second .plus .ensures .is) at (c .assembled .ensures .0) in (
+      is ∙ ap (withPair (nucleusAs (start .args .n)) (sizeAs (start .args .x)) (sizeAs (start .args .y))) (shifts .pair-shifts .ensures .0),
       c .assembled .ensures .1,
     )
 
@@ -50,10 +62,11 @@ pub with-pair-spec : {M : Type 1} → statement M
 with-pair-spec =
     tie.close
     (tie.spec
+    pair-shifts-requires
     plus-requires
     negated-requires
     pair-width-requires
-    pair-top-requires
-    pair-bottom-requires
+    pair-reach-requires
+    pair-reach-requires-2
     assembled-requires
     returns)

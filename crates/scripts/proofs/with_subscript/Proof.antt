@@ -1,68 +1,52 @@
--- `with_subscript` meets its contract: what it assembles is that of the definition.
+-- `with_subscript` meets its contract: shift and place are those of the definition.
 -- Assumes nothing.
+use mathlib.Core.Path.{ap, _∙_}
 use native.Mathlib.Omega.{arith}
 use borrow.Author.Needs.{needs}
 use Rattle.scripts.specs.Scripts.{greatest}
 use Rattle.scripts.proofs.with_subscript.Statement.{statement}
 use Rattle.scripts.proofs.with_subscript.Tie as tie
 
-plus-requires : tie.Need-plus-requires
-plus-requires c κs = search needs
+subscript-candidates-requires : tie.Need-subscript-candidates-requires
+subscript-candidates-requires c κs = search needs
 
-minus-requires : tie.Need-minus-requires
-minus-requires c κs = search needs
+greatest-requires : tie.Need-greatest-requires
+greatest-requires c κs = search needs
 
-max-requires : tie.Need-max-requires
-max-requires c κs = search needs
-
-plus-requires-2 : tie.Need-plus-requires-2
-plus-requires-2 c κs = search needs
-
-max-requires-2 : tie.Need-max-requires-2
-max-requires-2 c κs = search needs
+negated-requires : tie.Need-negated-requires
+negated-requires c κs = omega (arith, c .greatest .ensures .1 (c .before .subscript-candidates .ensures .1))
 
 origin-requires : tie.Need-origin-requires
 origin-requires c κs = search needs
 
-negated-requires : tie.Need-negated-requires
-negated-requires c κs = search needs
-
-assembled-requires : tie.Need-assembled-requires
-assembled-requires c κs =
-    let bottom = c .before .before .before in
-    let top = bottom .before .before in
-    let width = top .before .before in
-    let pre = width .before .pre in (
+alone-requires : tie.Need-alone-requires
+alone-requires c κs =
+    let up = c .before .before in
+    let down = up .before in
+    let pre = down .before .before .pre in
+    let within = down .greatest .ensures .1 (down .before .subscript-candidates .ensures .1) in (
       pre .0,
-      omega (arith, c .before .origin .ensures .1),
-      omega (arith, pre),
-      omega (arith, width .plus .ensures .parts, pre),
-      omega (arith, top .max .ensures .parts, top .before .minus .ensures .parts, pre),
-      omega (arith, pre),
+      pre .1,
+      omega (arith, c .origin .ensures .1),
+      omega (arith, up .negated .ensures .parts, within, pre .0 .size .width),
+      omega (arith, up .negated .ensures .parts, within),
     )
 
 returns : tie.Need-returns
-unfolding greatest
 returns c =
-    let third = c .before in
-    let blank = third .before in
-    let bottom = blank .before .before in
-    let top = bottom .before .before in
-    let width = top .before .before in (
-      rw (third .negated .ensures .is, blank .origin .ensures .0, bottom .max2 .ensures .is, bottom .before .plus2 .ensures .is, top .max .ensures .is, top .before .minus .ensures .is, width .plus .ensures .is) at (c .assembled .ensures .0),
-      c .assembled .ensures .1,
-    )
+    let blank = c .before in
+    let up = blank .before .before in
+    let down = up .before in
+    let v = down .greatest .ensures .0 ∙ ap greatest (down .before .subscript-candidates .ensures .0) in
+    (rw (blank .origin .ensures .0, up .negated .ensures .is, v) at (c .alone .ensures .0), c .alone .ensures .1)
 
 pub with-subscript-spec : {M : Type 1} → statement M
 with-subscript-spec =
     tie.close
     (tie.spec
-    plus-requires
-    minus-requires
-    max-requires
-    plus-requires-2
-    max-requires-2
-    origin-requires
+    subscript-candidates-requires
+    greatest-requires
     negated-requires
-    assembled-requires
+    origin-requires
+    alone-requires
     returns)

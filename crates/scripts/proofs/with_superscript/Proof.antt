@@ -1,63 +1,41 @@
--- `with_superscript` meets its contract: what it assembles is that of the definition.
+-- `with_superscript` meets its contract: shift and place are those of the definition.
 -- Assumes nothing.
+use mathlib.Core.Path.{ap, _∙_}
 use native.Mathlib.Omega.{arith}
 use borrow.Author.Needs.{needs}
 use Rattle.scripts.specs.Scripts.{greatest}
 use Rattle.scripts.proofs.with_superscript.Statement.{statement}
 use Rattle.scripts.proofs.with_superscript.Tie as tie
 
-plus-requires : tie.Need-plus-requires
-plus-requires c κs = search needs
+superscript-candidates-requires : tie.Need-superscript-candidates-requires
+superscript-candidates-requires c κs = search needs
 
-plus-requires-2 : tie.Need-plus-requires-2
-plus-requires-2 c κs = search needs
-
-max-requires : tie.Need-max-requires
-max-requires c κs = search needs
-
-minus-requires : tie.Need-minus-requires
-minus-requires c κs = search needs
-
-max-requires-2 : tie.Need-max-requires-2
-max-requires-2 c κs = search needs
+greatest-requires : tie.Need-greatest-requires
+greatest-requires c κs = search needs
 
 origin-requires : tie.Need-origin-requires
 origin-requires c κs = search needs
 
-assembled-requires : tie.Need-assembled-requires
-assembled-requires c κs =
-    let bottom = c .before .before in
-    let top = bottom .before .before in
-    let width = top .before .before in
-    let pre = width .before .pre in (
-      pre .0,
-      omega (arith, pre),
-      omega (arith, c .origin .ensures .1),
-      omega (arith, width .plus .ensures .parts, pre),
-      omega (arith, top .max .ensures .parts, top .before .plus2 .ensures .parts, pre),
-      omega (arith, pre),
-    )
+alone-requires : tie.Need-alone-requires
+alone-requires c κs =
+    let up = c .before .before in
+    let pre = up .before .before .pre in
+    let within = up .greatest .ensures .1 (up .before .superscript-candidates .ensures .1) in
+    (pre .0, pre .1, omega (arith, within, pre .0 .size .width), omega (arith, c .origin .ensures .1), within)
 
 returns : tie.Need-returns
-unfolding greatest
 returns c =
     let blank = c .before in
-    let bottom = blank .before .before in
-    let top = bottom .before .before in
-    let width = top .before .before in (
-      rw (blank .origin .ensures .0, bottom .max2 .ensures .is, bottom .before .minus .ensures .is, top .max .ensures .is, top .before .plus2 .ensures .is, width .plus .ensures .is) at (c .assembled .ensures .0),
-      c .assembled .ensures .1,
-    )
+    let up = blank .before .before in
+    let u = up .greatest .ensures .0 ∙ ap greatest (up .before .superscript-candidates .ensures .0) in
+    (rw (blank .origin .ensures .0, u) at (c .alone .ensures .0), c .alone .ensures .1)
 
 pub with-superscript-spec : {M : Type 1} → statement M
 with-superscript-spec =
     tie.close
     (tie.spec
-    plus-requires
-    plus-requires-2
-    max-requires
-    minus-requires
-    max-requires-2
+    superscript-candidates-requires
+    greatest-requires
     origin-requires
-    assembled-requires
+    alone-requires
     returns)

@@ -1,7 +1,7 @@
 -- `without_scripts` meets its contract: what it assembles is that of the definition.
 -- Assumes nothing.
 use borrow.Author.Needs.{needs}
-use Rattle.scripts.specs.Scripts.{greatest}
+use Rattle.scripts.specs.Scripts.{reach}
 use Rattle.scripts.proofs.without_scripts.Statement.{statement}
 use Rattle.scripts.proofs.without_scripts.Tie as tie
 
@@ -15,7 +15,7 @@ assembled-requires : tie.Need-assembled-requires
 assembled-requires c κs = search needs
 
 returns : tie.Need-returns
-unfolding greatest
+unfolding reach
 returns c = (rw (c .before .origin2 .ensures .0, c .before .before .origin .ensures .0) at (c .assembled .ensures .0), c .assembled .ensures .1)
 
 pub without-scripts-spec : {M : Type 1} → statement M

@@ -1,9 +1,9 @@
--- `pair_top` meets its contract: the maxima are those of the definition.
+-- `pair_reach` meets its contract: the maxima are those of the definition.
 -- Assumes nothing.
 use borrow.Author.Needs.{needs}
-use Rattle.scripts.specs.Scripts.{greatest}
-use Rattle.scripts.proofs.pair_top.Statement.{statement}
-use Rattle.scripts.proofs.pair_top.Tie as tie
+use Rattle.scripts.specs.Scripts.{reach}
+use Rattle.scripts.proofs.pair_reach.Statement.{statement}
+use Rattle.scripts.proofs.pair_reach.Tie as tie
 
 plus-requires : tie.Need-plus-requires
 plus-requires c κs = search needs
@@ -18,12 +18,12 @@ max-requires-2 : tie.Need-max-requires-2
 max-requires-2 c κs = search needs
 
 returns : tie.Need-returns
-unfolding greatest
+unfolding reach
 returns c =
     let lower = c .before in
-    let y = lower .before in
-    (rw (c .max2 .ensures .is, lower .max .ensures .is, y .minus .ensures .is, y .before .plus .ensures .is), search needs)
+    let far = lower .before in
+    (rw (c .max2 .ensures .is, lower .max .ensures .is, far .minus .ensures .is, far .before .plus .ensures .is), search needs)
 
-pub pair-top-spec : {M : Type 1} → statement M
-pair-top-spec =
+pub pair-reach-spec : {M : Type 1} → statement M
+pair-reach-spec =
     tie.close (tie.spec plus-requires minus-requires max-requires max-requires-2 returns)

@@ -1,0 +1,57 @@
+-- `alone` meets its contract: what it assembles is that of the definition.
+-- Assumes nothing.
+use native.Mathlib.Omega.{arith}
+use borrow.Author.Needs.{needs}
+use Rattle.scripts.specs.Scripts.{reach}
+use Rattle.scripts.proofs.alone.Statement.{statement}
+use Rattle.scripts.proofs.alone.Tie as tie
+
+plus-requires : tie.Need-plus-requires
+plus-requires c κs = search needs
+
+plus-requires-2 : tie.Need-plus-requires-2
+plus-requires-2 c κs = search needs
+
+max-requires : tie.Need-max-requires
+max-requires c κs = search needs
+
+minus-requires : tie.Need-minus-requires
+minus-requires c κs = search needs
+
+max-requires-2 : tie.Need-max-requires-2
+max-requires-2 c κs = search needs
+
+assembled-requires : tie.Need-assembled-requires
+assembled-requires c κs =
+    let top = c .before .before in
+    let width = top .before .before in
+    let pre = width .before .pre in (
+      pre .0,
+      pre .2,
+      pre .3,
+      omega (arith, width .plus .ensures .parts, pre .1),
+      omega (arith, top .max .ensures .parts, top .before .plus2 .ensures .parts, pre .1, pre .4),
+      omega (arith, c .max2 .ensures .parts, c .before .minus .ensures .parts, pre .1, pre .4),
+    )
+
+returns : tie.Need-returns
+unfolding reach
+returns c =
+    let bottom = c .before in
+    let top = bottom .before .before in
+    let width = top .before .before in (
+      rw (bottom .max2 .ensures .is, bottom .before .minus .ensures .is, top .max .ensures .is, top .before .plus2 .ensures .is, width .plus .ensures .is) at (c .assembled .ensures .0),
+      c .assembled .ensures .1,
+    )
+
+pub alone-spec : {M : Type 1} → statement M
+alone-spec =
+    tie.close
+    (tie.spec
+    plus-requires
+    plus-requires-2
+    max-requires
+    minus-requires
+    max-requires-2
+    assembled-requires
+    returns)
