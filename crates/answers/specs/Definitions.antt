@@ -12,7 +12,7 @@ use Rattle.boxes.specs.Styles.{styleOf}
 use Rattle.spacing.specs.Classes.{changedClass}
 use Rattle.spacing.specs.Spacing.{row, chart, spaceBefore}
 use Rattle.scripts.specs.Scripts.{drops, greatest, subscriptCandidates, leastUp, superscriptCandidates, pairCandidates, gapDown, ψOf, lifted, spread, pairShifts, reach, scripted}
-use Rattle.nucleus.specs.Limits.{limited}
+use Rattle.limits.specs.Limits.{limited}
 use Rattle.fractions.specs.Fractions.{fractionShifts, parted, shiftsWithoutBar, cleared, shiftsWithBar, fraction}
 use Rattle.arrange.specs.Arrange.{nucleusOf, arrange}
 use Rattle.nodes.specs.Nodes.{moved, signedBytes, nodeBytes, bytesOf}

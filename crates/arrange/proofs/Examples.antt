@@ -14,7 +14,7 @@ use Rattle.boxes.specs.declared.styles.Level.the-variants.{Display, Text}
 use Rattle.boxes.specs.Styles.{plain}
 use Rattle.boxes.specs.Boxes.{nothing, char, Arranged, at, origin, noOwn, ruledBehind}
 use Rattle.boxes.proofs.Bench.{bench, a, f, largeSum, minus, arranged}
-use Rattle.nucleus.specs.Limits.{limited}
+use Rattle.limits.specs.Limits.{limited}
 use Rattle.scripts.specs.Scripts.{drops, greatest, leastUp, superscriptCandidates, pairCandidates, gapDown, ψOf, lifted, spread, pairShifts, reach, scripted}
 use Rattle.fractions.specs.Fractions.{fractionShifts, cleared, shiftsWithBar, fraction}
 use Rattle.arrange.specs.Arrange.{nucleusOf, arrange}

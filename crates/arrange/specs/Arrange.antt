@@ -14,7 +14,7 @@ use Rattle.boxes.specs.Styles.{fontSize, isDisplay, superscriptStyle, subscript
 use Rattle.boxes.specs.Parameters.{Parameters, axisHeight, ruleThickness}
 use Rattle.boxes.specs.Boxes.{Size, Shape, Arranged, sizeOf, given}
 use Rattle.nucleus.specs.Nucleus.{Nucleus, atomNucleus, overline, underline}
-use Rattle.nucleus.specs.Limits.{hasLimits, limited}
+use Rattle.limits.specs.Limits.{hasLimits, limited}
 use Rattle.scripts.specs.Scripts.{scripted}
 use Rattle.fractions.specs.Fractions.{barThickness, hasBar, fraction}
 

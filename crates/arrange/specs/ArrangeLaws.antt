@@ -19,7 +19,7 @@ use Rattle.boxes.specs.Styles.{fontSize}
 use Rattle.boxes.specs.Parameters.{Parameters, axisHeight}
 use Rattle.boxes.specs.Boxes.{Size, Shape, nothing, char, box, given, Rule, Own, noOwn, ruledBehind}
 use Rattle.nucleus.specs.Nucleus.{Nucleus, atomNucleus}
-use Rattle.nucleus.specs.Limits.{hasLimits, limited}
+use Rattle.limits.specs.Limits.{hasLimits, limited}
 use Rattle.scripts.specs.Scripts.{scripted}
 use Rattle.fractions.specs.Fractions.{barThickness, hasBar, fraction}
 use Rattle.arrange.specs.Arrange.{isGiven, setsLimits, nucleusOf, setScripts, arrange, OwnCounts, baseCounts, barCounts, ownCounts}

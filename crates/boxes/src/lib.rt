@@ -72,8 +72,7 @@ pub struct Arranged {
 }
 
 pub fn size_of(x: Shape) -> Size
-    requires { ⌜ ModerateShape x ⌝ }
-    ensures { λ r. ⌜ (sizeAs r ≡ boxes.sizeOf (shapeAs x)) × Moderate r ⌝ }
+    ensures { λ r. ⌜ (sizeAs r ≡ boxes.sizeOf (shapeAs x)) × (ModerateShape x → Moderate r) ⌝ }
 {
     match x {
         Shape::Nothing => zero_size(),
@@ -84,8 +83,7 @@ pub fn size_of(x: Shape) -> Size
 
 // A script that is there.
 pub fn given(x: Shape) -> Script
-    requires { ⌜ ModerateShape x ⌝ }
-    ensures { λ r. ⌜ (scriptAs r ≡ boxes.given (shapeAs x)) × ModerateScript r ⌝ }
+    ensures { λ r. ⌜ (scriptAs r ≡ boxes.given (shapeAs x)) × (ModerateShape x → ModerateScript r) ⌝ }
 {
     match x {
         Shape::Nothing => Script::Absent,

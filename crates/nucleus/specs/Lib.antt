@@ -1,5 +1,4 @@
--- The nucleus of a base, and limits set above and below it. Assumes nothing.
+-- The nucleus of a base. Assumes nothing.
 pub mod Nucleus
-pub mod Limits
 pub mod Values
 pub mod Bounds

@@ -1,6 +1,4 @@
 // The nucleus of an atom, an operator, an overline or an underline, defined in specs/Nucleus.antt.
-pub mod limits;
-
 use boxes::Own;
 use boxes::Place;
 use boxes::Rule;
@@ -38,8 +36,8 @@ pub struct Nucleus {
 
 // An atom's nucleus; the tests are whether it is an Op, has limits set, and has a subscript.
 pub fn atom_nucleus(axis: Sp, operator: bool, limits: bool, subscript: bool, x: Shape) -> Nucleus
-    requires { ⌜ Within (words 1) (axis .0) × ModerateShape x ⌝ }
-    ensures { λ r. ⌜ (nucleusAs r ≡ atomNucleus (axis .0) operator limits subscript (shapeAs x)) × ModerateNucleus r ⌝ }
+    requires { ⌜ Within (words 1) (axis .0) ⌝ }
+    ensures { λ r. ⌜ (nucleusAs r ≡ atomNucleus (axis .0) operator limits subscript (shapeAs x)) × (ModerateShape x → ModerateNucleus r) ⌝ }
 {
     match x {
         Shape::Nothing => box_nucleus(zero_size()),
@@ -55,8 +53,7 @@ pub fn atom_nucleus(axis: Sp, operator: bool, limits: bool, subscript: bool, x: 
 }
 
 fn box_nucleus(size: Size) -> Nucleus
-    requires { ⌜ Moderate size ⌝ }
-    ensures { λ r. ⌜ (nucleusAs r ≡ boxNucleus (sizeAs size)) × ModerateNucleus r ⌝ }
+    ensures { λ r. ⌜ (nucleusAs r ≡ boxNucleus (sizeAs size)) × (Moderate size → ModerateNucleus r) ⌝ }
 {
     Nucleus {
         size,

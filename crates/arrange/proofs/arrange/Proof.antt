@@ -1,11 +1,13 @@
--- `arrange` meets its contract: each arm is a clause of the definition. `at-limits` is the clause of a base,
--- in the code's values.
+-- `arrange` meets its contract: each arm is a clause of the definition. `at-limits` is the clause of a base, in the code's
+-- values, and `parts-moderate` that its nucleus and scripts are moderate.
 -- Assumes nothing.
 use mathlib.Core.Path.{_≡_}
 use borrow.Author.Needs.{needs}
 use Rattle.arrange.specs.Arrange.{setScripts, arrange}
 use Rattle.boxes.specs.Values.{parametersIn, shapeAs, scriptAs}
+use Rattle.boxes.specs.Bounds.{ModerateScript}
 use Rattle.nucleus.specs.Values.{nucleusAs}
+use Rattle.nucleus.specs.Bounds.{ModerateNucleus}
 use Rattle.arrange.proofs.arrange.Statement.{statement}
 use Rattle.arrange.proofs.arrange.Tie as tie
 
@@ -22,6 +24,17 @@ at-limits c =
     let lower = n .before .before in
     let upper = lower .before in
     rw (n .nucleus-of .ensures .0, n .before .is-given .ensures, lower .given2 .ensures .0, upper .given .ensures .0, c .sets-limits .ensures, upper .before .before .kind .given .1)
+
+parts-moderate : (c : tie.After-sets-limits) →
+    let n = c .before in
+    let lower = n .before .before in
+    ModerateNucleus (n .nucleus-of .result) × ModerateScript (lower .before .given .result) × ModerateScript (lower .given2 .result)
+parts-moderate c =
+    let n = c .before in
+    let lower = n .before .before in
+    let upper = lower .before in
+    let pre = upper .before .before .before .before .pre in
+    (n .nucleus-of .ensures .1, upper .given .ensures .1 (pre .1), lower .given2 .ensures .1 (pre .2))
 
 enum-known-kind : tie.Need-enum-known-kind
 enum-known-kind c = search needs
@@ -45,10 +58,12 @@ font-size-requires : tie.Need-font-size-requires
 font-size-requires c κs = search needs
 
 limited-requires : tie.Need-limited-requires
-limited-requires c κs = search needs
+limited-requires c κs =
+    let parts = parts-moderate (c .before .before) in
+    (c .font-size .ensures .1, parts .0, parts .1, parts .2)
 
 scripted-requires : tie.Need-scripted-requires
-scripted-requires c κs = search needs
+scripted-requires c κs = parts-moderate (c .before)
 
 enum-known-kind-2 : tie.Need-enum-known-kind-2
 enum-known-kind-2 c = search needs
@@ -60,7 +75,10 @@ size-of-requires-2 : tie.Need-size-of-requires-2
 size-of-requires-2 c κs = search needs
 
 fraction-requires : tie.Need-fraction-requires
-fraction-requires c κs = search needs
+fraction-requires c κs =
+    let upper = c .before in
+    let pre = upper .before .before .before .before .pre in
+    (upper .size-of .ensures .1 (pre .0), c .size-of2 .ensures .1 (pre .1))
 
 returns : tie.Need-returns
 returns c =

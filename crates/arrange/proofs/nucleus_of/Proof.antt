@@ -35,7 +35,9 @@ size-of-requires : tie.Need-size-of-requires
 size-of-requires c κs = search needs
 
 overline-requires : tie.Need-overline-requires
-overline-requires c κs = search needs
+overline-requires c κs =
+    let theta = c .before in
+    (theta .rule-thickness .ensures .1, c .size-of .ensures .1 (theta .before .before .before .pre))
 
 enum-told-2 : tie.Need-enum-told-2
 enum-told-2 c = search needs
@@ -47,7 +49,9 @@ size-of-requires-2 : tie.Need-size-of-requires-2
 size-of-requires-2 c κs = search needs
 
 underline-requires : tie.Need-underline-requires
-underline-requires c κs = search needs
+underline-requires c κs =
+    let theta = c .before in
+    (theta .rule-thickness2 .ensures .1, c .size-of2 .ensures .1 (theta .before .before .before .pre))
 
 returns : tie.Need-returns
 unfolding nucleusOf
@@ -57,7 +61,7 @@ returns c =
     let axis = limits .before in
     let arm = axis .before .before .before in (
       rw (arm .base .given .1) (rw (op .is-op .ensures, limits .has-limits .ensures, axis .parameter .ensures .0 .is, axis .before .font-size .ensures .0) at (c .atom-nucleus .ensures .0)),
-      c .atom-nucleus .ensures .1,
+      c .atom-nucleus .ensures .1 (arm .before .before .pre),
     )
 
 returns-2 : tie.Need-returns-2

@@ -21,16 +21,16 @@ enum-known-x-2 : tie.Need-enum-known-x-2
 enum-known-x-2 c = search needs
 
 returns : tie.Need-returns
-returns c = (cc, search needs)
+returns c = (cc, λ moderate. c .zero-size .ensures .1)
 
 returns-2 : tie.Need-returns-2
 returns-2 c =
-    (rw (c .before .before .x .given .1) (c .char-size .ensures .0), c .char-size .ensures .1)
+    (rw (c .before .before .x .given .1) (c .char-size .ensures .0), λ moderate. c .char-size .ensures .1)
 
 returns-3 : tie.Need-returns-3
 returns-3 c =
     let known = c .before .x2 .given .1 in
-    (rw known refl, rw known at (c .before .before .before .pre))
+    (rw known refl, λ moderate. rw known at moderate)
 
 pub size-of-spec : {M : Type 1} → statement M
 size-of-spec =

@@ -29,32 +29,33 @@ enum-known-x-2 : tie.Need-enum-known-x-2
 enum-known-x-2 c = search needs
 
 box-nucleus-requires-2 : tie.Need-box-nucleus-requires-2
-box-nucleus-requires-2 c κs = rw (c .before .x2 .given .1) at (c .before .before .before .pre .1)
+box-nucleus-requires-2 c κs = search needs
 
 returns : tie.Need-returns
 returns c =
     let zero = c .before in (
       rw (zero .before .enum-told .given .1) (rw (zero .zero-size .ensures .0) at (c .box-nucleus .ensures .0)),
-      c .box-nucleus .ensures .1,
+      λ moderate. c .box-nucleus .ensures .1 (zero .zero-size .ensures .1),
     )
 
 returns-2 : tie.Need-returns-2
 returns-2 c =
     let tested = c .before .before in (
       rw (tested .before .before .x .given .1, tested .if1 .taken, ← c .before .stands-beside .ensures) (c .operator-nucleus .ensures .0),
-      c .operator-nucleus .ensures .1,
+      λ moderate. c .operator-nucleus .ensures .1,
     )
 
 returns-3 : tie.Need-returns-3
 returns-3 c =
     let tested = c .before in (
       rw (tested .before .before .x .given .1, tested .if1 .left) (c .symbol-nucleus .ensures .0),
-      c .symbol-nucleus .ensures .1,
+      λ moderate. c .symbol-nucleus .ensures .1,
     )
 
 returns-4 : tie.Need-returns-4
 returns-4 c =
-    (rw (c .before .before .x2 .given .1) (c .box-nucleus2 .ensures .0), c .box-nucleus2 .ensures .1)
+    let known = c .before .before .x2 .given .1 in
+    (rw known (c .box-nucleus2 .ensures .0), λ moderate. c .box-nucleus2 .ensures .1 (rw known at moderate))
 
 pub atom-nucleus-spec : {M : Type 1} → statement M
 atom-nucleus-spec =

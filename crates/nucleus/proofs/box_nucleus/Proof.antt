@@ -8,7 +8,7 @@ unruled-requires : tie.Need-unruled-requires
 unruled-requires c κs = search needs
 
 returns : tie.Need-returns
-returns c = (rw (c .unruled .ensures .0), search needs)
+returns c = (rw (c .unruled .ensures .0), λ moderate. search needs)
 
 pub box-nucleus-spec : {M : Type 1} → statement M
 box-nucleus-spec = tie.close (tie.spec unruled-requires returns)

@@ -1,8 +1,8 @@
 -- `has_limits` meets its contract: an Op goes by the style and its limits.
 -- Assumes nothing.
 use borrow.Author.Needs.{needs}
-use Rattle.nucleus.proofs.limits.has_limits.Statement.{statement}
-use Rattle.nucleus.proofs.limits.has_limits.Tie as tie
+use Rattle.limits.proofs.has_limits.Statement.{statement}
+use Rattle.limits.proofs.has_limits.Tie as tie
 
 is-op-requires : tie.Need-is-op-requires
 is-op-requires c κs = search needs

@@ -2,8 +2,8 @@
 -- Assumes nothing.
 use mathlib.Core.Path.{refl}
 use borrow.Author.Needs.{needs}
-use Rattle.nucleus.proofs.limits.width_of.Statement.{statement}
-use Rattle.nucleus.proofs.limits.width_of.Tie as tie
+use Rattle.limits.proofs.width_of.Statement.{statement}
+use Rattle.limits.proofs.width_of.Tie as tie
 
 enum-told : tie.Need-enum-told
 enum-told c = search needs
@@ -16,9 +16,8 @@ returns c = search needs
 
 returns-2 : tie.Need-returns-2
 returns-2 c =
-    let arm = c .before .before in
-    let known = arm .script .given .1 in
-    (rw known refl, (rw known at (arm .before .before .pre)) .width)
+    let known = c .before .before .script .given .1 in
+    (rw known refl, λ moderate. (rw known at moderate) .width)
 
 pub width-of-spec : {M : Type 1} → statement M
 width-of-spec = tie.close (tie.spec enum-told enum-known-script returns returns-2)

@@ -1,0 +1,4 @@
+-- Limits set above and below an operator. Assumes nothing.
+pub mod Limits
+pub mod Values
+pub mod Bounds
