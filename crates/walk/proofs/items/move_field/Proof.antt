@@ -17,7 +17,8 @@ move-nodes-requires c κs = search needs
 
 moved-requires : tie.Need-moved-requires
 moved-requires c κs =
-    let start = c .before .before .before .before .before .before .before .before in
+    let sum = c .before .before .before .before .before in
+    let start = sum .before .before .before in
     (within-more greatestLength reach (hullOf (start .args .field)) (omega arith) (start .pre .hull), omega arith, omega arith)
 
 joined-requires : tie.Need-joined-requires

@@ -21,10 +21,12 @@ same-length c = search needs
 
 returns : tie.Need-returns
 returns c =
-    let a = c .before .before .before .before .before .before .before .before .args in
+    let set = c .before .before in
+    let started = set .before .before in
+    let a = started .before .before .before .before .args in
     let s = a .s .now in
-    list-of-items (fontOf (a .table .now)) (a .style) (treeOf s) (length s) (a .buf .now) (c .before .before .set-items .last .1 .1 .1 .1 .1 .1 .0) (c .before .before .set-items .result)
-    (c .before .before .before .before .start .ensures) (c .before .before .set-items .ensures)
+    list-of-items (fontOf (a .table .now)) (a .style) (treeOf s) (length s) (a .buf .now) (set .set-items .last .1 .1 .1 .1 .1 .1 .0) (set .set-items .result)
+    (started .start .ensures) (set .set-items .ensures)
 
 pub set-list-spec : {M : Type 1} → statement M
 set-list-spec = tie.close (tie.spec start-requires set-items-requires same-length returns)

@@ -37,7 +37,8 @@ same-length c = search needs
 
 returns : tie.Need-returns
 returns c =
-    let known = c .before .before .before .before .before .before .before in
+    let put = c .before .before .before in
+    let known = put .before .before .before .before in
     let looked = known .before .before in
     let start = looked .before .before .before .before in
     let a = start .args in
@@ -46,7 +47,7 @@ returns c =
     let found : symbolIn (fontOf (a .table .now)) (fontSize (a .style)) (a .enlarge) (a .family) (a .code) ≡ some (symbolAs symbol) =
     rw (← size) (sym (looked .symbol-in .ensures) ∙ ap soughtAs (known .sought .given .1)) in
     symbol-whole (fontOf (a .table .now)) (a .style) (a .enlarge) (a .at) (a .end) (a .buf .now) (a .family) (a .code) (start .pre) symbol _ _ found
-    (c .point .ensures) (rw (← size) (c .before .before .before .put-glyph .ensures))
+    (c .point .ensures) (rw (← size) (put .put-glyph .ensures))
 
 returns-2 : tie.Need-returns-2
 returns-2 c =
