@@ -1,6 +1,6 @@
 -- No place and no count of an answer passes the longest formula.
 --     ItemsIn, ItemIn, FieldIn         what is written in n bytes misses a symbol within them, and has at most n nodes
---     read-in                          what reading gives of n bytes: a tree that is so, or a fault within them
+--     parts-so                         and so is whatever is read, by `formula`'s laws of what is read (`ReadIn`)
 --     Small                            an answer whose place and count are small
 --     measured-small, setting-small    every answer is
 -- Assumes nothing.
@@ -8,33 +8,27 @@ use mathlib.Core.Path.{_≡_, refl, sym, ap, subst, _∙_}
 use mathlib.Core.Bool.{Bool, true, false}
 use mathlib.Core.List.{List, [], _∷_}
 use mathlib.Core.Option.{Option, none, some}
-use Prim.Native.Nat.{ℕ, zero, suc, _+_, _-_, _≤_}
+use Prim.Native.Nat.{ℕ, suc, _+_, _-_, _≤_}
 use native.Mathlib.Omega.{arith}
 use lib.Dec.{ltb}
-use lib.ListN.{length, drop, length-append, length-drop}
+use lib.ListN.{length, length-append}
 use borrow.Author.Tests.{ltb-false}
 use Rattle.font.specs.Table.{goodTable}
 use Rattle.font.specs.Font.{Font, fontOf}
 use Rattle.formula.specs.declared.Base.the-variants.{Atom, Over, Under}
 use Rattle.formula.specs.declared.Fault.the-variants.{Unreadable}
-use Rattle.formula.specs.declared.FieldHead.{FieldHead}
-use Rattle.formula.specs.declared.FieldHead.the-variants.{NoField, Empty, Symbol, Sublist, CutSublist}
 use Rattle.formula.specs.declared.Kind.{Kind}
 use Rattle.formula.specs.declared.Kind.the-variants.{Scripted, Fraction}
-use Rattle.formula.specs.declared.Opening.{Opening}
-use Rattle.formula.specs.declared.Opening.the-variants.{NoItem, Fields, Kern}
 use Rattle.formula.specs.Tree.{Items, Item, Field, cons, noad, kern, empty, symbol, list, openingBytes, thirdBytes, itemsBytes, itemBytes, fieldBytes}
-use Rattle.formula.specs.Heads.{openingOf, fieldHead}
-use Rattle.formula.specs.HeadLaws.{head-fits, list-opening, contents-shorter, opening-fits}
-use Rattle.formula.specs.Places.{contents, openedBytes}
-use Rattle.formula.specs.Reading.{Read, good, fault, Got, got, stopped, _thenAt_, formulaLimit, depthLimit, listGot, fieldBy, fieldAt, thirdAt, noadAt, openedBy, itemBy, before, restBy, listBy, readBy, read, readFormula}
+use Rattle.formula.specs.Reading.{Read, good, fault, formulaLimit, depthLimit, read, readFormula}
+use Rattle.formula.specs.ReadIn.{Parts, Closed, ReadIn, read-in}
 use Rattle.boxes.specs.declared.styles.Style.{Style}
 use Rattle.boxes.specs.Styles.{styleOf, fontSize}
 use Rattle.spacing.specs.Classes.{Neighbour}
 use Rattle.arrange.specs.Arrange.{firstStyle, secondStyle, thirdStyle, enlarges}
 use Rattle.arrange.specs.ArrangeLaws.{own-before, own-behind, few-own}
 use Rattle.nodes.specs.NodeLaws.{length-moved}
-use Rattle.setting.specs.Setting.{Box, Line, Symbol as SetSymbol, Part, symbolIn, symbolPart, itemNodes, itemBox, placed, nextClass, start, setItems, setItem, setField, setList}
+use Rattle.setting.specs.Setting.{Box, Line, Symbol, Part, symbolIn, symbolPart, itemNodes, itemBox, placed, nextClass, start, setItems, setItem, setField, setList}
 use Rattle.setting.specs.SettingLaws.{length-rules}
 use Rattle.setting.specs.Missing.{_orElse_, later, absentAt, missingItems, missingItem, missingField}
 use Rattle.setting.specs.Fitting.{listFits}
@@ -60,25 +54,12 @@ pub record FieldIn (at end k : ℕ) (f : Field) : Type 0 where
   pub missing : (F : Font) (s : Style) (enlarge : Bool) (place : ℕ) → missingField F s enlarge at f ≡ some place → place ≤ end
   pub few : (F : Font) (s : Style) (enlarge : Bool) → at + length (setField F s enlarge f .nodes) ≤ end
 
-abbrev pub ReadIn : ℕ → Read → Type 0
-ReadIn n (good l) = ItemsIn n l
-ReadIn n (fault why place) = place ≤ n
-
-abbrev GotIn : {A : Type 0} → (A → ℕ → Type 0) → ℕ → Got A → Type 0
-GotIn P hi (got a m) = P a m × (m ≤ hi)
-GotIn P hi (stopped why place) = place ≤ hi
-
-then-in : {A B : Type 0} (P : A → ℕ → Type 0) (Q : B → ℕ → Type 0) (hi : ℕ) (g : Got A) (k : A → ℕ → Got B) → GotIn P hi g →
-    ((a : A) (m : ℕ) → P a m → m ≤ hi → GotIn Q hi (k a m)) → GotIn Q hi (g thenAt k)
-then-in P Q hi (got a m) k h f = f a m (h .0) (h .1)
-then-in P Q hi (stopped why place) k h f = h
-
 -- ---- a field
 
 none-some : {B : Type 0} {place : ℕ} → none ≡ some place → B
 none-some e = let z : _≡_ {A = ℕ} 0 1 = cc in absurd (omega arith)
 
-absent-place : (at place : ℕ) (o : Option SetSymbol) → absentAt at o ≡ some place → place ≡ at
+absent-place : (at place : ℕ) (o : Option Symbol) → absentAt at o ≡ some place → place ≡ at
 unfolding absentAt
 absent-place at place none e = cc
 absent-place at place (some s) e = none-some e
@@ -88,7 +69,7 @@ unfolding later
 later-place at n place none h e = none-some e
 later-place at n place (some p) h e = let is : at + p ≡ place = cc in omega (arith, h p refl)
 
-symbol-few : (size family : ℕ) (o : Option SetSymbol) → length (symbolPart size family o .nodes) ≤ 1
+symbol-few : (size family : ℕ) (o : Option Symbol) → length (symbolPart size family o .nodes) ≤ 1
 unfolding symbolPart
 symbol-few size family none = omega arith
 symbol-few size family (some s) = omega arith
@@ -115,44 +96,6 @@ list-in at n l h =
       missing = λ F s enlarge place q. later-place (at + 3) n place (missingItems F s l) (h .missing F s) q;
       few = λ F s enlarge. omega (arith, h .few F s none start);
     }
-
-abbrev FieldFrom : ℕ → Field → ℕ → Type 0
-FieldFrom at f end = FieldIn at end (fieldBytes f) f
-
-module _ (R : ℕ → List ℕ → Read) (ih : (levels : ℕ) (r : List ℕ) → ReadIn (length r) (R levels r)) where
-  module _ (levels : ℕ) (s : List ℕ) where
-    field-in : (at : ℕ) → at ≤ length s → GotIn (FieldFrom at) (length s) (fieldAt R levels s at)
-    unfolding fieldAt fieldBy listGot fieldBytes
-    field-in at l = go levels (fieldHead (drop at s)) refl
-      where
-        inside : (opening n : ℕ) (x : Read) → opening ≡ 3 → at + (opening + n) ≤ length s → ReadIn n x →
-            GotIn (FieldFrom at) (length s) (listGot at opening n x)
-        inside opening n (good l) three h p =
-            (subst (λ (k : ℕ). FieldFrom at (list l) (at + k + n)) (sym three) (list-in at n l p), omega arith)
-        inside opening n (fault why place) three h p = omega arith
-
-        go : (levels : ℕ) (h : FieldHead) → fieldHead (drop at s) ≡ h →
-            GotIn (FieldFrom at) (length s) (fieldBy R levels at (drop at s) h)
-        go levels NoField e = omega arith
-        go levels Empty e = (empty-in at (at + 1) 1 refl, omega (arith, length-drop at s, head-fits (drop at s) Empty e))
-        go levels (Symbol family code) e =
-            (symbol-in at family code, omega (arith, length-drop at s, head-fits (drop at s) (Symbol family code) e))
-        go zero (Sublist opening n) e = l
-        go (suc levels) (Sublist opening n) e =
-            let r = contents opening n (drop at s) in
-            inside opening n (R levels r) (list-opening (drop at s) opening n e)
-            (omega (arith, length-drop at s, head-fits (drop at s) (Sublist opening n) e))
-            (subst (λ (k : ℕ). ReadIn k (R levels r)) (contents-shorter (drop at s) opening n e .0) (ih levels r))
-        go zero CutSublist e = l
-        go (suc levels) CutSublist e = omega arith
-
-    abbrev ThirdFrom : Kind → ℕ → Field → ℕ → Type 0
-    ThirdFrom kind at f end = FieldIn at end (thirdBytes kind (fieldBytes f)) f
-
-    third-in : (kind : Kind) (at : ℕ) → at ≤ length s → GotIn (ThirdFrom kind at) (length s) (thirdAt R levels s kind at)
-    unfolding thirdAt
-    third-in (Scripted base) at l = field-in at l
-    third-in (Fraction bar) at l = (empty-in at at 0 (omega arith), l)
 
 -- ---- an item
 
@@ -219,65 +162,46 @@ kern-in n i bytes present same =
       few = λ F s right line. omega (arith, ap length (same F s right line));
     }
 
-abbrev ItemTo : Item → ℕ → Type 0
-ItemTo i end = ItemIn end i
+-- ---- a list
 
-module _ (R : ℕ → List ℕ → Read) (ih : (levels : ℕ) (r : List ℕ) → ReadIn (length r) (R levels r)) (levels : ℕ) where
-  item-in : (s : List ℕ) → GotIn ItemTo (length s) (itemBy R levels s)
-  unfolding itemBy openedBy noadAt itemBytes missingItem setItem
-  item-in s = go (openingOf s) (opening-fits s (openingOf s) refl)
-    where
-      go : (o : Opening) → openedBytes o ≤ length s → GotIn ItemTo (length s) (openedBy R levels s o)
-      go NoItem h = omega arith
-      go (Fields kind) h =
-          let n = length s in
-          let first = openingBytes kind in
-          then-in (FieldFrom first) ItemTo n (fieldAt R levels s first) _ (field-in R ih levels s first h) (λ x m₁ a l₁.
-          then-in (FieldFrom m₁) ItemTo n (fieldAt R levels s m₁) _ (field-in R ih levels s m₁ l₁) (λ y m₂ b l₂.
-          then-in (ThirdFrom R ih levels s kind m₂) ItemTo n (thirdAt R levels s kind m₂) _ (third-in R ih levels s kind m₂ l₂) (λ z m₃ c l₃.
-          (noad-in kind x y z m₁ m₂ m₃ a b c, l₃))))
-      go (Kern n) h = (kern-in 6 (kern (n .0)) refl (λ F s. refl) (λ F s right line. refl), h)
+cons-in : (size n : ℕ) (i : Item) (l : Items) → ItemIn size i → ItemsIn n l → ItemsIn (size + n) (cons i l)
+unfolding itemsBytes missingItems setItems
+cons-in size n i l a b =
+    record {
+      bytes = omega (arith, a .bytes, b .bytes);
+      missing = λ F s place q.
+          either-place (size + n) place (missingItem F s i) _
+          (λ p e. omega (arith, a .missing F s p e))
+          (λ p e. omega (arith, a .bytes, later-place (itemBytes i) n p (missingItems F s l) (b .missing F s) e))
+          q;
+      few = λ F s beyond line. omega (arith, a .few F s (nextClass beyond l) line, b .few F s beyond (setItem F s (nextClass beyond l) line i));
+    }
 
-  -- ---- a list
+-- ---- whatever is read
 
-  cons-in : (size n : ℕ) (i : Item) (l : Items) → ItemIn size i → ItemsIn n l → ItemsIn (size + n) (cons i l)
-  unfolding itemsBytes missingItems setItems
-  cons-in size n i l a b =
-      record {
-        bytes = omega (arith, a .bytes, b .bytes);
-        missing = λ F s place q.
-            either-place (size + n) place (missingItem F s i) _
-            (λ p e. omega (arith, a .missing F s p e))
-            (λ p e. omega (arith, a .bytes, later-place (itemBytes i) n p (missingItems F s l) (b .missing F s) e))
-            q;
-        few = λ F s beyond line. omega (arith, a .few F s (nextClass beyond l) line, b .few F s beyond (setItem F s (nextClass beyond l) line i));
-      }
+abbrev parts : Parts
+parts =
+    record {
+      OfItems = ItemsIn;
+      OfItem = ItemIn;
+      OfField = λ at end f. FieldIn at end (fieldBytes f) f;
+      OfThird = λ kind at end f. FieldIn at end (thirdBytes kind (fieldBytes f)) f;
+    }
 
-  list-read : (s : List ℕ) → ReadIn (length s) (listBy R levels s)
-  unfolding listBy restBy before itemsBytes missingItems setItems
-  list-read [] =
-      record { bytes = refl; missing = λ F s place q. none-some q; few = λ F s beyond line. omega arith }
-  list-read (x ∷ s) = go (itemBy R levels (x ∷ s)) (item-in (x ∷ s))
-    where
-      on : (size : ℕ) (i : Item) (r : Read) → ItemIn size i → size ≤ length (x ∷ s) → ReadIn (length (drop size (x ∷ s))) r →
-          ReadIn (length (x ∷ s)) (before i size r)
-      on size i (good l) a h b =
-          let all : size + length (drop size (x ∷ s)) ≡ length (x ∷ s) = omega (arith, length-drop size (x ∷ s)) in
-          subst (λ (n : ℕ). ItemsIn n (cons i l)) all (cons-in size (length (drop size (x ∷ s))) i l a b)
-      on size i (fault why place) a h b = omega (arith, length-drop size (x ∷ s))
-
-      go : (g : Got Item) → GotIn ItemTo (length (x ∷ s)) g → ReadIn (length (x ∷ s)) (restBy R levels (x ∷ s) g)
-      go (got i size) h = on size i (R levels (drop size (x ∷ s))) (h .0) (h .1) (ih levels (drop size (x ∷ s)))
-      go (stopped why place) h = h
-
-read-by-in : (f levels : ℕ) (s : List ℕ) → ReadIn (length s) (readBy f levels s)
-unfolding readBy
-read-by-in zero levels s = omega arith
-read-by-in (suc f) levels s = list-read (readBy f) (read-by-in f) levels s
-
-pub read-in : (levels : ℕ) (s : List ℕ) → ReadIn (length s) (read levels s)
-unfolding read
-read-in levels s = read-by-in (suc (length s)) levels s
+parts-so : Closed parts
+unfolding itemsBytes itemBytes fieldBytes missingItems missingItem setItems setItem
+parts-so =
+    record {
+      empty-is = λ at. empty-in at (at + 1) 1 refl;
+      symbol-is = symbol-in;
+      list-is = list-in;
+      third-is = λ base at end f h. h;
+      no-third = λ bar at. empty-in at at 0 (omega arith);
+      noad-is = noad-in;
+      kern-is = λ n. kern-in 6 (kern n) refl (λ F s. refl) (λ F s right line. refl);
+      nil-is = record { bytes = refl; missing = λ F s place q. none-some q; few = λ F s beyond line. omega arith };
+      cons-is = cons-in;
+    }
 
 -- ---- a formula, and what is found of it
 
@@ -298,7 +222,7 @@ module _ (F : Font) (s : Style) where
       present none e = fits (listFits F s l)
       present (some place) e = omega (arith, h .missing F s place e)
 
-  reading-small : (n : ℕ) (r : Read) → n ≤ formulaLimit → ReadIn n r → FoundSmall (ifRead F s r)
+  reading-small : (n : ℕ) (r : Read) → n ≤ formulaLimit → ReadIn parts n r → FoundSmall (ifRead F s r)
   unfolding ifRead
   reading-small n (good l) short h = tree-small n l short h
   reading-small n (fault why place) short h = omega arith
@@ -311,7 +235,7 @@ module _ (F : Font) (s : Style) where
           FoundSmall (ifRead F s (elim t [ true ↦ fault Unreadable 0 | false ↦ read (depthLimit - 1) formula ]))
       go true e = omega arith
       go false e =
-          reading-small (length formula) (read (depthLimit - 1) formula) (ltb-false formulaLimit (length formula) e) (read-in (depthLimit - 1) formula)
+          reading-small (length formula) (read (depthLimit - 1) formula) (ltb-false formulaLimit (length formula) e) (read-in parts parts-so (depthLimit - 1) formula)
 
 found-small : (style : ℕ) (table formula : List ℕ) → FoundSmall (resultOf style table formula)
 unfolding resultOf ifStyle ifGood

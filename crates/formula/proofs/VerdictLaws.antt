@@ -1,7 +1,6 @@
 -- What the reader says of a reading, by the reading's own steps.
 --     later, verdict-step     a list: what its first item says, and then what the rest says
---     StepIn, Placed          a fault's place lies in the list, and a part that is read ends in it, behind its start:
---                             `field-in`, `item-in`, `placed`
+--     fault-in, next-in       a fault's place lies in the list, and a part that is read ends in it, behind its start (`ReadIn`)
 --     field-step ..           a field, by its head; `noad-stop` .. an item, by its fields
 --     list-next ..            a turn of the loop over a list's items
 -- Assumes nothing.
@@ -28,10 +27,11 @@ use Rattle.formula.specs.Tree.{Item, noad, openingBytes}
 use Rattle.formula.specs.Heads.{openingOf, fieldHead}
 use Rattle.formula.specs.Reading.{Read, good, fault, Got, got, stopped, _thenAt_, listGot, fieldBy, fieldAt, thirdAt, noadAt, openedBy, itemBy, before, restBy, read}
 use Rattle.formula.specs.Verdicts.{told, stepOf}
-use Rattle.formula.specs.Places.{headBytes, contents, hasThird, headAt, openedBytes}
+use Rattle.formula.specs.Places.{headBytes, contents, hasThird}
 use Rattle.formula.specs.Slices.{tail-part, field-part}
-use Rattle.formula.specs.HeadLaws.{head-fits, list-opening, contents-shorter, opening-fits}
-use Rattle.formula.specs.ReadingLaws.{by-length, read-none, read-some}
+use Rattle.formula.specs.HeadLaws.{head-fits}
+use Rattle.formula.specs.ReadIn.{Parts, Closed, ReadIn, GotIn, read-in, field-in, item-in}
+use Rattle.formula.specs.ReadingLaws.{read-none, read-some}
 
 -- ---- a list
 
@@ -59,113 +59,56 @@ verdict-step levels s pos = ap told (read-some levels s pos) ∙ go (itemBy read
 
 -- ---- places lie in the list
 
-abbrev pub Placed : ℕ → Verdict → Type 0
-Placed n Good = Unit {0}
-Placed n (Faulty why place) = place ≤ n
-
 -- from lo on, and up to hi
 abbrev pub StepIn : ℕ → ℕ → Step → Type 0
 StepIn lo hi (Next k) = (lo < k) × (k ≤ hi)
 StepIn lo hi (Stop why place) = place ≤ hi
 
-then-in : {A B : Type 0} (lo hi : ℕ) (g : Got A) (k : A → ℕ → Got B) → StepIn lo hi (stepOf g) →
-    ((a : A) (m : ℕ) → lo < m → m ≤ hi → StepIn 0 hi (stepOf (k a m))) → StepIn 0 hi (stepOf (g thenAt k))
+-- that an item and a field end behind their start
+abbrev ends : Parts
+ends =
+    record {
+      OfItems = λ n l. Unit {0};
+      OfItem = λ n i. 0 < n;
+      OfField = λ at end f. at < end;
+      OfThird = λ kind at end f. at ≤ end;
+    }
+
+ends-so : Closed ends
+ends-so =
+    record {
+      empty-is = λ at. omega arith;
+      symbol-is = λ at family code. omega arith;
+      list-is = λ at n l h. omega arith;
+      third-is = λ base at end f h. omega arith;
+      no-third = λ bar at. omega arith;
+      noad-is = λ kind x y z m₁ m₂ m₃ a b c. omega arith;
+      kern-is = λ n. omega arith;
+      nil-is = tt;
+      cons-is = λ size n i l a b. tt;
+    }
+
+step-in : {A : Type 0} (lo hi : ℕ) (g : Got A) → GotIn (λ a m. lo < m) hi g → StepIn lo hi (stepOf g)
 unfolding stepOf
-then-in lo hi (got a m) k h f = f a m (h .0) (h .1)
-then-in lo hi (stopped why place) k h f = h
+step-in lo hi (got a m) h = h
+step-in lo hi (stopped why place) h = h
 
-abbrev AllPlaced : List ℕ → Type 0
-AllPlaced s = (levels : ℕ) → Placed (length s) (told (read levels s))
-
-module _ (s : List ℕ) (ih : (r : List ℕ) → length r < length s → AllPlaced r) where
-  field-by-in : (levels at : ℕ) → at ≤ length s → StepIn at (length s) (stepOf (fieldAt read levels s at))
-  unfolding fieldAt fieldBy listGot stepOf told
-  field-by-in levels at l = go levels (headAt s at) refl
-    where
-      inside : (at opening n : ℕ) (x : Read) → 0 < opening → at + (opening + n) ≤ length s → Placed n (told x) →
-          StepIn at (length s) (stepOf (listGot at opening n x))
-      inside at opening n (good l) some h p = omega arith
-      inside at opening n (fault why place) some h p = omega arith
-
-      go : (levels : ℕ) (h : FieldHead) → headAt s at ≡ h →
-          StepIn at (length s) (stepOf (fieldBy read levels at (drop at s) h))
-      go levels NoField e = omega arith
-      go levels Empty e = omega (arith, length-drop at s, head-fits (drop at s) Empty e)
-      go levels (Symbol family code) e = omega (arith, length-drop at s, head-fits (drop at s) (Symbol family code) e)
-      go zero (Sublist opening n) e = l
-      go (suc levels) (Sublist opening n) e =
-          let r = contents opening n (drop at s) in
-          let k = contents-shorter (drop at s) opening n e in
-          let fits = head-fits (drop at s) (Sublist opening n) e in
-          inside at opening n (read levels r) (omega (arith, list-opening (drop at s) opening n e)) (omega (arith, length-drop at s))
-          (subst (λ (m : ℕ). Placed m (told (read levels r))) (k .0) (ih r (omega (arith, length-drop at s)) levels))
-      go zero CutSublist e = l
-      go (suc levels) CutSublist e = omega arith
-
-  third-in : (levels : ℕ) (kind : Kind) (at : ℕ) → 0 < at → at ≤ length s →
-      StepIn 0 (length s) (stepOf (thirdAt read levels s kind at))
-  unfolding thirdAt stepOf
-  third-in levels kind at pos l = go kind
-    where
-      wide : (x : Step) → StepIn at (length s) x → StepIn 0 (length s) x
-      wide (Next k) h = omega arith
-      wide (Stop why place) h = h
-
-      field : StepIn 0 (length s) (stepOf (fieldAt read levels s at))
-      field = wide (stepOf (fieldAt read levels s at)) (field-by-in levels at l)
-
-      go : (kind : Kind) → StepIn 0 (length s) (stepOf (thirdAt read levels s kind at))
-      go (Scripted base) = field
-      go (Fraction bar) = (pos, l)
-
-  item-by-in : (levels : ℕ) → StepIn 0 (length s) (stepOf (itemBy read levels s))
-  unfolding itemBy openedBy noadAt stepOf
-  item-by-in levels = go (openingOf s) (opening-fits s (openingOf s) refl)
-    where
-      go : (o : Opening) → openedBytes o ≤ length s → StepIn 0 (length s) (stepOf (openedBy read levels s o))
-      go NoItem h = omega arith
-      go (Fields kind) h =
-          let n = length s in
-          let first = openingBytes kind in
-          then-in first n (fieldAt read levels s first) _ (field-by-in levels first h) (λ a m p q.
-          then-in m n (fieldAt read levels s m) _ (field-by-in levels m q) (λ b m p q.
-          then-in 0 n (thirdAt read levels s kind m) _ (third-in levels kind m (omega arith) q) (λ c m p q. (p, q))))
-      go (Kern n) h = omega arith
-
-  placed-by : (levels : ℕ) → Placed (length s) (told (read levels s))
-  unfolding told
-  placed-by levels = go (length s) refl
-    where
-      rest : (x : Step) → StepIn 0 (length s) x → Placed (length s) (goOn levels s x)
-      rest (Next k) h =
-          let l : length (drop k s) ≡ length s - k = length-drop k s in
-          let v = told (read levels (drop k s)) in
-          on k v (h .1) (subst (λ (m : ℕ). Placed m v) l (ih (drop k s) (omega arith) levels))
-        where
-          on : (k : ℕ) (v : Verdict) → k ≤ length s → Placed (length s - k) v → Placed (length s) (later k v)
-          on k Good h p = tt
-          on k (Faulty why place) h p = omega arith
-      rest (Stop why place) h = h
-
-      go : (n : ℕ) → length s ≡ n → Placed (length s) (told (read levels s))
-      go zero z = rw (read-none levels s z) tt
-      go (suc n) z = rw (verdict-step levels s (omega arith)) (rest (stepOf (itemBy read levels s)) (item-by-in levels))
-
-pub placed : (s : List ℕ) (levels : ℕ) → Placed (length s) (told (read levels s))
-placed = by-length AllPlaced placed-by
-
-pub field-in : (s : List ℕ) (levels at : ℕ) → at ≤ length s → StepIn at (length s) (stepOf (fieldAt read levels s at))
-field-in s = field-by-in s (λ r l. placed r)
-
-pub item-in : (s : List ℕ) (levels : ℕ) → StepIn 0 (length s) (stepOf (itemBy read levels s))
-item-in s = item-by-in s (λ r l. placed r)
+item-bound : (s : List ℕ) (levels : ℕ) → StepIn 0 (length s) (stepOf (itemBy read levels s))
+item-bound s levels = step-in 0 (length s) (itemBy read levels s) (item-in ends ends-so levels s)
 
 pub fault-in : (s : List ℕ) (levels : ℕ) (why : Fault) (place : ℕ) → told (read levels s) ≡ Faulty why place → place ≤ length s
-fault-in s levels why place e = subst (Placed (length s)) e (placed s levels)
+unfolding told
+fault-in s levels why place e = go (read levels s) (read-in ends ends-so levels s) e
+  where
+    go : (x : Read) → ReadIn ends (length s) x → told x ≡ Faulty why place → place ≤ length s
+    go (good l) h e = let z : _≡_ {A = ℕ} 0 1 = cc in absurd (omega arith)
+    go (fault n q) h e = let same : q ≡ place = cc in omega arith
 
 pub next-in : (s : List ℕ) (levels at m : ℕ) → at ≤ length s → stepOf (fieldAt read levels s at) ≡ Next m → m ≤ length s
 next-in s levels at m l e =
-    let b : StepIn at (length s) (Next m) = subst (StepIn at (length s)) e (field-in s levels at l) in
+    let g = fieldAt read levels s at in
+    let b : StepIn at (length s) (Next m) =
+    subst (StepIn at (length s)) e (step-in at (length s) g (field-in ends ends-so levels s at l)) in
     b .1
 
 -- ---- a field, by its head
@@ -305,7 +248,7 @@ module _ (levels : ℕ) (s : List ℕ) (at : ℕ) (low : at < length s)
   item-said = sym (rw tail-part at said)
 
   item-bounds : StepIn 0 (length (drop at s)) x
-  item-bounds = subst (StepIn 0 (length (drop at s))) item-said (item-in (drop at s) levels)
+  item-bounds = subst (StepIn 0 (length (drop at s))) item-said (item-bound (drop at s) levels)
 
   list-said : told (read levels s) ≡ later at (goOn levels (drop at s) x)
   list-said =

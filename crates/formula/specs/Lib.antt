@@ -7,5 +7,6 @@ pub mod Verdicts
 pub mod Places
 pub mod Slices
 pub mod HeadLaws
+pub mod ReadIn
 pub mod ReadingLaws
 pub mod PlacesLaws
