@@ -7,51 +7,6 @@ use borrow.Author.Needs.{needs}
 use Rattle.listing.proofs.glyph_line.Statement.{statement}
 use Rattle.listing.proofs.glyph_line.Tie as tie
 
-slice-aggregate-put-place : tie.Need-slice-aggregate-put-place
-slice-aggregate-put-place c = search needs
-
-put-place-requires : tie.Need-put-place-requires
-put-place-requires c κs = search needs
-
-slice-aggregate-put-number : tie.Need-slice-aggregate-put-number
-slice-aggregate-put-number c = search needs
-
-shared-slice-read-of-byte : tie.Need-shared-slice-read-of-byte
-shared-slice-read-of-byte c = search needs
-
-of-byte-requires : tie.Need-of-byte-requires
-of-byte-requires c κs = search needs
-
-put-number-requires : tie.Need-put-number-requires
-put-number-requires c κs = search needs
-
-slice-aggregate-put-number-2 : tie.Need-slice-aggregate-put-number-2
-slice-aggregate-put-number-2 c = search needs
-
-shared-slice-read-of-byte-2 : tie.Need-shared-slice-read-of-byte-2
-shared-slice-read-of-byte-2 c = search needs
-
-of-byte-requires-2 : tie.Need-of-byte-requires-2
-of-byte-requires-2 c κs = search needs
-
-put-number-requires-2 : tie.Need-put-number-requires-2
-put-number-requires-2 c κs = search needs
-
-slice-aggregate-put-number-3 : tie.Need-slice-aggregate-put-number-3
-slice-aggregate-put-number-3 c = search needs
-
-shared-slice-read-of-byte-3 : tie.Need-shared-slice-read-of-byte-3
-shared-slice-read-of-byte-3 c = search needs
-
-of-byte-requires-3 : tie.Need-of-byte-requires-3
-of-byte-requires-3 c κs = search needs
-
-put-number-requires-3 : tie.Need-put-number-requires-3
-put-number-requires-3 c κs = search needs
-
-slice-aggregate-put-bytes : tie.Need-slice-aggregate-put-bytes
-slice-aggregate-put-bytes c = search needs
-
 put-bytes-requires : tie.Need-put-bytes-requires
 put-bytes-requires c κs =
     let third = c .before .before .before .before in
@@ -106,21 +61,21 @@ pub glyph-line-spec : {M : Type 1} → statement M
 glyph-line-spec =
     tie.close
     (tie.spec
-    slice-aggregate-put-place
-    put-place-requires
-    slice-aggregate-put-number
-    shared-slice-read-of-byte
-    of-byte-requires
-    put-number-requires
-    slice-aggregate-put-number-2
-    shared-slice-read-of-byte-2
-    of-byte-requires-2
-    put-number-requires-2
-    slice-aggregate-put-number-3
-    shared-slice-read-of-byte-3
-    of-byte-requires-3
-    put-number-requires-3
-    slice-aggregate-put-bytes
+    (λ c. search needs)
+    (λ c κs. search needs)
+    (λ c. search needs)
+    (λ c. search needs)
+    (λ c κs. search needs)
+    (λ c κs. search needs)
+    (λ c. search needs)
+    (λ c. search needs)
+    (λ c κs. search needs)
+    (λ c κs. search needs)
+    (λ c. search needs)
+    (λ c. search needs)
+    (λ c κs. search needs)
+    (λ c κs. search needs)
+    (λ c. search needs)
     put-bytes-requires
     same-length
     returns)

@@ -7,45 +7,6 @@ use borrow.Author.Needs.{needs}
 use Rattle.listing.proofs.sizes_line.Statement.{statement}
 use Rattle.listing.proofs.sizes_line.Tie as tie
 
-slice-aggregate-put-number : tie.Need-slice-aggregate-put-number
-slice-aggregate-put-number c = search needs
-
-of-length-requires : tie.Need-of-length-requires
-of-length-requires c κs = search needs
-
-put-number-requires : tie.Need-put-number-requires
-put-number-requires c κs = search needs
-
-slice-aggregate-put-number-2 : tie.Need-slice-aggregate-put-number-2
-slice-aggregate-put-number-2 c = search needs
-
-of-length-requires-2 : tie.Need-of-length-requires-2
-of-length-requires-2 c κs = search needs
-
-put-number-requires-2 : tie.Need-put-number-requires-2
-put-number-requires-2 c κs = search needs
-
-slice-aggregate-put-number-3 : tie.Need-slice-aggregate-put-number-3
-slice-aggregate-put-number-3 c = search needs
-
-of-length-requires-3 : tie.Need-of-length-requires-3
-of-length-requires-3 c κs = search needs
-
-put-number-requires-3 : tie.Need-put-number-requires-3
-put-number-requires-3 c κs = search needs
-
-slice-aggregate-put-number-4 : tie.Need-slice-aggregate-put-number-4
-slice-aggregate-put-number-4 c = search needs
-
-of-count-requires : tie.Need-of-count-requires
-of-count-requires c κs = search needs
-
-put-number-requires-4 : tie.Need-put-number-requires-4
-put-number-requires-4 c κs = search needs
-
-slice-aggregate-put-bytes : tie.Need-slice-aggregate-put-bytes
-slice-aggregate-put-bytes c = search needs
-
 put-bytes-requires : tie.Need-put-bytes-requires
 put-bytes-requires c κs =
     let fourth = c .before .before .before .before in
@@ -63,9 +24,6 @@ put-bytes-requires c κs =
       fourth .put-number4 .ensures .near,
       start .pre,
     )
-
-same-length : tie.Need-same-length
-same-length c = search needs
 
 returns : tie.Need-returns
 returns c =
@@ -92,19 +50,19 @@ pub sizes-line-spec : {M : Type 1} → statement M
 sizes-line-spec =
     tie.close
     (tie.spec
-    slice-aggregate-put-number
-    of-length-requires
-    put-number-requires
-    slice-aggregate-put-number-2
-    of-length-requires-2
-    put-number-requires-2
-    slice-aggregate-put-number-3
-    of-length-requires-3
-    put-number-requires-3
-    slice-aggregate-put-number-4
-    of-count-requires
-    put-number-requires-4
-    slice-aggregate-put-bytes
+    (λ c. search needs)
+    (λ c κs. search needs)
+    (λ c κs. search needs)
+    (λ c. search needs)
+    (λ c κs. search needs)
+    (λ c κs. search needs)
+    (λ c. search needs)
+    (λ c κs. search needs)
+    (λ c κs. search needs)
+    (λ c. search needs)
+    (λ c κs. search needs)
+    (λ c κs. search needs)
+    (λ c. search needs)
     put-bytes-requires
-    same-length
+    (λ c. search needs)
     returns)
