@@ -26,7 +26,7 @@ use Rattle.boxes.specs.declared.styles.Style.{Style}
 use Rattle.boxes.specs.Styles.{styleOf, fontSize}
 use Rattle.spacing.specs.Classes.{Neighbour}
 use Rattle.arrange.specs.Arrange.{firstStyle, secondStyle, thirdStyle, enlarges}
-use Rattle.arrange.specs.ArrangeLaws.{own-before, own-behind, few-own}
+use Rattle.arrange.proofs.ArrangeLaws.{own-before, own-behind, few-own}
 use Rattle.nodes.specs.NodeLaws.{length-moved}
 use Rattle.setting.specs.Setting.{Box, Line, Symbol, Part, symbolIn, symbolPart, itemNodes, itemBox, placed, nextClass, start, setItems, setItem, setField, setList}
 use Rattle.setting.specs.SettingLaws.{length-rules}

@@ -1,2 +1,3 @@
--- The worked examples. Assumes nothing.
+-- How many own nodes an item has; the worked examples. Assumes nothing.
+pub mod ArrangeLaws
 mod Examples

@@ -76,11 +76,8 @@ widthOf (some z) = z .width
 abbrev pub widest : ℤ → Option Size → Option Size → ℤ
 widest w superscript subscript = maxℤ (maxℤ w (widthOf superscript)) (widthOf subscript)
 
-unfoldable pub limited : Parameters → ℕ → Nucleus → Option Size → Option Size → Arranged
-limited p size n superscript subscript =
-    let w = widest (n .size .width) superscript subscript in
-    let over = above p size n w superscript in
-    let under = below p size n w subscript in
+abbrev pub stacked : Nucleus → ℤ → Side → Side → Arranged
+stacked n w over under =
     record {
       size = record { width = w; height = over .reach; depth = under .reach };
       first = at (centred w (n .size .width)) (n .raise);
@@ -88,3 +85,8 @@ limited p size n superscript subscript =
       third = at (under .across) (negℤ (under .shift));
       own = n .own;
     }
+
+unfoldable pub limited : Parameters → ℕ → Nucleus → Option Size → Option Size → Arranged
+limited p size n superscript subscript =
+    let w = widest (n .size .width) superscript subscript in
+    stacked n w (above p size n w superscript) (below p size n w subscript)

@@ -28,7 +28,7 @@ ghost use Rattle.limits.specs.Limits as rule;
 ghost use Rattle.boxes.specs.Values.{parametersIn, scriptAs, arrangedAs};
 ghost use Rattle.nucleus.specs.Values.{nucleusAs};
 ghost use Rattle.limits.specs.Values.{distancesAs, sideAs};
-ghost use Rattle.boxes.specs.Bounds.{words, itemWords, ModerateScript, Bounded};
+ghost use Rattle.boxes.specs.Bounds.{words, ModerateScript, Bounded};
 ghost use Rattle.nucleus.specs.Bounds.{ModerateNucleus};
 ghost use Rattle.limits.specs.Bounds.{DistancesWithin, SideWithin};
 
@@ -52,7 +52,7 @@ fn limits_in(style: Style, limits: Limits) -> bool
     }
 }
 
-// Rule 13a: all three boxes stand in the middle of the greatest width, and the scripts half of δ to the right and to the left.
+// Rule 13a: below an operator all is as above, upside down; the scripts are moved half of δ to the right and to the left.
 pub fn limited(
     p: &Parameters,
     size: usize,
@@ -63,8 +63,7 @@ pub fn limited(
     requires { ⌜ (size < 3) × ModerateNucleus n × ModerateScript superscript × ModerateScript subscript ⌝ }
     ensures { λ r. ⌜ (arrangedAs r ≡ rule.limited (parametersIn (now (p .entry))) size (nucleusAs n) (scriptAs superscript) (scriptAs subscript)) × Bounded r ⌝ }
 {
-    let width = widest(n.size.width, superscript, subscript);
-    let middle = centred(width, n.size.width);
+    let w = widest(n.size.width, superscript, subscript);
     let right = n.delta.half();
     let over = one_side(
         p,
@@ -72,7 +71,7 @@ pub fn limited(
         BIG_OP_SPACING1,
         BIG_OP_SPACING3,
         n.size.height,
-        width,
+        w,
         right,
         superscript,
     );
@@ -83,33 +82,44 @@ pub fn limited(
         BIG_OP_SPACING2,
         BIG_OP_SPACING4,
         n.size.depth,
-        width,
+        w,
         left,
         turned(subscript),
     );
-    let down = under.shift.negated();
+    stacked(n, w, over, under)
+}
+
+// All three boxes stand in the middle of the width.
+fn stacked(n: Nucleus, width: Sp, over: Side, under: Side) -> Arranged
+    requires { ⌜ ModerateNucleus n × Within (words 2) (width .0) × SideWithin 12 over × SideWithin 12 under ⌝ }
+    ensures { λ r. ⌜ (arrangedAs r ≡ rule.stacked (nucleusAs n) (width .0) (sideAs over) (sideAs under)) × Bounded r ⌝ }
+{
     let height = over.reach;
     let depth = under.reach;
+    let size = Size {
+        width,
+        height,
+        depth,
+    };
     let raise = n.raise;
-    let upper = over.across;
+    let first = Place {
+        across: centred(width, n.size.width),
+        up: raise,
+    };
+    let across = over.across;
     let up = over.shift;
-    let lower = under.across;
+    let second = Place { across, up };
+    let across = under.across;
+    let third = Place {
+        across,
+        up: under.shift.negated(),
+    };
     let own = n.own;
     Arranged {
-        size: Size {
-            width,
-            height,
-            depth,
-        },
-        first: Place {
-            across: middle,
-            up: raise,
-        },
-        second: Place { across: upper, up },
-        third: Place {
-            across: lower,
-            up: down,
-        },
+        size,
+        first,
+        second,
+        third,
         own,
     }
 }

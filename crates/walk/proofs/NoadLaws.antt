@@ -30,7 +30,7 @@ use Rattle.spacing.specs.Classes.{Neighbour, classOf, changedClass}
 use Rattle.spacing.specs.Spacing.{spaceBefore}
 use Rattle.boxes.specs.Boxes.{Arranged}
 use Rattle.arrange.specs.Arrange.{arrange, ownCounts, firstStyle, secondStyle, thirdStyle, enlarges}
-use Rattle.arrange.specs.ArrangeLaws.{own-before, own-behind, few-own}
+use Rattle.arrange.proofs.ArrangeLaws.{own-before, own-behind, few-own}
 use Rattle.spacing.specs.Values.{neighbourAs}
 use Rattle.boxes.specs.Values.{sizeAs}
 use Rattle.nodes.specs.Nodes.{Node, bytesInNode, bytesOf, moved}
