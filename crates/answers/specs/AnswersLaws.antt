@@ -22,7 +22,7 @@ use Rattle.nodes.specs.Nodes.{bytesOf, bytesInNode}
 use Rattle.setting.specs.Setting.{Box, setList}
 use Rattle.setting.specs.Missing.{missingItems}
 use Rattle.setting.specs.Fitting.{listFits}
-use Rattle.answers.specs.Answers.{Result, boxed, refused, styleNumber, tableNumber, missingNumber, tooLargeNumber, noRoomNumber, ifFits, ifPresent, ifRead, ifGood, ifStyle, resultOf, accepted, refusal, measuredBy, measured, hasRoom, setBy, setting, bufferBy, bufferAfter}
+use Rattle.answers.specs.Answers.{boxed, refused, styleNumber, tableNumber, missingNumber, tooLargeNumber, noRoomNumber, ifFits, ifPresent, ifRead, ifGood, ifStyle, resultOf, accepted, refusal, measuredBy, measured, hasRoom, setBy, setting, bufferBy, bufferAfter}
 
 -- ---- the tests before the setting
 

@@ -25,8 +25,9 @@ fn run(cases: &[u8]) {
     let mut table_end: usize = 0;
     let mut at: usize = 0;
     while 4 <= cases.len() - at {
-        let size = size_at(&cases[at..]);
-        let opening = opening_at(&cases[at..]);
+        let rest = &cases[at..];
+        let size = size_at(rest);
+        let opening = opening_at(rest);
         if cases.len() - at < opening {
             return;
         }

@@ -17,26 +17,17 @@ loop-holds c = omega arith
 sub-loop : tie.Need-sub-loop Inv-loop μ-loop
 sub-loop c = omega arith
 
-sub-size-at : tie.Need-sub-size-at Inv-loop μ-loop
-sub-size-at c = omega arith
+sub-rest : tie.Need-sub-rest Inv-loop μ-loop
+sub-rest c = omega arith
 
-part-size-at-start : tie.Need-part-size-at-start Inv-loop μ-loop
-part-size-at-start c = omega arith
+part-rest-start : tie.Need-part-rest-start Inv-loop μ-loop
+part-rest-start c = omega arith
 
-part-size-at-end : tie.Need-part-size-at-end Inv-loop μ-loop
-part-size-at-end c = omega arith
+part-rest-end : tie.Need-part-rest-end Inv-loop μ-loop
+part-rest-end c = omega arith
 
 size-at-requires : tie.Need-size-at-requires Inv-loop μ-loop
 size-at-requires c κs = tt
-
-sub-opening-at : tie.Need-sub-opening-at Inv-loop μ-loop
-sub-opening-at c = omega arith
-
-part-opening-at-start : tie.Need-part-opening-at-start Inv-loop μ-loop
-part-opening-at-start c = omega arith
-
-part-opening-at-end : tie.Need-part-opening-at-end Inv-loop μ-loop
-part-opening-at-end c = omega arith
 
 opening-at-requires : tie.Need-opening-at-requires Inv-loop μ-loop
 opening-at-requires c κs = tt
@@ -112,13 +103,10 @@ run-spec =
     μ-loop
     loop-holds
     sub-loop
-    sub-size-at
-    part-size-at-start
-    part-size-at-end
+    sub-rest
+    part-rest-start
+    part-rest-end
     size-at-requires
-    sub-opening-at
-    part-opening-at-start
-    part-opening-at-end
     opening-at-requires
     sub-if1
     returns
