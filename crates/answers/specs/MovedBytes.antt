@@ -12,7 +12,7 @@ use lib.IntN.{ℤ, _+ℤ_}
 use lib.ListN.{length, take, drop}
 use lib.Seq.{take-append-seam, drop-append-add}
 use Rattle.words.specs.Words.{fourBytes}
-use Rattle.boxes.specs.Boxes.{Place}
+use Rattle.boxes.specs.Boxes.{Offset}
 use Rattle.nodes.specs.Nodes.{Node, glyph, rule, movedNode, moved, signedBytes, nodeBytes, bytesOf, bytesInNode}
 use Rattle.nodes.specs.NodeLaws.{length-node-bytes, length-bytes}
 use Rattle.setting.specs.Frames.{movedBy}
@@ -24,7 +24,7 @@ pub record LengthMoved (at : ℕ) (distance : ℤ) (alone placed : List ℕ) : T
   pub length-placed : take 4 (drop at placed) ≡ signedBytes (from +ℤ distance)
 
 -- x at the bytes 2 to 5, y at the bytes 6 to 9
-pub record OnlyPlaceMoved (d : Place) (alone placed : List ℕ) : Type 0 where
+pub record OnlyPlaceMoved (d : Offset) (alone placed : List ℕ) : Type 0 where
   pub whole-alone : length alone ≡ bytesInNode
   pub whole-placed : length placed ≡ bytesInNode
   pub same-mark : take 2 placed ≡ take 2 alone
@@ -36,7 +36,7 @@ pub record OnlyPlaceMoved (d : Place) (alone placed : List ℕ) : Type 0 where
 abbrev written : ℕ → ℕ → List ℕ → ℤ → ℤ → List ℕ
 written m₁ m₂ last x y = m₁ ∷ m₂ ∷ (signedBytes x ++ signedBytes y) ++ last
 
-written-moved : (d : Place) (m₁ m₂ : ℕ) (last : List ℕ) (x y : ℤ) → length last ≡ 8 →
+written-moved : (d : Offset) (m₁ m₂ : ℕ) (last : List ℕ) (x y : ℤ) → length last ≡ 8 →
     OnlyPlaceMoved d (written m₁ m₂ last x y) (written m₁ m₂ last (x +ℤ d .across) (y +ℤ d .up))
 unfolding signedBytes fourBytes
 written-moved d m₁ m₂ last x y eight =
@@ -49,7 +49,7 @@ written-moved d m₁ m₂ last x y eight =
       same-last = refl;
     }
 
-pub moved-node-bytes : (d : Place) (n : Node) → OnlyPlaceMoved d (nodeBytes n) (nodeBytes (movedNode (d .across) (d .up) n))
+pub moved-node-bytes : (d : Offset) (n : Node) → OnlyPlaceMoved d (nodeBytes n) (nodeBytes (movedNode (d .across) (d .up) n))
 unfolding nodeBytes signedBytes fourBytes
 moved-node-bytes d (glyph x y size family code) = written-moved d 71 76 _ x y refl
 moved-node-bytes d (rule x y width thickness) = written-moved d 82 85 _ x y refl
@@ -83,10 +83,10 @@ module _ (n : Node) (ns : List Node) (r : List ℕ) where
       ap (nodeAt (suc k)) regrouped
       ∙ bytes-passed (nodeBytes n) (bytesOf ns ++ r) (suc k) k (omega (arith, length-node-bytes n))
 
-pub moved-as : (d : Place) {a a′ b b′ : List ℕ} → a ≡ a′ → b ≡ b′ → OnlyPlaceMoved d a′ b′ → OnlyPlaceMoved d a b
+pub moved-as : (d : Offset) {a a′ b b′ : List ℕ} → a ≡ a′ → b ≡ b′ → OnlyPlaceMoved d a′ b′ → OnlyPlaceMoved d a b
 moved-as d e f h = subst₂ (OnlyPlaceMoved d) (sym e) (sym f) h
 
-pub moved-at : (d : Place) (ns : List Node) (k : ℕ) (r q : List ℕ) → k < length ns →
+pub moved-at : (d : Offset) (ns : List Node) (k : ℕ) (r q : List ℕ) → k < length ns →
     OnlyPlaceMoved d (nodeAt k (bytesOf ns ++ r)) (nodeAt k (bytesOf (movedBy d ns) ++ q))
 unfolding moved
 moved-at d [] k r q l = absurd (omega arith)

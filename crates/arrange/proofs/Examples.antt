@@ -30,7 +30,7 @@ stated : List Arranged
 stated =
     arranged 33_868 800 250 origin (at (pos 600) (pos 370)) (at (pos 490) (minus 250)) noOwn
     ∷ arranged 500 830 350 (at (pos 0) (pos 400)) (at (pos 0) (minus 350)) origin
-    (ruledBehind record { place = at (pos 0) (pos 230); width = pos 500; thickness = pos 40 })
+    (ruledBehind record { corner = at (pos 0) (pos 230); width = pos 500; thickness = pos 40 })
     ∷ arranged 1_400 950 1_150 (at (pos 0) (pos 950)) origin (at (pos 450) (minus 1_050)) noOwn
     ∷ []
 

@@ -8,7 +8,7 @@ use lib.IntN.{ℤ, pos, negℤ}
 use lib.ListN.{getD}
 use Rattle.font.specs.Font.{Metrics}
 use Rattle.boxes.specs.Parameters.{Parameters}
-use Rattle.boxes.specs.Boxes.{Place, Own, Arranged}
+use Rattle.boxes.specs.Boxes.{Offset, Own, Arranged}
 
 unfoldable pub bench : Parameters
 bench size number =
@@ -32,7 +32,7 @@ abbrev pub minus : ℕ → ℤ
 minus n = negℤ (pos n)
 
 -- width, height, depth, the places of the fields, and the own nodes
-abbrev pub arranged : ℕ → ℕ → ℕ → Place → Place → Place → Own → Arranged
+abbrev pub arranged : ℕ → ℕ → ℕ → Offset → Offset → Offset → Own → Arranged
 arranged w h d first second third own =
     record {
       size = record { width = pos w; height = pos h; depth = pos d };

@@ -2,7 +2,7 @@
 -- symbol always is, and a list if its size is. What comes out is bounded, so that 131,072 of them can be added up.
 --     SizeWithin k       a size of at most two words in width, and k in height and depth; the size of a field is `Moderate`
 --     ModerateShape, ModerateScript     a field, a script: what is asked of a list alone
---     PlaceWithin, ShiftsWithin, OwnWithin     places, shifts and own nodes within so many words
+--     OffsetWithin, ShiftsWithin, OwnWithin     places, shifts and own nodes within so many words
 --     Bounded            an item
 -- Assumes nothing.
 use Prim.Native.Nat.{ℕ, _*_, _^_}
@@ -12,7 +12,7 @@ use Rattle.boxes.specs.declared.Shape.{Shape}
 use Rattle.boxes.specs.declared.Shape.the-variants.{Nothing, Char, Box}
 use Rattle.boxes.specs.declared.Script.{Script}
 use Rattle.boxes.specs.declared.Script.the-variants.{Absent, Given}
-use Rattle.boxes.specs.declared.Place.{Place}
+use Rattle.boxes.specs.declared.Offset.{Offset}
 use Rattle.boxes.specs.declared.Shifts.{Shifts}
 use Rattle.boxes.specs.declared.Rule.{Rule}
 use Rattle.boxes.specs.declared.Ruling.{Ruling}
@@ -41,7 +41,7 @@ abbrev pub ModerateScript : Script → Type 0
 ModerateScript Absent = Unit {0}
 ModerateScript (Given z) = Moderate z
 
-pub record PlaceWithin (k : ℕ) (p : Place) : Type 0 where
+pub record OffsetWithin (k : ℕ) (p : Offset) : Type 0 where
   pub across : Within (words k) (p .across .0)
   pub up : Within (words k) (p .up .0)
 
@@ -50,7 +50,7 @@ pub record ShiftsWithin (k : ℕ) (t : Shifts) : Type 0 where
   pub down : Within (words k) (t .down .0)
 
 pub record RuleWithin (k : ℕ) (r : Rule) : Type 0 where
-  pub place : PlaceWithin k (r .place)
+  pub corner : OffsetWithin k (r .corner)
   pub width : Within (words k) (r .width .0)
   pub thickness : Within (words k) (r .thickness .0)
 
@@ -70,7 +70,7 @@ pub record Bounded (a : Arranged) : Type 0 where
   pub width : Within (words itemWords) (a .size .width .0)
   pub height : Within (words itemWords) (a .size .height .0)
   pub depth : Within (words itemWords) (a .size .depth .0)
-  pub first : PlaceWithin itemWords (a .first)
-  pub second : PlaceWithin itemWords (a .second)
-  pub third : PlaceWithin itemWords (a .third)
+  pub first : OffsetWithin itemWords (a .first)
+  pub second : OffsetWithin itemWords (a .second)
+  pub third : OffsetWithin itemWords (a .third)
   pub own : OwnWithin itemWords (a .own)

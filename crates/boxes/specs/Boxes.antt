@@ -37,14 +37,14 @@ given (char m) = some (charSize m)
 given (box z) = some z
 
 -- across to the right and up, from the item's reference point
-pub record Place : Type 0 where
+pub record Offset : Type 0 where
   pub across : ℤ
   pub up : ℤ
 
-abbrev pub at : ℤ → ℤ → Place
+abbrev pub at : ℤ → ℤ → Offset
 at x y = record { across = x; up = y }
 
-abbrev pub origin : Place
+abbrev pub origin : Offset
 origin = at (pos 0) (pos 0)
 
 -- how far a superscript or numerator is shifted up, and a subscript or denominator down
@@ -52,9 +52,9 @@ pub record Shifts : Type 0 where
   pub up : ℤ
   pub down : ℤ
 
--- a line or a bar; its place is its lower left corner
+-- a line or a bar; `corner` is its lower left one
 pub record Rule : Type 0 where
-  pub place : Place
+  pub corner : Offset
   pub width : ℤ
   pub thickness : ℤ
 
@@ -72,9 +72,9 @@ ruledBehind r = record { before = []; behind = r ∷ [] }
 -- an item: its size, where its three fields stand, and its own nodes
 pub record Arranged : Type 0 where
   pub size : Size
-  pub first : Place
-  pub second : Place
-  pub third : Place
+  pub first : Offset
+  pub second : Offset
+  pub third : Offset
   pub own : Own
 
 -- how far a box of width w is moved right to stand in the middle of the width all

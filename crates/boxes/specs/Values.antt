@@ -4,7 +4,7 @@ use mathlib.Core.List.{List, [], _∷_}
 use mathlib.Core.Option.{Option, none, some}
 use Prim.Native.Nat.{ℕ}
 use lib.ListN.{getD}
-use Rattle.font.specs.Answers.{metricsAs}
+use Rattle.font.specs.Values.{metricsAs}
 use Rattle.boxes.specs.declared.styles.Style.{Style}
 use Rattle.boxes.specs.declared.styles.Numbered.{Numbered}
 use Rattle.boxes.specs.declared.styles.Numbered.the-variants.{Styled, Unstyled}
@@ -13,7 +13,7 @@ use Rattle.boxes.specs.declared.Shape.{Shape}
 use Rattle.boxes.specs.declared.Shape.the-variants.{Nothing, Char, Box}
 use Rattle.boxes.specs.declared.Script.{Script}
 use Rattle.boxes.specs.declared.Script.the-variants.{Absent, Given}
-use Rattle.boxes.specs.declared.Place.{Place}
+use Rattle.boxes.specs.declared.Offset.{Offset}
 use Rattle.boxes.specs.declared.Shifts.{Shifts}
 use Rattle.boxes.specs.declared.Rule.{Rule}
 use Rattle.boxes.specs.declared.Ruling.{Ruling}
@@ -22,7 +22,7 @@ use Rattle.boxes.specs.declared.Own.{Own}
 use Rattle.boxes.specs.declared.Arranged.{Arranged}
 use Rattle.boxes.specs.Parameters.{Parameters}
 use Rattle.boxes.specs.Boxes.{nothing, char, box}
-use Rattle.boxes.specs.Boxes.{Size as SizeOf, Shape as ShapeOf, Place as PlaceOf, Shifts as ShiftsOf, Rule as RuleOf, Own as OwnOf, Arranged as ArrangedOf}
+use Rattle.boxes.specs.Boxes.{Size as SizeOf, Shape as ShapeOf, Offset as OffsetOf, Shifts as ShiftsOf, Rule as RuleOf, Own as OwnOf, Arranged as ArrangedOf}
 
 -- three rows of thirty-five words, read by size and number
 unfoldable pub parametersIn : List (List ℕ) → Parameters
@@ -44,14 +44,14 @@ abbrev pub scriptAs : Script → Option SizeOf
 scriptAs Absent = none
 scriptAs (Given z) = some (sizeAs z)
 
-abbrev pub placeAs : Place → PlaceOf
-placeAs p = record { across = p .across .0; up = p .up .0 }
+abbrev pub offsetAs : Offset → OffsetOf
+offsetAs p = record { across = p .across .0; up = p .up .0 }
 
 abbrev pub shiftsAs : Shifts → ShiftsOf
 shiftsAs t = record { up = t .up .0; down = t .down .0 }
 
 abbrev pub ruleAs : Rule → RuleOf
-ruleAs r = record { place = placeAs (r .place); width = r .width .0; thickness = r .thickness .0 }
+ruleAs r = record { corner = offsetAs (r .corner); width = r .width .0; thickness = r .thickness .0 }
 
 abbrev pub rulingAs : Ruling → List RuleOf
 rulingAs Unruled = []
@@ -64,8 +64,8 @@ abbrev pub arrangedAs : Arranged → ArrangedOf
 arrangedAs a =
     record {
       size = sizeAs (a .size);
-      first = placeAs (a .first);
-      second = placeAs (a .second);
-      third = placeAs (a .third);
+      first = offsetAs (a .first);
+      second = offsetAs (a .second);
+      third = offsetAs (a .third);
       own = ownAs (a .own);
     }

@@ -7,10 +7,10 @@ use font::Metrics;
 use scaled::Sp;
 ghost use mathlib.Core.Path.{_≡_};
 ghost use Rattle.scaled.specs.Signed.{Within};
-ghost use Rattle.font.specs.Answers.{metricsAs};
+ghost use Rattle.font.specs.Values.{metricsAs};
 ghost use Rattle.boxes.specs.Boxes as boxes;
-ghost use Rattle.boxes.specs.Values.{sizeAs, shapeAs, scriptAs, placeAs, ruleAs, ownAs};
-ghost use Rattle.boxes.specs.Bounds.{words, itemWords, Moderate, ModerateShape, ModerateScript, PlaceWithin, RuleWithin, OwnWithin};
+ghost use Rattle.boxes.specs.Values.{sizeAs, shapeAs, scriptAs, offsetAs, ruleAs, ownAs};
+ghost use Rattle.boxes.specs.Bounds.{words, itemWords, Moderate, ModerateShape, ModerateScript, OffsetWithin, RuleWithin, OwnWithin};
 
 pub struct Size {
     pub width: Sp,
@@ -32,7 +32,7 @@ pub enum Script {
 }
 
 // Across to the right and up, from the item's reference point.
-pub struct Place {
+pub struct Offset {
     pub across: Sp,
     pub up: Sp,
 }
@@ -43,9 +43,9 @@ pub struct Shifts {
     pub down: Sp,
 }
 
-// A line or a bar; its place is its lower left corner.
+// A line or a bar; `corner` is its lower left one.
 pub struct Rule {
-    pub place: Place,
+    pub corner: Offset,
     pub width: Sp,
     pub thickness: Sp,
 }
@@ -65,9 +65,9 @@ pub struct Own {
 // An item: its size, where its three fields stand, and its own nodes.
 pub struct Arranged {
     pub size: Size,
-    pub first: Place,
-    pub second: Place,
-    pub third: Place,
+    pub first: Offset,
+    pub second: Offset,
+    pub third: Offset,
     pub own: Own,
 }
 
@@ -113,10 +113,10 @@ pub fn zero_size() -> Size
     }
 }
 
-pub fn origin() -> Place
-    ensures { λ r. ⌜ (placeAs r ≡ boxes.origin) × PlaceWithin 0 r ⌝ }
+pub fn origin() -> Offset
+    ensures { λ r. ⌜ (offsetAs r ≡ boxes.origin) × OffsetWithin 0 r ⌝ }
 {
-    Place {
+    Offset {
         across: Sp(0),
         up: Sp(0),
     }

@@ -7,7 +7,7 @@ ghost use lib.ListN.{length};
 ghost use Rattle.formula.specs.Reading.{formulaLimit};
 ghost use Rattle.answers.specs.Answers.{measured, setting, bufferAfter};
 ghost use Rattle.answers.specs.Small.{Small};
-ghost use Rattle.layout.specs.Answering.{answeredAs};
+ghost use Rattle.layout.specs.Values.{answeredAs};
 ghost use Rattle.capi.specs.Words.{numberBy, wordsBy, bufferBy, answerWords};
 use layout::Answer;
 use layout::parts::parts_of;

@@ -18,7 +18,7 @@ use lib.ListN.{length, take, drop}
 use Rattle.font.specs.Table.{headerBytes, characterBytes, mostCharacters, greatestSize, greatestFamily}
 use Rattle.font.specs.Table.{pieces, parameterRecords, characterRecords, characterCount, metricWords, sizeByte, familyByte, codeByte, flagByte, successorByte}
 use Rattle.font.specs.Table.{every, marked, goodWord, goodParameters, goodCharacter, before, rising, goodLength, goodTable}
-use Rattle.font.specs.Answers.{soundCharacters, soundFront}
+use Rattle.font.specs.Values.{soundCharacters, soundFront}
 
 -- ---- tests joined by `&&`
 

@@ -19,7 +19,7 @@ use Rattle.font.specs.declared.Found.{Found}
 use Rattle.font.specs.declared.Found.the-variants.{Symbol}
 use Rattle.font.specs.Table.{headerBytes, characterBytes, characterCount, greatestWord, greatestSize, greatestFamily, sizeByte, familyByte, flagByte, successorByte, every, rising, marked, goodLength, goodWord, goodParameters, goodCharacter, goodTable, parameterRecords, parameterWords, characterRecords, metricWords}
 use Rattle.font.specs.Font.{Metrics, fontOf, lookup, isOf, metricsOf}
-use Rattle.font.specs.Answers.{foundAs, metricsAs, HoldsParameters}
+use Rattle.font.specs.Values.{foundAs, metricsAs, HoldsParameters}
 
 pub record SmallMetrics (m : Metrics) : Type 0 where
   pub width : m .width ≤ greatestWord

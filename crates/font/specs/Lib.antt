@@ -2,5 +2,5 @@
 -- Assumes nothing.
 pub mod Table
 pub mod Font
-pub mod Answers
+pub mod Values
 pub mod FontLaws

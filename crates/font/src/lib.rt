@@ -1,5 +1,5 @@
 // The font table: its bytes, its parameters and its characters. What a good table is, and the font that it holds,
-// is defined in specs/Table.antt and specs/Font.antt; what these functions answer, in specs/Answers.antt.
+// is defined in specs/Table.antt and specs/Font.antt; what these functions answer, in specs/Values.antt.
 mod format;
 mod records;
 
@@ -8,7 +8,7 @@ ghost use Prim.Native.Nat.{ℕ, _<_, _≤_};
 ghost use lib.ListN.{length, getD};
 ghost use Rattle.font.specs.Table.{sizeCount, headerBytes, characterBytes, goodTable};
 ghost use Rattle.font.specs.Font.{fontOf, isOf, metricsOf, successorOf};
-ghost use Rattle.font.specs.Answers.{foundAs, metricsAs, successorAs, HoldsRow, HoldsParameters};
+ghost use Rattle.font.specs.Values.{foundAs, metricsAs, successorAs, HoldsRow, HoldsParameters};
 
 // The code of the next larger symbol of the same family, if there is one.
 pub enum Successor {

@@ -6,7 +6,7 @@ ghost use Prim.Native.Nat.{_+_, _*_, _<_, _≤_};
 ghost use lib.Dec.{leb, eqb};
 ghost use lib.ListN.{length, drop};
 ghost use Rattle.font.specs.Table.{wordBytes, markBytes, parameterBytes, headerBytes, characterBytes, parameterRecords, pieces, words, marked, every, goodWord, goodParameters, goodCharacter, before};
-ghost use Rattle.font.specs.Answers.{soundCharacters, soundFront};
+ghost use Rattle.font.specs.Values.{soundCharacters, soundFront};
 
 // The three PA records, one for each size.
 pub fn are_parameters(table: &[u8]) -> bool

@@ -3,7 +3,7 @@ pub mod Tree
 pub mod Marks
 pub mod Heads
 pub mod Reading
-pub mod Verdicts
+pub mod Values
 pub mod Places
 pub mod Slices
 pub mod HeadLaws

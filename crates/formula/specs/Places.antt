@@ -83,18 +83,18 @@ module _ (s : List ℕ) where
   headAt at = fieldHead (drop at s)
 
   -- the place behind the field that stands at a place
-  abbrev pub behind : ℕ → ℕ
-  behind at = at + headBytes (headAt at)
+  abbrev pub fieldEnd : ℕ → ℕ
+  fieldEnd at = at + headBytes (headAt at)
 
   abbrev pub second : Kind → ℕ
-  second kind = behind (openingBytes kind)
+  second kind = fieldEnd (openingBytes kind)
 
   abbrev pub third : Kind → ℕ
-  third kind = behind (second kind)
+  third kind = fieldEnd (second kind)
 
   -- the place behind a third field, if there is one
   abbrev pub thirdEnd : Bool → ℕ → ℕ
-  thirdEnd true at = behind at
+  thirdEnd true at = fieldEnd at
   thirdEnd false at = at
 
   abbrev pub end : Kind → ℕ

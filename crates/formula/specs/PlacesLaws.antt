@@ -27,7 +27,7 @@ use Rattle.formula.specs.declared.Verdict.the-variants.{Good, Faulty}
 use Rattle.formula.specs.Tree.{Items, Item, Field, nil, cons, list, openingBytes, itemsBytes, itemBytes, fieldBytes}
 use Rattle.formula.specs.Heads.{openingOf, fieldHead}
 use Rattle.formula.specs.Reading.{formulaLimit, depthLimit, Read, good, fault, read, readFormula}
-use Rattle.formula.specs.Verdicts.{told}
+use Rattle.formula.specs.Values.{told}
 use Rattle.formula.specs.Places.{treeIn, IsGood, Readable, treeOf, headBytes, contents, fieldOf, GoodField, hasThird, headAt, second, third, thirdEnd, end, itemSize, fieldIn, thirdIn, itemOf, GoodFieldAt, GoodThird, GoodItem}
 use Rattle.formula.specs.HeadLaws.{list-opening, contents-shorter, opening-fits}
 use Rattle.formula.specs.ReadingLaws.{by-length, FieldIs, ThirdIs, ItemIs, item-map, size-fits, size-some, Below, read-none, list-good, agree}

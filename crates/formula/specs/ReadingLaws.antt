@@ -1,7 +1,7 @@
 -- Laws of `read`.
 --     FieldIs, ItemIs      a field, an item, is this tree by its head, with P for "this list of bytes is these items":
 --                          one predicate for every kind; `item-map` changes the P
---     behind-in, size-fits, size-some     a field and an item lie in their list, and an item takes a byte at least
+--     field-end-in, size-fits, size-some     a field and an item lie in their list, and an item takes a byte at least
 --     item-got, got-item   `itemBy` gives an item exactly where `ItemIs` holds, and the place behind it is `itemSize`
 --     read-step            the equation of `read` with no number of steps in it, from `enough`
 --     list-good, good-list a list that is not empty reads exactly where its first item and the rest do
@@ -24,7 +24,7 @@ use Rattle.formula.specs.declared.Fault.{Fault}
 use Rattle.formula.specs.Tree.{Items, Item, Field, nil, cons, noad, kern, empty, symbol, list, openingBytes}
 use Rattle.formula.specs.Heads.{openingOf, fieldHead}
 use Rattle.formula.specs.Reading.{Read, good, fault, Got, got, stopped, _thenAt_, listGot, fieldBy, fieldAt, thirdAt, noadAt, openedBy, itemBy, before, restBy, listBy, readBy, read}
-use Rattle.formula.specs.Places.{headBytes, contents, hasThird, openedBytes, headAt, behind, second, third, thirdEnd, end, itemSize}
+use Rattle.formula.specs.Places.{headBytes, contents, hasThird, openedBytes, headAt, fieldEnd, second, third, thirdEnd, end, itemSize}
 use Rattle.formula.specs.HeadLaws.{head-fits, list-opening, contents-shorter, opening-fits}
 
 pub by-length : (P : List ℕ → Type 0) → ((s : List ℕ) → ((r : List ℕ) → length r < length s → P r) → P s) →
@@ -112,17 +112,17 @@ module _ (P Q : Says) (s : List ℕ)
 
 -- ---- an item lies in its list
 
-pub behind-in : (s : List ℕ) (at : ℕ) → at ≤ length s → behind s at ≤ length s
-behind-in s at h = omega (arith, head-fits (drop at s) (headAt s at) refl, length-drop at s)
+pub field-end-in : (s : List ℕ) (at : ℕ) → at ≤ length s → fieldEnd s at ≤ length s
+field-end-in s at h = omega (arith, head-fits (drop at s) (headAt s at) refl, length-drop at s)
 
 third-end-in : (s : List ℕ) (has : Bool) (at : ℕ) → at ≤ length s → thirdEnd s has at ≤ length s
-third-end-in s true at h = behind-in s at h
+third-end-in s true at h = field-end-in s at h
 third-end-in s false at h = h
 
 size-by : (s : List ℕ) (o : Opening) → openedBytes o ≤ length s → itemSize s o ≤ length s
 size-by s NoItem h = h
 size-by s (Fields kind) h =
-    third-end-in s (hasThird kind) (third s kind) (behind-in s (second s kind) (behind-in s (openingBytes kind) h))
+    third-end-in s (hasThird kind) (third s kind) (field-end-in s (second s kind) (field-end-in s (openingBytes kind) h))
 size-by s (Kern n) h = h
 
 pub size-fits : (s : List ℕ) → itemSize s (openingOf s) ≤ length s
@@ -194,11 +194,11 @@ module _ (R : Reader) where
 
   module _ (levels : ℕ) (s : List ℕ) where
     field-got : (at : ℕ) (f : Field) (e : ℕ) → fieldAt R levels s at ≡ got f e →
-        FieldAtIs (Below R levels) s at f × (e ≡ behind s at)
+        FieldAtIs (Below R levels) s at f × (e ≡ fieldEnd s at)
     unfolding fieldAt
     field-got at f e q = field-by-got levels at (drop at s) (headAt s at) f e q
 
-    got-field : (at : ℕ) (f : Field) → FieldAtIs (Below R levels) s at f → fieldAt R levels s at ≡ got f (behind s at)
+    got-field : (at : ℕ) (f : Field) → FieldAtIs (Below R levels) s at f → fieldAt R levels s at ≡ got f (fieldEnd s at)
     unfolding fieldAt
     got-field at f i = got-field-by levels at (drop at s) (headAt s at) f i
 

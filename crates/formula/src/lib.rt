@@ -84,7 +84,7 @@ pub enum Verdict {
 }
 
 // What reading an item or a field comes to: the place behind it, or a fault.
-pub enum Step {
+pub enum PartRead {
     Next(usize),
     Stop(Fault, usize),
 }

@@ -6,12 +6,12 @@ ghost use lib.ListN.{length};
 ghost use Rattle.formula.specs.declared.Opening.the-variants.{Fields};
 ghost use Rattle.formula.specs.Heads.{openingOf};
 ghost use Rattle.formula.specs.Reading.{fieldAt, noadAt, itemBy, read, readFormula};
-ghost use Rattle.formula.specs.Verdicts.{told, stepOf};
+ghost use Rattle.formula.specs.Values.{told, partReadOf};
 use crate::Fault;
 use crate::FieldHead;
 use crate::Kind;
 use crate::Opening;
-use crate::Step;
+use crate::PartRead;
 use crate::Verdict;
 use crate::heads::KERN_BYTES;
 use crate::heads::field_head;
@@ -41,10 +41,10 @@ pub fn read_list(s: &[u8], levels: usize) -> Verdict
     while at < s.len() {
         let r = read_item(&s[at..], levels);
         match r {
-            Step::Next(size) => {
+            PartRead::Next(size) => {
                 at += size;
             }
-            Step::Stop(fault, place) => {
+            PartRead::Stop(fault, place) => {
                 return Verdict::Faulty(fault, at + place);
             }
         }
@@ -53,63 +53,63 @@ pub fn read_list(s: &[u8], levels: usize) -> Verdict
 }
 
 // Reads the item whose first byte is the first of s, which goes to the end of its list.
-fn read_item(s: &[u8], levels: usize) -> Step
-    ensures { λ r. ⌜ r ≡ stepOf (itemBy read levels (now (s .entry))) ⌝ }
+fn read_item(s: &[u8], levels: usize) -> PartRead
+    ensures { λ r. ⌜ r ≡ partReadOf (itemBy read levels (now (s .entry))) ⌝ }
 {
     let o = opening(s);
     match o {
-        Opening::NoItem => Step::Stop(Fault::Unreadable, 0),
+        Opening::NoItem => PartRead::Stop(Fault::Unreadable, 0),
         Opening::Fields(kind) => read_noad(s, kind, levels),
-        Opening::Kern(_) => Step::Next(KERN_BYTES),
+        Opening::Kern(_) => PartRead::Next(KERN_BYTES),
     }
 }
 
 // Reads the fields of an item of a kind, in order.
-fn read_noad(s: &[u8], kind: Kind, levels: usize) -> Step
+fn read_noad(s: &[u8], kind: Kind, levels: usize) -> PartRead
     requires { ⌜ openingOf (now s) ≡ Fields kind ⌝ }
-    ensures { λ r. ⌜ r ≡ stepOf (noadAt read levels (now (s .entry)) kind) ⌝ }
+    ensures { λ r. ⌜ r ≡ partReadOf (noadAt read levels (now (s .entry)) kind) ⌝ }
 {
     let a = read_field(s, opening_bytes(kind), levels);
-    let Step::Next(second) = a else {
+    let PartRead::Next(second) = a else {
         return a;
     };
     let b = read_field(s, second, levels);
-    let Step::Next(third) = b else {
+    let PartRead::Next(third) = b else {
         return b;
     };
     if has_third(kind) {
         return read_field(s, third, levels);
     }
-    Step::Next(third)
+    PartRead::Next(third)
 }
 
 // Reads the field whose kind byte stands at `at` of its item.
-fn read_field(s: &[u8], at: usize, levels: usize) -> Step
+fn read_field(s: &[u8], at: usize, levels: usize) -> PartRead
     requires { ⌜ at ≤ length (now s) ⌝ }
-    ensures { λ r. ⌜ r ≡ stepOf (fieldAt read levels (now (s .entry)) at) ⌝ }
+    ensures { λ r. ⌜ r ≡ partReadOf (fieldAt read levels (now (s .entry)) at) ⌝ }
 {
     let h = field_head(&s[at..]);
     match h {
-        FieldHead::NoField => Step::Stop(Fault::Unreadable, 0),
-        FieldHead::Empty => Step::Next(at + 1),
-        FieldHead::Symbol(_, _) => Step::Next(at + 3),
+        FieldHead::NoField => PartRead::Stop(Fault::Unreadable, 0),
+        FieldHead::Empty => PartRead::Next(at + 1),
+        FieldHead::Symbol(_, _) => PartRead::Next(at + 3),
         FieldHead::Sublist(opening, n) => {
             if levels == 0 {
-                return Step::Stop(Fault::TooDeep, at);
+                return PartRead::Stop(Fault::TooDeep, at);
             }
             let start = at + opening;
             let end = start + n;
             let v = read_list(&s[start..end], levels - 1);
             match v {
-                Verdict::Good => Step::Next(end),
-                Verdict::Faulty(fault, place) => Step::Stop(fault, start + place),
+                Verdict::Good => PartRead::Next(end),
+                Verdict::Faulty(fault, place) => PartRead::Stop(fault, start + place),
             }
         }
         FieldHead::CutSublist => {
             if levels == 0 {
-                return Step::Stop(Fault::TooDeep, at);
+                return PartRead::Stop(Fault::TooDeep, at);
             }
-            Step::Stop(Fault::Unreadable, 0)
+            PartRead::Stop(Fault::Unreadable, 0)
         }
     }
 }

@@ -21,7 +21,7 @@ set =
 stated : List Arranged
 stated =
     arranged 500 830 350 (at (pos 0) (pos 400)) (at (pos 0) (minus 350)) origin
-    (ruledBehind record { place = at (pos 0) (pos 230); width = pos 500; thickness = pos 40 })
+    (ruledBehind record { corner = at (pos 0) (pos 230); width = pos 500; thickness = pos 40 })
     ∷ arranged 500 880 350 (at (pos 0) (pos 450)) (at (pos 0) (minus 350)) origin noOwn
     ∷ []
 

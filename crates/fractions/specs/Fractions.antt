@@ -87,7 +87,7 @@ abbrev pub barOf : ℤ → ℤ → ℤ → Own
 barOf axis θ w =
     elim (hasBar θ) [
       | true ↦ ruledBehind record {
-        place = at (pos 0) ((axis +ℤ half θ) -ℤ θ);
+        corner = at (pos 0) ((axis +ℤ half θ) -ℤ θ);
         width = w;
         thickness = θ;
       }

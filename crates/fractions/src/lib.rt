@@ -1,7 +1,7 @@
 // Fractions (rules 15 to 15d): numerator x, denominator z, bar thickness θ.
 use boxes::Arranged;
+use boxes::Offset;
 use boxes::Own;
-use boxes::Place;
 use boxes::Rule;
 use boxes::Shifts;
 use boxes::Size;
@@ -206,7 +206,7 @@ fn bar_of(axis: Sp, theta: Sp, w: Sp) -> Own
 {
     if has_bar(theta) {
         let rule = Rule {
-            place: Place {
+            corner: Offset {
                 across: Sp(0),
                 up: axis.plus(theta.half()).minus(theta),
             },
@@ -231,11 +231,11 @@ fn stacked(x: Size, z: Size, w: Sp, t: Shifts, bar: Own) -> Arranged
             height: x.height.plus(t.up),
             depth: z.depth.plus(t.down),
         },
-        first: Place {
+        first: Offset {
             across: centred(w, x.width),
             up,
         },
-        second: Place {
+        second: Offset {
             across: centred(w, z.width),
             up: t.down.negated(),
         },

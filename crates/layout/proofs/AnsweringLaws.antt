@@ -11,7 +11,7 @@ use Prim.Native.Nat.{ℕ}
 use native.Mathlib.Omega.{arith}
 use Rattle.font.specs.Table.{goodTable}
 use Rattle.font.specs.Font.{Font, fontOf}
-use Rattle.font.specs.Answers.{HoldsParameters}
+use Rattle.font.specs.Values.{HoldsParameters}
 use Rattle.formula.specs.declared.Fault.{Fault}
 use Rattle.formula.specs.Tree.{Items}
 use Rattle.formula.specs.Reading.{fault, readFormula}
@@ -34,7 +34,8 @@ use Rattle.layout.specs.declared.Answer.{Answer}
 use Rattle.layout.specs.declared.Answer.the-variants.{NoStyle, BadTable, Missing}
 use Rattle.layout.specs.declared.Finding.{Finding}
 use Rattle.layout.specs.declared.Finding.the-variants.{Boxed, Refused}
-use Rattle.layout.specs.Answering.{answeredAs, Refuses, readResult, Reads, Examined, Weighed}
+use Rattle.layout.specs.Values.{answeredAs}
+use Rattle.layout.specs.Answering.{Refuses, readResult, Reads, Examined, Weighed}
 
 -- ---- the tests before the walk
 

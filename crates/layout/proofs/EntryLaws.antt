@@ -26,7 +26,8 @@ use Rattle.walk.specs.declared.lists.ItemsSet.the-variants.{Whole, Missing}
 use Rattle.walk.specs.Walked.{ListDone}
 use Rattle.layout.specs.declared.Answer.{Answer}
 use Rattle.layout.specs.declared.Answer.the-variants.{Accepted, NoRoom}
-use Rattle.layout.specs.Answering.{answeredAs, Refuses, readResult, Reads, Boxes}
+use Rattle.layout.specs.Values.{answeredAs}
+use Rattle.layout.specs.Answering.{Refuses, readResult, Reads, Boxes}
 
 -- the front of a buffer that is just long enough for the nodes
 drawn-whole : (ns : List Node) (n : ℕ) (b ys : List ℕ) → n ≡ length ns → bytesInNode * n ≤ length b →

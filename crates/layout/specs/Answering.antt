@@ -1,5 +1,4 @@
--- What the code's answers stand for, and what its parts find.
---     answeredAs          document 01's number, place, sizes and count for each answer
+-- What the parts of the entries find.
 --     readResult          the result for a formula that reads, in a style that there is
 --     Reads, Boxes        a formula that the walk may take, and one that is accepted
 --     Refuses             a refusal
@@ -13,7 +12,6 @@ use Prim.Native.Nat.{ℕ, _≤_}
 use lib.ListN.{length}
 use Rattle.font.specs.Table.{goodTable}
 use Rattle.font.specs.Font.{fontOf}
-use Rattle.formula.specs.declared.Fault.the-variants as faults
 use Rattle.formula.specs.Reading.{formulaLimit}
 use Rattle.formula.specs.Places.{Readable, treeOf}
 use Rattle.boxes.specs.declared.styles.Style.{Style}
@@ -22,25 +20,16 @@ use Rattle.boxes.specs.Values.{sizeAs}
 use Rattle.setting.specs.Setting.{setList}
 use Rattle.setting.specs.Missing.{missingItems}
 use Rattle.setting.specs.Fitting.{itemsFit}
-use Rattle.answers.specs.Answers.{Answered, refusal, acceptedNumber, styleNumber, tableNumber, faultNumber, missingNumber, tooLargeNumber, noRoomNumber, Result, boxed, refused, ifPresent, resultOf}
+use Rattle.answers.specs.Answers.{refusal, Result, boxed, refused, ifPresent, resultOf}
 use Rattle.walk.specs.declared.lines.Line.{Line}
 use Rattle.walk.specs.Values.{lineFits}
 use Rattle.layout.specs.declared.Answer.{Answer}
-use Rattle.layout.specs.declared.Answer.the-variants.{Accepted, NoStyle, BadTable, Unreadable, TooDeep, Missing, TooLarge, NoRoom}
+use Rattle.layout.specs.declared.Answer.the-variants.{TooLarge}
+use Rattle.layout.specs.Values.{answeredAs}
 use Rattle.layout.specs.declared.Reading.{Reading}
 use Rattle.layout.specs.declared.Reading.the-variants as reading
 use Rattle.layout.specs.declared.Finding.{Finding}
 use Rattle.layout.specs.declared.Finding.the-variants as finding
-
-abbrev pub answeredAs : Answer → Answered
-answeredAs (Accepted z n) = record { number = acceptedNumber; place = 0; size = sizeAs z; count = n }
-answeredAs NoStyle = refusal styleNumber 0
-answeredAs BadTable = refusal tableNumber 0
-answeredAs (Unreadable place) = refusal (faultNumber faults.Unreadable) place
-answeredAs (TooDeep place) = refusal (faultNumber faults.TooDeep) place
-answeredAs (Missing place) = refusal missingNumber place
-answeredAs TooLarge = refusal tooLargeNumber 0
-answeredAs NoRoom = refusal noRoomNumber 0
 
 pub record Refuses (a : Answer) (r : Result) : Type 0 where
   pub number : ℕ

@@ -2,7 +2,7 @@
 
 ghost use mathlib.Core.Path.{_≡_};
 ghost use Rattle.answers.specs.Answers.{refusal};
-ghost use Rattle.layout.specs.Answering.{answeredAs};
+ghost use Rattle.layout.specs.Values.{answeredAs};
 ghost use Rattle.layout.specs.Parts.{partsAs};
 use crate::Answer;
 use boxes::Size;

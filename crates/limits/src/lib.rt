@@ -1,6 +1,6 @@
 // Scripts set as limits above and below an operator (rules 13 and 13a), defined in specs/Limits.antt.
 use boxes::Arranged;
-use boxes::Place;
+use boxes::Offset;
 use boxes::Script;
 use boxes::Size;
 use boxes::centred;
@@ -102,15 +102,15 @@ fn stacked(n: Nucleus, width: Sp, over: Side, under: Side) -> Arranged
         depth,
     };
     let raise = n.raise;
-    let first = Place {
+    let first = Offset {
         across: centred(width, n.size.width),
         up: raise,
     };
     let across = over.across;
     let up = over.shift;
-    let second = Place { across, up };
+    let second = Offset { across, up };
     let across = under.across;
-    let third = Place {
+    let third = Offset {
         across,
         up: under.shift.negated(),
     };

@@ -2,5 +2,5 @@
 mod DecimalLaws
 mod SignedBits
 mod PutLaws
-mod LineLaws
+mod TextLaws
 mod Examples

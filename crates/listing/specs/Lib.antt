@@ -1,4 +1,4 @@
 -- The text that shows an answer and its nodes, and what the functions that write it promise. Assumes nothing.
 pub mod Decimals
-pub mod Lines
+pub mod Texts
 pub mod Written

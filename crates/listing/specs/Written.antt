@@ -12,7 +12,7 @@ use Prim.Native.Nat.{ℕ, _+_, _≤_}
 use lib.ListN.{length, take, drop}
 use Rattle.listing.specs.declared.Number.{Number}
 use Rattle.listing.specs.Decimals.{decimalOf, minus, textOf}
-use Rattle.listing.specs.Lines.{space, numberAt}
+use Rattle.listing.specs.Texts.{space, numberAt}
 
 pub record Written (t before after : List ℕ) (end : ℕ) : Type 0 where
   pub size : end ≡ length t

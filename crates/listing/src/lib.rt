@@ -1,5 +1,5 @@
 // The text that shows an answer: a line with the sizes and the count and a line for each node, or one line for a refusal.
-// It is defined in specs/Lines.antt. A line is written into a lent buffer; `write_answer` prints what these functions give.
+// It is defined in specs/Texts.antt. A line is written into a lent buffer; `write_answer` prints what these functions give.
 
 ghost use mathlib.Core.Path.{_≡_};
 ghost use mathlib.Core.List.{_++_};
@@ -7,9 +7,9 @@ ghost use Prim.Native.Nat.{_+_, _≤_};
 ghost use lib.IntN.{natAbs};
 ghost use lib.ListN.{length};
 ghost use Rattle.boxes.specs.Values.{sizeAs};
-ghost use Rattle.layout.specs.Answering.{answeredAs};
+ghost use Rattle.layout.specs.Values.{answeredAs};
 ghost use Rattle.listing.specs.Decimals.{decimalOf, textOf};
-ghost use Rattle.listing.specs.Lines.{sizesLine, refusalLine, answerLine, nodeLine, numberAt, glyphIn, ruleIn, nodeIn};
+ghost use Rattle.listing.specs.Texts.{sizesText, refusalText, answerText, nodeText, numberAt, glyphIn, ruleIn, nodeIn};
 ghost use Rattle.listing.specs.Written.{Written, Put, PutNear, numberText, placeText};
 use boxes::Size;
 use layout::Answer;
@@ -30,7 +30,7 @@ pub struct Number {
 // Prints an answer; the nodes of an acceptance are at the front of the buffer.
 pub fn write_answer(answer: Answer, nodes: &[u8]) {
     let mut line = [0u8; LINE_SPACE];
-    let end = answer_line(answer, &mut line);
+    let end = answer_text(answer, &mut line);
     print(&line, end);
     let parts = parts_of(answer);
     write_nodes(nodes, parts.count);
@@ -55,7 +55,7 @@ fn write_node(node: &[u8])
     requires { ⌜ 18 ≤ length (now node) ⌝ }
 {
     let mut line = [0u8; LINE_SPACE];
-    let end = node_line(node, &mut line);
+    let end = node_text(node, &mut line);
     print(&line, end);
 }
 
@@ -66,21 +66,21 @@ fn print(line: &[u8], end: usize) {
 }
 
 // Writes the first line of an answer at the front of the buffer, and gives its length.
-pub fn answer_line(answer: Answer, out: &mut [u8]) -> usize
+pub fn answer_text(answer: Answer, out: &mut [u8]) -> usize
     requires { ⌜ 128 ≤ length (now out) ⌝ }
-    ensures { λ r. ⌜ Written (answerLine (answeredAs answer)) (now (out .entry)) (now (out .exit)) r ⌝ }
+    ensures { λ r. ⌜ Written (answerText (answeredAs answer)) (now (out .entry)) (now (out .exit)) r ⌝ }
 {
     let parts = parts_of(answer);
     let size = parts.size;
     if parts.number == 0 {
-        return sizes_line(size, parts.count, out);
+        return sizes_text(size, parts.count, out);
     }
-    refusal_line(parts.number, parts.place, out)
+    refusal_text(parts.number, parts.place, out)
 }
 
-fn sizes_line(size: Size, count: usize, out: &mut [u8]) -> usize
+fn sizes_text(size: Size, count: usize, out: &mut [u8]) -> usize
     requires { ⌜ 128 ≤ length (now out) ⌝ }
-    ensures { λ r. ⌜ Written (sizesLine (sizeAs size) count) (now (out .entry)) (now (out .exit)) r ⌝ }
+    ensures { λ r. ⌜ Written (sizesText (sizeAs size) count) (now (out .entry)) (now (out .exit)) r ⌝ }
 {
     let a = put_number(b"w ", of_length(size.width), out, 0);
     let b = put_number(b" h ", of_length(size.height), out, a);
@@ -89,9 +89,9 @@ fn sizes_line(size: Size, count: usize, out: &mut [u8]) -> usize
     put_bytes(b"\n", out, d)
 }
 
-fn refusal_line(number: u8, place: usize, out: &mut [u8]) -> usize
+fn refusal_text(number: u8, place: usize, out: &mut [u8]) -> usize
     requires { ⌜ 128 ≤ length (now out) ⌝ }
-    ensures { λ r. ⌜ Written (refusalLine number place) (now (out .entry)) (now (out .exit)) r ⌝ }
+    ensures { λ r. ⌜ Written (refusalText number place) (now (out .entry)) (now (out .exit)) r ⌝ }
 {
     let a = put_number(b"refused ", of_count(number as u64), out, 0);
     let b = put_number(b" at ", of_count(place as u64), out, a);
@@ -99,19 +99,19 @@ fn refusal_line(number: u8, place: usize, out: &mut [u8]) -> usize
 }
 
 // Writes the line of the node at the front of some bytes at the front of the buffer, and gives its length.
-pub fn node_line(node: &[u8], out: &mut [u8]) -> usize
+pub fn node_text(node: &[u8], out: &mut [u8]) -> usize
     requires { ⌜ (18 ≤ length (now node)) × (128 ≤ length (now out)) ⌝ }
-    ensures { λ r. ⌜ Written (nodeLine (nodeIn (now (node .entry)))) (now (out .entry)) (now (out .exit)) r ⌝ }
+    ensures { λ r. ⌜ Written (nodeText (nodeIn (now (node .entry)))) (now (out .entry)) (now (out .exit)) r ⌝ }
 {
     if node[0] == b'G' {
-        return glyph_line(node, out);
+        return glyph_text(node, out);
     }
-    rule_line(node, out)
+    rule_text(node, out)
 }
 
-fn glyph_line(node: &[u8], out: &mut [u8]) -> usize
+fn glyph_text(node: &[u8], out: &mut [u8]) -> usize
     requires { ⌜ (18 ≤ length (now node)) × (128 ≤ length (now out)) ⌝ }
-    ensures { λ r. ⌜ Written (nodeLine (glyphIn (now (node .entry)))) (now (out .entry)) (now (out .exit)) r ⌝ }
+    ensures { λ r. ⌜ Written (nodeText (glyphIn (now (node .entry)))) (now (out .entry)) (now (out .exit)) r ⌝ }
 {
     let a = put_place(b"glyph ", node, out);
     let b = put_number(b" ", of_byte(node[10]), out, a);
@@ -120,9 +120,9 @@ fn glyph_line(node: &[u8], out: &mut [u8]) -> usize
     put_bytes(b"\n", out, d)
 }
 
-fn rule_line(node: &[u8], out: &mut [u8]) -> usize
+fn rule_text(node: &[u8], out: &mut [u8]) -> usize
     requires { ⌜ (18 ≤ length (now node)) × (128 ≤ length (now out)) ⌝ }
-    ensures { λ r. ⌜ Written (nodeLine (ruleIn (now (node .entry)))) (now (out .entry)) (now (out .exit)) r ⌝ }
+    ensures { λ r. ⌜ Written (nodeText (ruleIn (now (node .entry)))) (now (out .entry)) (now (out .exit)) r ⌝ }
 {
     let a = put_place(b"rule ", node, out);
     let b = put_number(b" ", number_at(node, 10), out, a);

@@ -7,7 +7,7 @@ use mathlib.Core.Path.{_≡_, refl}
 use mathlib.Core.Bool.{true}
 use Prim.Native.Nat.{ℕ, zero, suc}
 use Rattle.nodes.specs.Hull.{Hull, none, around}
-use Rattle.nodes.specs.Runs.{hullOf, marked}
+use Rattle.nodes.specs.Values.{hullOf, marked}
 use Rattle.nodes.specs.declared.run.Run.{Run}
 
 -- what the lengths say, whatever the count is

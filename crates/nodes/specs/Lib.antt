@@ -10,5 +10,5 @@ pub mod Lent
 pub mod Kept
 pub mod Hull
 pub mod HullLaws
-pub mod Runs
+pub mod Values
 pub mod RunLaws

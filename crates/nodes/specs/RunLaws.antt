@@ -12,7 +12,7 @@ use Rattle.nodes.specs.Nodes.{Node, moved}
 use Rattle.nodes.specs.NodeLaws.{length-moved}
 use Rattle.nodes.specs.Hull.{around, nodeHull, hull, HullWithin}
 use Rattle.nodes.specs.HullLaws.{hull-node, hull-append, hull-moved, join-within, moved-within}
-use Rattle.nodes.specs.Runs.{hullOf, RunIs, EmptyRun, PointRun, JoinedRun, MovedRun}
+use Rattle.nodes.specs.Values.{hullOf, RunIs, EmptyRun, PointRun, JoinedRun, MovedRun}
 use Rattle.nodes.specs.declared.run.Run.{Run}
 
 -- ---- the nodes that a run stands for

@@ -1,4 +1,4 @@
-// What is known of runs of nodes. What each function gives is defined in specs/Runs.antt.
+// What is known of runs of nodes. What each function gives is defined in specs/Values.antt.
 ghost use mathlib.Core.Path.{_≡_};
 ghost use mathlib.Core.Bool.{not, _&&_, _||_};
 ghost use Prim.Native.Nat.{_+_, _^_, _<_};
@@ -6,7 +6,7 @@ ghost use Rattle.scaled.specs.Made.{reach};
 ghost use Rattle.scaled.specs.Signed.{Within};
 ghost use Rattle.nodes.specs.Bounds.{within};
 ghost use Rattle.nodes.specs.Hull.{hullFits, HullWithin};
-ghost use Rattle.nodes.specs.Runs.{hullOf, marked, isLarge, EmptyRun, LargeRun, PointRun, JoinedRun, MovedRun};
+ghost use Rattle.nodes.specs.Values.{hullOf, marked, isLarge, EmptyRun, LargeRun, PointRun, JoinedRun, MovedRun};
 use scaled::Sp;
 
 const GREATEST_LENGTH: i64 = 1_073_741_823;

@@ -78,7 +78,7 @@ lined z θ up =
       raise = pos 0;
       δ = pos 0;
       isPlain = false;
-      own = ruledBehind record { place = at (pos 0) up; width = z .width; thickness = θ };
+      own = ruledBehind record { corner = at (pos 0) up; width = z .width; thickness = θ };
     }
 
 abbrev pub overline : ℤ → Size → Nucleus

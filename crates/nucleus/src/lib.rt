@@ -1,6 +1,6 @@
 // The nucleus of an atom, an operator, an overline or an underline, defined in specs/Nucleus.antt.
+use boxes::Offset;
 use boxes::Own;
-use boxes::Place;
 use boxes::Rule;
 use boxes::Shape;
 use boxes::Size;
@@ -13,7 +13,7 @@ use scaled::Sp;
 ghost use mathlib.Core.Path.{_≡_};
 ghost use mathlib.Core.Bool.{_&&_, not};
 ghost use Rattle.scaled.specs.Signed.{Within};
-ghost use Rattle.font.specs.Answers.{metricsAs};
+ghost use Rattle.font.specs.Values.{metricsAs};
 ghost use Rattle.nucleus.specs.Nucleus.{boxNucleus, symbolNucleus, operatorShift, operatorWidth, operatorSize, operatorNucleus, atomNucleus};
 ghost use Rattle.nucleus.specs.Nucleus as rule;
 ghost use Rattle.boxes.specs.Values.{sizeAs, shapeAs};
@@ -187,7 +187,7 @@ fn lined(size: Size, theta: Sp, up: Sp) -> Nucleus
 {
     let width = size.width;
     let rule = Rule {
-        place: Place { across: Sp(0), up },
+        corner: Offset { across: Sp(0), up },
         width,
         thickness: theta,
     };

@@ -12,7 +12,7 @@ use Rattle.scaled.specs.Length.{pick, maxℤ}
 use Rattle.boxes.specs.declared.styles.Style.{Style}
 use Rattle.boxes.specs.Styles.{isDisplay, fontSize, superscriptStyle}
 use Rattle.boxes.specs.Parameters.{Parameters, xHeight, sup1, sup2, sup3, sub1, sub2, supDrop, subDrop, ruleThickness}
-use Rattle.boxes.specs.Boxes.{Size, Place, Shifts, Arranged, at, origin}
+use Rattle.boxes.specs.Boxes.{Size, Offset, Shifts, Arranged, at, origin}
 use Rattle.nucleus.specs.Nucleus.{Nucleus}
 
 -- the blank behind each script
@@ -125,7 +125,7 @@ reach [] = pos 0
 reach (z ∷ l) = maxℤ z (reach l)
 
 -- from the places and the width of the scripts, and how high and how deep they reach
-abbrev pub assembled : Nucleus → Place → Place → ℤ → ℤ → ℤ → Arranged
+abbrev pub assembled : Nucleus → Offset → Offset → ℤ → ℤ → ℤ → Arranged
 assembled n second third w top bottom =
     record {
       size =
@@ -144,7 +144,7 @@ abbrev pub withoutScripts : Nucleus → Arranged
 withoutScripts n = assembled n origin origin (pos 0) (reach []) (reach [])
 
 -- one script z, its baseline up from the nucleus's: down where that is negative
-abbrev pub alone : Nucleus → Size → Place → Place → ℤ → Arranged
+abbrev pub alone : Nucleus → Size → Offset → Offset → ℤ → Arranged
 alone n z second third up =
     assembled n second third (z .width +ℤ scriptSpace) (reach ((z .height +ℤ up) ∷ [])) (reach ((z .depth -ℤ up) ∷ []))
 

@@ -1,6 +1,6 @@
 // Superscripts and subscripts (rules 18a to 18f). Each stage of a shift has a name; u, v and ψ are the rule's letters.
 use boxes::Arranged;
-use boxes::Place;
+use boxes::Offset;
 use boxes::Script;
 use boxes::Shifts;
 use boxes::Size;
@@ -29,9 +29,9 @@ ghost use Rattle.scripts.specs.Scripts.{quarterXHeight, fourFifthsXHeigh
 ghost use Rattle.scripts.specs.Scripts as rule;
 ghost use Rattle.scripts.specs.Values.{candidatesAs};
 ghost use Rattle.scripts.specs.Bounds.{CandidatesWithin};
-ghost use Rattle.boxes.specs.Values.{parametersIn, sizeAs, scriptAs, placeAs, shiftsAs, arrangedAs};
+ghost use Rattle.boxes.specs.Values.{parametersIn, sizeAs, scriptAs, offsetAs, shiftsAs, arrangedAs};
 ghost use Rattle.nucleus.specs.Values.{nucleusAs};
-ghost use Rattle.boxes.specs.Bounds.{words, itemWords, Moderate, ModerateScript, PlaceWithin, ShiftsWithin, Bounded};
+ghost use Rattle.boxes.specs.Bounds.{words, itemWords, Moderate, ModerateScript, OffsetWithin, ShiftsWithin, Bounded};
 ghost use Rattle.nucleus.specs.Bounds.{ModerateNucleus};
 
 // The blank behind each script.
@@ -261,7 +261,7 @@ fn with_superscript(p: &Parameters, style: Style, n: Nucleus, x: Size) -> Arrang
 {
     let up = greatest(superscript_candidates(p, style, n, x));
     let across = n.size.width;
-    alone(n, x, Place { across, up }, origin(), up)
+    alone(n, x, Offset { across, up }, origin(), up)
 }
 
 fn with_subscript(p: &Parameters, style: Style, n: Nucleus, y: Size) -> Arranged
@@ -270,13 +270,13 @@ fn with_subscript(p: &Parameters, style: Style, n: Nucleus, y: Size) -> Arranged
 {
     let up = greatest(subscript_candidates(p, style, n, y)).negated();
     let across = n.size.width;
-    alone(n, y, origin(), Place { across, up }, up)
+    alone(n, y, origin(), Offset { across, up }, up)
 }
 
 // One script z, its baseline up from the nucleus's: down where that is negative.
-fn alone(n: Nucleus, z: Size, second: Place, third: Place, up: Sp) -> Arranged
-    requires { ⌜ ModerateNucleus n × Moderate z × PlaceWithin itemWords second × PlaceWithin itemWords third × Within (words 8) (up .0) ⌝ }
-    ensures { λ r. ⌜ (arrangedAs r ≡ rule.alone (nucleusAs n) (sizeAs z) (placeAs second) (placeAs third) (up .0)) × Bounded r ⌝ }
+fn alone(n: Nucleus, z: Size, second: Offset, third: Offset, up: Sp) -> Arranged
+    requires { ⌜ ModerateNucleus n × Moderate z × OffsetWithin itemWords second × OffsetWithin itemWords third × Within (words 8) (up .0) ⌝ }
+    ensures { λ r. ⌜ (arrangedAs r ≡ rule.alone (nucleusAs n) (sizeAs z) (offsetAs second) (offsetAs third) (up .0)) × Bounded r ⌝ }
 {
     let w = z.width.plus(Sp(SCRIPT_SPACE));
     let top = z.height.plus(up).max(Sp(0));
@@ -291,12 +291,12 @@ fn with_pair(p: &Parameters, style: Style, n: Nucleus, x: Size, y: Size) -> Arra
 {
     let t = pair_shifts(p, style, n, x, y);
     let up = t.up;
-    let second = Place {
+    let second = Offset {
         across: n.size.width.plus(n.delta),
         up,
     };
     let across = n.size.width;
-    let third = Place {
+    let third = Offset {
         across,
         up: t.down.negated(),
     };
@@ -329,9 +329,9 @@ fn pair_reach(near: Sp, toward: Sp, far: Sp, away: Sp) -> Sp
 }
 
 // The item: scripts start where the nucleus ends, and reach up to top and down to bottom.
-fn assembled(n: Nucleus, second: Place, third: Place, w: Sp, top: Sp, bottom: Sp) -> Arranged
-    requires { ⌜ ModerateNucleus n × PlaceWithin itemWords second × PlaceWithin itemWords third × Within (words 4) (w .0) × Within (words itemWords) (top .0) × Within (words itemWords) (bottom .0) ⌝ }
-    ensures { λ r. ⌜ (arrangedAs r ≡ rule.assembled (nucleusAs n) (placeAs second) (placeAs third) (w .0) (top .0) (bottom .0)) × Bounded r ⌝ }
+fn assembled(n: Nucleus, second: Offset, third: Offset, w: Sp, top: Sp, bottom: Sp) -> Arranged
+    requires { ⌜ ModerateNucleus n × OffsetWithin itemWords second × OffsetWithin itemWords third × Within (words 4) (w .0) × Within (words itemWords) (top .0) × Within (words itemWords) (bottom .0) ⌝ }
+    ensures { λ r. ⌜ (arrangedAs r ≡ rule.assembled (nucleusAs n) (offsetAs second) (offsetAs third) (w .0) (top .0) (bottom .0)) × Bounded r ⌝ }
 {
     let raise = n.raise;
     let own = n.own;
@@ -341,7 +341,7 @@ fn assembled(n: Nucleus, second: Place, third: Place, w: Sp, top: Sp, bottom: Sp
             height: n.size.height.max(top),
             depth: n.size.depth.max(bottom),
         },
-        first: Place {
+        first: Offset {
             across: Sp(0),
             up: raise,
         },

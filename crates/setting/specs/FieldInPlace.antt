@@ -4,7 +4,7 @@
 --     field-in-place   the whole's nodes are a frame around the nodes of the list set alone; the frame goes by the path and
 --                      the size of that list, so that another list of that size has the same frame (`same-frame`)
 -- The proof looks at the three fields of an item and never at its kind: an item comes from three shapes by `arrange`, and its
--- nodes come in one order. What a list adds behind an item goes by the item's class and size alone (`setItems-behind`).
+-- nodes come in one order. What a list adds behind an item goes by the item's class and size alone (`setItems-after`).
 -- Assumes nothing.
 use mathlib.Core.Path.{_≡_, refl, sym, ap, ap₂, _∙_}
 use mathlib.Core.Bool.{false}
@@ -17,7 +17,7 @@ use Rattle.formula.specs.Tree.{Items, Item, Field, nil, cons, noad, kern}
 use Rattle.boxes.specs.declared.styles.Style.{Style}
 use Rattle.spacing.specs.Classes.{Neighbour, classOf, changedClass}
 use Rattle.spacing.specs.Spacing.{spaceBefore}
-use Rattle.boxes.specs.Boxes.{Size, box, Place, Arranged, at}
+use Rattle.boxes.specs.Boxes.{Size, box, Offset, Arranged, at}
 use Rattle.arrange.specs.Arrange.{arrange, firstStyle, secondStyle, thirdStyle, enlarges}
 use Rattle.nodes.specs.Nodes.{Node}
 use Rattle.setting.specs.Setting.{Box, Part, Line, start, movedTo, ruleNodes, itemNodes, itemBox, placed, nextClass, setItems, setItem, setField, setList}
@@ -112,26 +112,26 @@ module _ (F : Font) (s : Style) (kind : Kind) where
 
 -- ---- a line is a fold: what stands so far is left alone, and what is added goes by the last class and the width
 
-abbrev pub behind : List Node → Line → Line
-behind ns line = record { left = line .left; box = sized (line .box .size) (ns ++ line .box .nodes) }
+abbrev pub afterNodes : List Node → Line → Line
+afterNodes ns line = record { left = line .left; box = sized (line .box .size) (ns ++ line .box .nodes) }
 
 abbrev pub withoutNodes : Line → Line
 withoutNodes line = record { left = line .left; box = sized (line .box .size) [] }
 
 module _ (F : Font) (s : Style) where
-  pub setItem-behind : (right : Neighbour) (ns : List Node) (line : Line) (i : Item) →
-      setItem F s right (behind ns line) i ≡ behind ns (setItem F s right line i)
+  pub setItem-after : (right : Neighbour) (ns : List Node) (line : Line) (i : Item) →
+      setItem F s right (afterNodes ns line) i ≡ afterNodes ns (setItem F s right line i)
   unfolding setItem placed
-  setItem-behind right ns line (noad kind x y z) = simp append-assoc
-  setItem-behind right ns line (kern n) = refl
+  setItem-after right ns line (noad kind x y z) = simp append-assoc
+  setItem-after right ns line (kern n) = refl
 
-  pub setItems-behind : (beyond : Neighbour) (ns : List Node) (line : Line) (r : Items) →
-      setItems F s beyond (behind ns line) r ≡ behind ns (setItems F s beyond line r)
+  pub setItems-after : (beyond : Neighbour) (ns : List Node) (line : Line) (r : Items) →
+      setItems F s beyond (afterNodes ns line) r ≡ afterNodes ns (setItems F s beyond line r)
   unfolding setItems
-  setItems-behind beyond ns line nil = refl
-  setItems-behind beyond ns line (cons i r) =
-      ap (λ (m : Line). setItems F s beyond m r) (setItem-behind (nextClass beyond r) ns line i)
-      ∙ setItems-behind beyond ns (setItem F s (nextClass beyond r) line i) r
+  setItems-after beyond ns line nil = refl
+  setItems-after beyond ns line (cons i r) =
+      ap (λ (m : Line). setItems F s beyond m r) (setItem-after (nextClass beyond r) ns line i)
+      ∙ setItems-after beyond ns (setItem F s (nextClass beyond r) line i) r
 
   nextClass-join : (beyond : Neighbour) (b r : Items) → nextClass beyond (join b r) ≡ nextClass (nextClass beyond r) b
   unfolding nextClass
@@ -160,8 +160,8 @@ module _ (F : Font) (s : Style) where
     lineUpTo b = placed F s (nextClass none (t .after)) lineBefore (classOf (t .kind)) b
 
     -- where the item stands in the line
-    abbrev pub itemPlace : Place
-    itemPlace =
+    abbrev pub itemOffset : Offset
+    itemOffset =
         let class = changedClass (lineBefore .left) (classOf (t .kind)) (nextClass none (t .after)) in
         at (lineBefore .box .size .width +ℤ spaceBefore (F .parameter) s (lineBefore .left) class) (pos 0)
 
@@ -170,16 +170,16 @@ module _ (F : Font) (s : Style) where
     lineAfter z = setItems F s none (withoutNodes (lineUpTo (sized z []))) (t .after)
 
     abbrev pub listFrame : Size → Frame
-    listFrame z = record { before = lineBefore .box .nodes; distance = itemPlace; after = lineAfter z .box .nodes }
+    listFrame z = record { before = lineBefore .box .nodes; distance = itemOffset; after = lineAfter z .box .nodes }
 
     abbrev pub listAround : Box → Box
     listAround b = sized (lineAfter (b .size) .box .size) (framed (listFrame (b .size)) (b .nodes))
 
-    lineUpTo-behind : (b : Box) →
+    lineUpTo-after : (b : Box) →
         lineUpTo b
-        ≡ behind (lineBefore .box .nodes ++ movedBy itemPlace (b .nodes)) (withoutNodes (lineUpTo (sized (b .size) [])))
+        ≡ afterNodes (lineBefore .box .nodes ++ movedBy itemOffset (b .nodes)) (withoutNodes (lineUpTo (sized (b .size) [])))
     unfolding placed
-    lineUpTo-behind b = simp append-nil
+    lineUpTo-after b = simp append-nil
 
     nextClass-holder : (l : Items) → nextClass none (cons (holder t l) (t .after)) ≡ some (classOf (t .kind))
     unfolding nextClass
@@ -203,10 +203,10 @@ module _ (F : Font) (s : Style) where
 
     line-behind-item : (b : Box) →
         setItems F s none (lineUpTo b) (t .after)
-        ≡ behind (lineBefore .box .nodes ++ movedBy itemPlace (b .nodes)) (lineAfter (b .size))
+        ≡ afterNodes (lineBefore .box .nodes ++ movedBy itemOffset (b .nodes)) (lineAfter (b .size))
     line-behind-item b =
-        ap (λ (m : Line). setItems F s none m (t .after)) (lineUpTo-behind b)
-        ∙ setItems-behind none (lineBefore .box .nodes ++ movedBy itemPlace (b .nodes))
+        ap (λ (m : Line). setItems F s none m (t .after)) (lineUpTo-after b)
+        ∙ setItems-after none (lineBefore .box .nodes ++ movedBy itemOffset (b .nodes))
         (withoutNodes (lineUpTo (sized (b .size) []))) (t .after)
 
     pub list-in-place : (l : Items) →
@@ -216,7 +216,7 @@ module _ (F : Font) (s : Style) where
         let b = itemAround F s (t .kind) (t .arm) (setList F (stepStyle t s) l) in
         ap (λ (m : Line). m .box) (line-through-item l ∙ line-behind-item b)
         ∙ ap (sized (lineAfter (b .size) .box .size))
-        (append-assoc (lineBefore .box .nodes) (movedBy itemPlace (b .nodes)) (lineAfter (b .size) .box .nodes))
+        (append-assoc (lineBefore .box .nodes) (movedBy itemOffset (b .nodes)) (lineAfter (b .size) .box .nodes))
 
 -- ---- the whole, by the path to a list of the size z within it
 

@@ -6,17 +6,17 @@
 use mathlib.Core.Path.{_≡_, _∙_}
 use mathlib.Core.List.{List, [], _++_, append-nil, append-assoc}
 use lib.IntN.{pos, _+ℤ_}
-use Rattle.boxes.specs.Boxes.{Place, origin}
+use Rattle.boxes.specs.Boxes.{Offset, origin}
 use Rattle.nodes.specs.Nodes.{Node, moved}
 use Rattle.nodes.specs.NodeLaws.{moved-append, moved-twice, moved-nowhere}
 
 pub record Frame : Type 0 where
   pub before : List Node
-  pub distance : Place
+  pub distance : Offset
   pub after : List Node
 
 -- every node moved by one distance
-abbrev pub movedBy : Place → List Node → List Node
+abbrev pub movedBy : Offset → List Node → List Node
 movedBy d ns = moved (d .across) (d .up) ns
 
 abbrev pub framed : Frame → List Node → List Node
@@ -26,7 +26,7 @@ abbrev pub bare : Frame
 bare = record { before = []; distance = origin; after = [] }
 
 -- one distance, and then another
-abbrev pub further : Place → Place → Place
+abbrev pub further : Offset → Offset → Offset
 further p q = record { across = q .across +ℤ p .across; up = q .up +ℤ p .up }
 
 abbrev pub nest : Frame → Frame → Frame

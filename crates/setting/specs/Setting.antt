@@ -18,7 +18,7 @@ use Rattle.boxes.specs.declared.styles.Style.{Style}
 use Rattle.boxes.specs.Styles.{fontSize}
 use Rattle.spacing.specs.Classes.{Neighbour, classOf, changedClass}
 use Rattle.spacing.specs.Spacing.{spaceBefore}
-use Rattle.boxes.specs.Boxes.{Size, Shape, nothing, char, box, Place, Rule, Arranged, zeroSize}
+use Rattle.boxes.specs.Boxes.{Size, Shape, nothing, char, box, Offset, Rule, Arranged, zeroSize}
 use Rattle.arrange.specs.Arrange.{arrange, firstStyle, secondStyle, thirdStyle, enlarges}
 use Rattle.nodes.specs.Nodes.{Node, glyph, rule, moved}
 
@@ -66,11 +66,11 @@ symbolPart size family (some s) =
 
 -- ---- an item, at its own reference point: its own nodes stand before and behind field 1, and fields 2 and 3 behind them
 
-abbrev pub movedTo : Place → List Node → List Node
+abbrev pub movedTo : Offset → List Node → List Node
 movedTo p ns = moved (p .across) (p .up) ns
 
 abbrev pub ruleNode : Rule → Node
-ruleNode r = rule (r .place .across) (r .place .up) (r .width) (r .thickness)
+ruleNode r = rule (r .corner .across) (r .corner .up) (r .width) (r .thickness)
 
 unfoldable pub ruleNodes : List Rule → List Node
 ruleNodes [] = []

@@ -15,13 +15,13 @@ use lib.Seq.{length-take-le}
 use Rattle.scaled.specs.Length.{maxℤ}
 use Rattle.scaled.specs.Signed.{Within}
 use Rattle.scaled.specs.Linear.{#, _⊕_, greatest, eq-by, within-by}
-use Rattle.boxes.specs.declared.Place.{Place as CodePlace}
+use Rattle.boxes.specs.declared.Offset.{Offset as CodeOffset}
 use Rattle.boxes.specs.declared.Ruling.{Ruling}
 use Rattle.boxes.specs.declared.Ruling.the-variants.{Unruled, Ruled}
 use Rattle.boxes.specs.declared.Arranged.{Arranged as CodeArranged}
-use Rattle.boxes.specs.Boxes.{Size, Place, Rule, Arranged}
+use Rattle.boxes.specs.Boxes.{Size, Offset, Rule, Arranged}
 use Rattle.boxes.specs.Values.{sizeAs, rulingAs, arrangedAs}
-use Rattle.boxes.specs.Bounds.{words, itemWords, PlaceWithin, RulingWithin, Bounded}
+use Rattle.boxes.specs.Bounds.{words, itemWords, OffsetWithin, RulingWithin, Bounded}
 use Rattle.nodes.specs.Nodes.{Node, rule, moved, movedNode, bytesInNode, nodeBytes, bytesOf}
 use Rattle.nodes.specs.Bounds.{greatestLength}
 use Rattle.nodes.specs.NodeLaws.{length-node-bytes, length-bytes, bytes-append, length-moved, moved-append, moved-twice}
@@ -30,7 +30,7 @@ use Rattle.nodes.specs.BufferLaws.{behind-at, moved-run-at, put-at}
 use Rattle.nodes.specs.Kept.{Kept, kept-all, kept-more, kept-then, kept-put, kept-moved, kept-behind}
 use Rattle.nodes.specs.Hull.{Hull, hull, joined, movedHull, HullWithin}
 use Rattle.nodes.specs.HullLaws.{hull-append, hull-moved, join-within, moved-within, within-more}
-use Rattle.nodes.specs.Runs.{hullOf}
+use Rattle.nodes.specs.Values.{hullOf}
 use Rattle.setting.specs.Setting.{Part, ruleNode, ruleNodes, itemNodes}
 use Rattle.setting.specs.SettingLaws.{length-rules}
 use Rattle.walk.specs.declared.lines.Line as lines
@@ -46,16 +46,16 @@ zero-place : (z : ℤ) → z +ℤ pos 0 ≡ z
 zero-place z = eq-by (# z ⊕ # (pos 0)) (# z) (omega arith)
 
 -- a field's nodes at a place of the item
-abbrev placedAt : ℤ → Place → List Node → List Node
+abbrev placedAt : ℤ → Offset → List Node → List Node
 placedAt x p ns = moved (x +ℤ p .across) (p .up) ns
 
-placed-is : (x : ℤ) (p : Place) (ns : List Node) → moved x (pos 0) (moved (p .across) (p .up) ns) ≡ placedAt x p ns
+placed-is : (x : ℤ) (p : Offset) (ns : List Node) → moved x (pos 0) (moved (p .across) (p .up) ns) ≡ placedAt x p ns
 placed-is x p ns = rw (moved-twice x (pos 0) (p .across) (p .up) ns, other-way (p .across) x, zero-place (p .up))
 
 -- a rule of the item, as the code places it
 pub rule-moved : (x : ℤ) (r : Rule) →
-    movedNode x (pos 0) (ruleNode r) ≡ rule (x +ℤ r .place .across) (r .place .up) (r .width) (r .thickness)
-rule-moved x r = rw (other-way (r .place .across) x, zero-place (r .place .up))
+    movedNode x (pos 0) (ruleNode r) ≡ rule (x +ℤ r .corner .across) (r .corner .up) (r .width) (r .thickness)
+rule-moved x r = rw (other-way (r .corner .across) x, zero-place (r .corner .up))
 
 -- ---- a buffer, part by part: w stands before
 
@@ -189,7 +189,7 @@ rules-kept x (r ∷ rs) n b =
 
 module _ (x : ℤ) (A : Arranged) (i j k : ℕ) where
   -- a field of n nodes, behind others
-  field-kept : (p : Place) (at n : ℕ) (b : List ℕ) → at + n ≤ itemCount x A i j k →
+  field-kept : (p : Offset) (at n : ℕ) (b : List ℕ) → at + n ≤ itemCount x A i j k →
       Kept (itemCount x A i j k) b (behindNodes at (movedFront (x +ℤ p .across) (p .up) n) b)
   field-kept p at n b few =
       let dx = x +ℤ p .across in
@@ -212,7 +212,7 @@ few-rules (Ruled r) = omega arith
 
 module _ {m : ℕ} {x : ℤ} (near : Within m x) where
   -- nodes within the greatest length, moved
-  moved-reach : (h : Hull) (p : CodePlace) → HullWithin greatestLength h → PlaceWithin itemWords p →
+  moved-reach : (h : Hull) (p : CodeOffset) → HullWithin greatestLength h → OffsetWithin itemWords p →
       HullWithin (m + words itemWords + greatestLength) (movedHull (x +ℤ p .across .0) (p .up .0) h)
   moved-reach h p small place =
       let dx = x +ℤ p .across .0 in
@@ -227,8 +227,8 @@ module _ {m : ℕ} {x : ℤ} (near : Within m x) where
   rules-reach Unruled small = tt
   rules-reach (Ruled r) small =
       let n = m + words itemWords + greatestLength in
-      let right = # (r .place .across .0) ⊕ # x in
-      let above = # (r .place .up .0) ⊕ # (pos 0) in
+      let right = # (r .corner .across .0) ⊕ # x in
+      let above = # (r .corner .up .0) ⊕ # (pos 0) in
       (within-by right n (omega arith), within-by right n (omega arith), within-by above n (omega arith), within-by above n (omega arith))
 
   item-reach : (A : CodeArranged) (f g h : Hull) → Bounded A → HullWithin greatestLength f → HullWithin greatestLength g →

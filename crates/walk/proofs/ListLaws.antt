@@ -38,18 +38,18 @@ use Rattle.nodes.specs.Lent.{drawn-behind}
 use Rattle.nodes.specs.Kept.{kept-all, kept-more, kept-next}
 use Rattle.nodes.specs.Hull.{hull, joined}
 use Rattle.nodes.specs.HullLaws.{join-none, join-assoc, hull-append, within-more}
-use Rattle.nodes.specs.Runs.{hullOf, isLarge}
+use Rattle.nodes.specs.Values.{hullOf, isLarge}
 use Rattle.setting.specs.Setting.{Line, nextClass, setItem, setItems}
 use Rattle.setting.specs.Missing.{_orElse_, later, missingItem, missingItems}
 use Rattle.setting.specs.Fitting.{itemFits, itemsFit}
-use Rattle.setting.specs.FieldInPlace.{behind, sized, setItem-behind}
+use Rattle.setting.specs.FieldInPlace.{afterNodes, sized, setItem-after}
 use Rattle.walk.specs.declared.lines.Line as lines
 use Rattle.walk.specs.declared.lists.ItemsSet.the-variants as items
-use Rattle.walk.specs.declared.lists.Step.{Step}
-use Rattle.walk.specs.declared.lists.Step.the-variants as steps
+use Rattle.walk.specs.declared.lists.ItemSet.{ItemSet}
+use Rattle.walk.specs.declared.lists.ItemSet.the-variants as steps
 use Rattle.walk.specs.Values.{bareLine}
 use Rattle.walk.specs.Bounds.{longest, stride, LineWithin}
-use Rattle.walk.specs.Walked.{KernedLine, Added, ItemsGiven, ItemsDone, StepDone, ItemDone}
+use Rattle.walk.specs.Walked.{KernedLine, Added, ItemsGiven, ItemsDone, ItemSetDone, ItemDone}
 
 -- ---- what goes behind a line
 
@@ -102,7 +102,7 @@ unfolding missingItem
 kern-done F s beyond bytes l r b n opens k =
     let right = nextClass beyond (treeOf (drop kernBytes bytes)) in
     subst (λ (o : Opening).
-    StepDone F s (nextClass beyond (treeOf (drop (itemSize bytes o) bytes))) (itemOf bytes o) (itemSize bytes o) l b (steps.Next kernBytes r) b)
+    ItemSetDone F s (nextClass beyond (treeOf (drop (itemSize bytes o) bytes))) (itemOf bytes o) (itemSize bytes o) l b (steps.Next kernBytes r) b)
     (sym opens) (refl, refl, added-kern F s right (n .0) l r b (kern-small bytes n opens) k)
 
 -- a line behind more bytes
@@ -146,7 +146,7 @@ or-more false false c = refl
 pub added-next : {f g : Bool} {M N : Line} {k n j : ℕ} {l₀ l r : lines.Line} {b₀ b v : List ℕ} → Added f M k l₀ b₀ l b →
     j ≡ roomFor (l .run .count - l₀ .run .count) (length b) →
     Added g N n l (take (length b - j) (drop j b)) r v →
-    Added (f && g) (behind (M .box .nodes) N) (k + n) l₀ b₀ r (putMid j (length b - j) b v)
+    Added (f && g) (afterNodes (M .box .nodes) N) (k + n) l₀ b₀ r (putMid j (length b - j) b v)
 added-next {f} {g} {M} {N} {k} {n} {j} {l₀} {l} {r} {b₀} {b} {v} a at d =
     let both = length-append (M .box .nodes) (N .box .nodes) in
     let each = and-eq-true-iff f g .0 in
@@ -245,11 +245,11 @@ module _ (F : Font) (st : Style) (beyond : Neighbour) (s : List ℕ) (l₀ : lin
           (later-again at _ _ ∙ ap (λ (n : ℕ). later (at + n) (missingItems F st (treeOf (drop size left)))) (item-bytes left (openingOf left) (stepped .item)))
 
       -- what the setter of the item was lent, and has given back
-      abbrev ItemSet : Step → Type 0
-      ItemSet r = ItemDone F st beyond (take (length s - at) left) l (take (length b - j) (drop j b)) r v
+      abbrev Lent : ItemSet → Type 0
+      Lent r = ItemDone F st beyond (take (length s - at) left) l (take (length b - j) (drop j b)) r v
 
       module _ (place : j ≡ roomFor (l .run .count - l₀ .run .count) (length b)) where
-        pub along-stop : {missing : ℕ} → ItemSet (steps.Missing missing) →
+        pub along-stop : {missing : ℕ} → Lent (steps.Missing missing) →
             ItemsDone F st beyond (treeOf s) (length s) l₀ b₀ (items.Missing (at + missing)) (putMid j (length b - j) b v)
         unfolding later
         along-stop {missing} set =
@@ -260,7 +260,7 @@ module _ (F : Font) (st : Style) (beyond : Neighbour) (s : List ℕ) (l₀ : lin
             let few = a .added .few in
             (lacks-first ∙ rw (d .0), omega arith, kept-more (omega arith) (kept-next (omega arith) (a .added .kept) place (d .2)))
 
-        pub along-next : {n : ℕ} {r : lines.Line} → ItemSet (steps.Next n r) →
+        pub along-next : {n : ℕ} {r : lines.Line} → Lent (steps.Next n r) →
             (0 < n) × Along F st beyond s l₀ b₀ (at + n) r (putMid j (length b - j) b v)
         unfolding later itemsFit setItems
         along-next {n} {r} set =
@@ -278,7 +278,7 @@ module _ (F : Font) (st : Style) (beyond : Neighbour) (s : List ℕ) (l₀ : lin
               omega arith,
               record {
                 fits = a .fits && itemFits F st first;
-                line = behind (M .box .nodes) N;
+                line = afterNodes (M .box .nodes) N;
                 low = omega arith;
                 rest = rw (← rest) (p .rest);
                 lacks =
@@ -289,14 +289,14 @@ module _ (F : Font) (st : Style) (beyond : Neighbour) (s : List ℕ) (l₀ : lin
                     ∙ ap (λ (t : List ℕ). a .fits && itemFits F st first && itemsFit F st (treeOf t)) rest;
                 sets = λ h.
                     let before = and-eq-true-iff (a .fits) (itemFits F st first) .0 h .0 in
-                    let bare : M ≡ behind (M .box .nodes) (bareLine l) =
+                    let bare : M ≡ afterNodes (M .box .nodes) (bareLine l) =
                     ap₂ (λ (m : Neighbour) (z : Size). record { left = m; box = sized z (M .box .nodes) })
                     (sym (a .added .left-is before)) (sym (a .added .size-is before))
                     ∙ ap (λ (ns : List Node). record { left = neighbourAs (l .left); box = sized (sizeAs (l .size)) ns }) (sym (append-nil (M .box .nodes))) in
                     a .sets before ∙ ap (setItems F st beyond M) (p .tree)
                     ∙ ap (λ (m : Line). setItems F st beyond (setItem F st right m first) (treeOf (drop size left))) bare
-                    ∙ ap (λ (m : Line). setItems F st beyond m (treeOf (drop size left))) (setItem-behind F st right (M .box .nodes) (bareLine l) first)
-                    ∙ ap (λ (t : List ℕ). setItems F st beyond (behind (M .box .nodes) N) (treeOf t)) rest;
+                    ∙ ap (λ (m : Line). setItems F st beyond m (treeOf (drop size left))) (setItem-after F st right (M .box .nodes) (bareLine l) first)
+                    ∙ ap (λ (t : List ℕ). setItems F st beyond (afterNodes (M .box .nodes) N) (treeOf t)) rest;
                 added = added-next (a .added) place (d .2);
               },
             )

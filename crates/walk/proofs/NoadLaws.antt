@@ -37,7 +37,7 @@ use Rattle.nodes.specs.Nodes.{Node, bytesInNode, bytesOf, moved}
 use Rattle.nodes.specs.Buffer.{roomFor}
 use Rattle.nodes.specs.Drawn.{Drawn}
 use Rattle.nodes.specs.Kept.{Kept, kept-more, kept-then}
-use Rattle.nodes.specs.Runs.{isLarge}
+use Rattle.nodes.specs.Values.{isLarge}
 use Rattle.setting.specs.Setting.{Part, nextClass, itemNodes, itemBox, placed, setField, setItem}
 use Rattle.setting.specs.Missing.{_orElse_, missingField, missingItem}
 use Rattle.setting.specs.Fitting.{fieldFits, itemFits}
@@ -45,11 +45,11 @@ use Rattle.walk.specs.declared.parts.Part as parts
 use Rattle.walk.specs.declared.parts.FieldSet.{FieldSet}
 use Rattle.walk.specs.declared.parts.FieldSet.the-variants as field
 use Rattle.walk.specs.declared.lines.Line as lines
-use Rattle.walk.specs.declared.lists.Step.{Step}
-use Rattle.walk.specs.declared.lists.Step.the-variants as step
+use Rattle.walk.specs.declared.lists.ItemSet.{ItemSet}
+use Rattle.walk.specs.declared.lists.ItemSet.the-variants as step
 use Rattle.walk.specs.Values.{bareLine}
 use Rattle.walk.specs.Bounds.{longest, LineWithin}
-use Rattle.walk.specs.Walked.{EmptyPart, PartWithin, FieldWhole, FieldDone, HeadDone, ChangesAlike, FinishGiven, Finished, Added, StepDone, ItemDone, besideSize, itemCount, itemBuffer}
+use Rattle.walk.specs.Walked.{EmptyPart, PartWithin, FieldWhole, FieldDone, HeadDone, ChangesAlike, FinishGiven, Finished, Added, ItemSetDone, ItemDone, besideSize, itemCount, itemBuffer}
 use Rattle.walk.proofs.PartLaws.{field-empty}
 use Rattle.walk.proofs.ItemLaws.{item-count, item-hull, item-bytes, item-kept}
 use Rattle.walk.proofs.Laid.{Laid, laid-start, laid-gap, laid-kept, laid-field, laid-none}
@@ -458,12 +458,12 @@ module _ (F : Font) (s : Style) (kind : Kind) (bytes : List ℕ) where
 
   module _ (beyond : Neighbour) (l : lines.Line) (b b′ : List ℕ) (opens : openingOf bytes ≡ Fields kind) where
     -- the item by its opening
-    item-is : (r : Step) →
-        StepDone F s (nextClass beyond (treeOf (drop (end bytes kind) bytes))) (itemOf bytes (Fields kind)) (end bytes kind) l b r b′ →
+    item-is : (r : ItemSet) →
+        ItemSetDone F s (nextClass beyond (treeOf (drop (end bytes kind) bytes))) (itemOf bytes (Fields kind)) (end bytes kind) l b r b′ →
         ItemDone F s beyond bytes l b r b′
     item-is r d =
         subst (λ (o : Opening).
-        StepDone F s (nextClass beyond (treeOf (drop (itemSize bytes o) bytes))) (itemOf bytes o) (itemSize bytes o) l b r b′) (sym opens) d
+        ItemSetDone F s (nextClass beyond (treeOf (drop (itemSize bytes o) bytes))) (itemOf bytes o) (itemSize bytes o) l b r b′) (sym opens) d
 
     pub noad-lacks : {place : ℕ} → missingItem F s (itemOf bytes (Fields kind)) ≡ some place → place ≤ end bytes kind →
         Kept (end bytes kind) b b′ → ItemDone F s beyond bytes l b (step.Missing place) b′

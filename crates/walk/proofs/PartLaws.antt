@@ -11,7 +11,7 @@ use Prim.Native.Nat.{ℕ, _+_, _-_, _≤_, _<_}
 use native.Mathlib.Omega.{arith}
 use lib.IntN.{pos}
 use Rattle.font.specs.Font.{Font}
-use Rattle.font.specs.Answers.{metricsAs}
+use Rattle.font.specs.Values.{metricsAs}
 use Rattle.formula.specs.Tree.{Items, empty, symbol, list, listOpeningBytes}
 use Rattle.boxes.specs.declared.styles.Style.{Style}
 use Rattle.boxes.specs.declared.Shape.the-variants.{Char}
@@ -25,7 +25,7 @@ use Rattle.nodes.specs.Buffer.{put}
 use Rattle.nodes.specs.Drawn.{Drawn, drawn-none, drawn-put}
 use Rattle.nodes.specs.Kept.{kept-all, kept-more, kept-put}
 use Rattle.nodes.specs.Hull.{around, HullWithin}
-use Rattle.nodes.specs.Runs.{RunIs, PointRun}
+use Rattle.nodes.specs.Values.{RunIs, PointRun}
 use Rattle.nodes.specs.RunLaws.{run-none, run-node}
 use Rattle.setting.specs.Setting.{Part, symbolIn, symbolPart, setField, setList}
 use Rattle.setting.specs.Missing.{later, absentAt, missingField}

@@ -6,7 +6,7 @@ use Prim.Native.Nat.{ℕ, _*_, _^_, _≤_}
 use Rattle.scaled.specs.Signed.{Within}
 use Rattle.boxes.specs.Bounds.{words, itemWords}
 use Rattle.nodes.specs.Hull.{HullWithin}
-use Rattle.nodes.specs.Runs.{hullOf}
+use Rattle.nodes.specs.Values.{hullOf}
 use Rattle.walk.specs.declared.lines.Line as lines
 
 abbrev pub longest : ℕ

@@ -8,11 +8,11 @@ use mathlib.Core.Path.{_≡_}
 use mathlib.Core.Bool.{Bool, not, _&&_}
 use mathlib.Core.List.{[]}
 use mathlib.Core.Option.{Option, none, some}
-use Rattle.font.specs.Answers.{metricsAs}
+use Rattle.font.specs.Values.{metricsAs}
 use Rattle.spacing.specs.Values.{neighbourAs}
 use Rattle.boxes.specs.Values.{sizeAs, shapeAs}
 use Rattle.nodes.specs.Hull.{hullFits}
-use Rattle.nodes.specs.Runs.{hullOf, isLarge, RunIs}
+use Rattle.nodes.specs.Values.{hullOf, isLarge, RunIs}
 use Rattle.setting.specs.Setting.{Symbol, Part, Line}
 use Rattle.setting.specs.Fitting.{sizeFits}
 use Rattle.walk.specs.declared.symbols.Symbol as symbols

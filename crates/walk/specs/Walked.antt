@@ -20,10 +20,10 @@ use Rattle.formula.specs.declared.Kind.{Kind}
 use Rattle.formula.specs.declared.Opening.the-variants.{Fields}
 use Rattle.formula.specs.Tree.{Items, Item, Field}
 use Rattle.formula.specs.Heads.{openingOf}
-use Rattle.formula.specs.Places.{Readable, treeOf, behind, fieldIn, itemSize, itemOf, GoodFieldAt}
+use Rattle.formula.specs.Places.{Readable, treeOf, fieldEnd, fieldIn, itemSize, itemOf, GoodFieldAt}
 use Rattle.boxes.specs.declared.styles.Style.{Style}
 use Rattle.boxes.specs.declared.Shape.the-variants.{Nothing, Box}
-use Rattle.boxes.specs.declared.Place.{Place as CodePlace}
+use Rattle.boxes.specs.declared.Offset.{Offset as CodeOffset}
 use Rattle.boxes.specs.declared.Size.{Size as CodeSize}
 use Rattle.boxes.specs.declared.Ruling.{Ruling}
 use Rattle.boxes.specs.declared.Arranged.{Arranged as CodeArranged}
@@ -31,11 +31,11 @@ use Rattle.spacing.specs.declared.classes.Neighbour.the-variants.{End, Atom}
 use Rattle.boxes.specs.Parameters.{Parameters}
 use Rattle.spacing.specs.Classes.{Neighbour, classOf, changedClass}
 use Rattle.spacing.specs.Spacing.{spaceBefore}
-use Rattle.boxes.specs.Boxes.{Size, zeroSize, Place, Rule, Arranged}
+use Rattle.boxes.specs.Boxes.{Size, zeroSize, Offset, Rule, Arranged}
 use Rattle.arrange.specs.Arrange.{arrange}
 use Rattle.boxes.specs.Values.{parametersIn, sizeAs, shapeAs, arrangedAs}
 use Rattle.spacing.specs.Values.{neighbourAs}
-use Rattle.boxes.specs.Bounds.{words, itemWords, ModerateShape, PlaceWithin, RulingWithin, Bounded}
+use Rattle.boxes.specs.Bounds.{words, itemWords, ModerateShape, OffsetWithin, RulingWithin, Bounded}
 use Rattle.nodes.specs.declared.run.Run.{Run}
 use Rattle.nodes.specs.Nodes.{movedNode, moved}
 use Rattle.nodes.specs.Bounds.{greatestLength}
@@ -43,7 +43,7 @@ use Rattle.nodes.specs.Buffer.{put, movedFront, behindNodes}
 use Rattle.nodes.specs.Drawn.{Drawn}
 use Rattle.nodes.specs.Kept.{Kept}
 use Rattle.nodes.specs.Hull.{Hull, none as unreached, joined, movedHull, hull, HullWithin}
-use Rattle.nodes.specs.Runs.{hullOf, isLarge, RunIs, EmptyRun, JoinedRun}
+use Rattle.nodes.specs.Values.{hullOf, isLarge, RunIs, EmptyRun, JoinedRun}
 use Rattle.setting.specs.Setting.{Line, start, ruleNode, ruleNodes, nextClass, setField, setItem, setItems, setList}
 use Rattle.setting.specs.Missing.{missingField, missingItem, missingItems}
 use Rattle.setting.specs.Fitting.{fieldFits, itemFits, itemsFit}
@@ -51,11 +51,11 @@ use Rattle.walk.specs.declared.parts.Part as parts
 use Rattle.walk.specs.declared.parts.FieldSet.{FieldSet}
 use Rattle.walk.specs.declared.parts.FieldSet.the-variants as field
 use Rattle.walk.specs.declared.lines.Line as lines
-use Rattle.walk.specs.declared.items.Setting.{Setting}
+use Rattle.walk.specs.declared.items.Placing.{Placing}
 use Rattle.walk.specs.declared.lists.ItemsSet.{ItemsSet}
 use Rattle.walk.specs.declared.lists.ItemsSet.the-variants as items
-use Rattle.walk.specs.declared.lists.Step.{Step}
-use Rattle.walk.specs.declared.lists.Step.the-variants as step
+use Rattle.walk.specs.declared.lists.ItemSet.{ItemSet}
+use Rattle.walk.specs.declared.lists.ItemSet.the-variants as step
 use Rattle.walk.specs.Values.{PartIs, bareLine, lineFits}
 use Rattle.walk.specs.Bounds.{longest, LineWithin}
 
@@ -142,7 +142,7 @@ abbrev pub ChangesAlike : Kind → Neighbour → Neighbour → Type 0
 ChangesAlike kind right right′ = (left : Neighbour) → changedClass left (classOf kind) right ≡ changedClass left (classOf kind) right′
 
 -- its class, its x and its arrangement A, behind a line whose last atom is `left`
-pub record SettingIs (P : Parameters) (s : Style) (kind : Kind) (right left : Neighbour) (width : ℤ) (A : Arranged) (c : Setting) : Type 0 where
+pub record PlacingIs (P : Parameters) (s : Style) (kind : Kind) (right left : Neighbour) (width : ℤ) (A : Arranged) (c : Placing) : Type 0 where
   pub class-is : c .class ≡ changedClass left (classOf kind) right
   pub space : Within (words 1) (spaceBefore P s left (c .class))
   pub x-is : c .x .0 ≡ width +ℤ spaceBefore P s left (c .class)
@@ -150,13 +150,13 @@ pub record SettingIs (P : Parameters) (s : Style) (kind : Kind) (right left : Ne
   pub bounded : Bounded (c .arranged)
 
 -- a field's nodes behind others, and where they are to go
-pub record MoveGiven (before part : Run) (x : ℤ) (p : CodePlace) : Type 0 where
+pub record MoveGiven (before part : Run) (x : ℤ) (p : CodeOffset) : Type 0 where
   pub few : before .count + part .count < 2 ^ 64
   pub hull : HullWithin greatestLength (hullOf part)
   pub x-small : Within (2 ^ 54) x
-  pub place : PlaceWithin itemWords p
+  pub place : OffsetWithin itemWords p
 
-pub record FieldMoved (before part : Run) (x : ℤ) (p : Place) (r : Run) (b b′ : List ℕ) : Type 0 where
+pub record FieldMoved (before part : Run) (x : ℤ) (p : Offset) (r : Run) (b b′ : List ℕ) : Type 0 where
   pub count-is : r .count ≡ before .count + part .count
   pub large-is : isLarge r ≡ (isLarge before || isLarge part)
   pub hull-is : hullOf r ≡ joined (hullOf before) (movedHull (x +ℤ p .across) (p .up) (hullOf part))
@@ -301,18 +301,18 @@ ItemsDone F s beyond l bytes line b (items.Whole r) b′ =
 ItemsDone F s beyond l bytes line b (items.Missing place) b′ =
     (missingItems F s l ≡ some place) × (place ≤ bytes) × Kept bytes b b′
 
-abbrev pub StepDone : Font → Style → Neighbour → Item → ℕ → lines.Line → List ℕ → Step → List ℕ → Type 0
-StepDone F s right i bytes line b (step.Next n r) b′ =
+abbrev pub ItemSetDone : Font → Style → Neighbour → Item → ℕ → lines.Line → List ℕ → ItemSet → List ℕ → Type 0
+ItemSetDone F s right i bytes line b (step.Next n r) b′ =
     (missingItem F s i ≡ none) × (n ≡ bytes) × Added (itemFits F s i) (setItem F s right (bareLine line) i) n line b r b′
-StepDone F s right i bytes line b (step.Missing place) b′ =
+ItemSetDone F s right i bytes line b (step.Missing place) b′ =
     (missingItem F s i ≡ some place) × (place ≤ bytes) × Kept bytes b b′
 
 -- the item at the head of some bytes, and the class of the atom that follows
-abbrev pub ItemDone : Font → Style → Neighbour → List ℕ → lines.Line → List ℕ → Step → List ℕ → Type 0
+abbrev pub ItemDone : Font → Style → Neighbour → List ℕ → lines.Line → List ℕ → ItemSet → List ℕ → Type 0
 ItemDone F s beyond bytes line b r b′ =
     let o = openingOf bytes in
     let n = itemSize bytes o in
-    StepDone F s (nextClass beyond (treeOf (drop n bytes))) (itemOf bytes o) n line b r b′
+    ItemSetDone F s (nextClass beyond (treeOf (drop n bytes))) (itemOf bytes o) n line b r b′
 
 -- a list at its own reference point
 pub record ListWhole (F : Font) (s : Style) (l : Items) (bytes : ℕ) (c : lines.Line) : Type 0 where
@@ -331,4 +331,4 @@ ListDone F s l bytes b (items.Missing place) b′ =
 
 -- the field at a place of its item
 abbrev pub HeadDone : Font → Style → Bool → List ℕ → ℕ → List ℕ → FieldSet → List ℕ → Type 0
-HeadDone F s enlarge bytes at b r b′ = FieldDone F s enlarge (fieldIn bytes at) at (behind bytes at) b r b′
+HeadDone F s enlarge bytes at b r b′ = FieldDone F s enlarge (fieldIn bytes at) at (fieldEnd bytes at) b r b′

@@ -21,7 +21,7 @@ use Rattle.nodes.specs.Bounds.{nodesFit}
 use Rattle.nodes.specs.Drawn.{Drawn}
 use Rattle.nodes.specs.Hull.{hullFits, joined}
 use Rattle.nodes.specs.HullLaws.{fits-hull}
-use Rattle.nodes.specs.Runs.{hullOf, isLarge, RunIs}
+use Rattle.nodes.specs.Values.{hullOf, isLarge, RunIs}
 use Rattle.setting.specs.Setting.{Box, Line, start, setItems, setList}
 use Rattle.setting.specs.Fitting.{sizeFits, boxFits, itemsFit}
 use Rattle.walk.specs.declared.lines.Line as lines

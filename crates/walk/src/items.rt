@@ -1,17 +1,17 @@
 // An item whose fields have been set, arranged and put at its place in the list. Nothing here calls a setter.
 
 ghost use Rattle.arrange.specs.Arrange as definition;
-ghost use Rattle.boxes.specs.Values.{parametersIn, shapeAs, placeAs, rulingAs, arrangedAs};
+ghost use Rattle.boxes.specs.Values.{parametersIn, shapeAs, offsetAs, rulingAs, arrangedAs};
 ghost use Rattle.spacing.specs.Values.{neighbourAs};
 ghost use Rattle.boxes.specs.Bounds.{ModerateShape};
 ghost use Rattle.walk.specs.Bounds.{longest, LineWithin};
-ghost use Rattle.walk.specs.Walked.{SettingIs, MoveGiven, FieldMoved, RulesGiven, RulesPut, PutGiven, ItemPut, FinishGiven, Finished};
+ghost use Rattle.walk.specs.Walked.{PlacingIs, MoveGiven, FieldMoved, RulesGiven, RulesPut, PutGiven, ItemPut, FinishGiven, Finished};
 use crate::growing::extended;
 use crate::lines::Line;
 use crate::parts::Part;
 use arrange::arrange;
 use boxes::Arranged;
-use boxes::Place;
+use boxes::Offset;
 use boxes::Ruling;
 use boxes::Shape;
 use boxes::parameters::Parameters;
@@ -28,14 +28,14 @@ use spacing::classes::class_of;
 use spacing::space_before;
 
 // Where an item goes: its class after its change, x in the list, and how it is arranged.
-pub struct Setting {
+pub struct Placing {
     pub class: Class,
     pub x: Sp,
     pub arranged: Arranged,
 }
 
 // The item's class is changed between its neighbours, and space goes before it.
-fn setting_of(
+fn placing_of(
     p: &Parameters,
     style: Style,
     kind: Kind,
@@ -44,9 +44,9 @@ fn setting_of(
     x: Shape,
     y: Shape,
     z: Shape,
-) -> Setting
+) -> Placing
     requires { ⌜ LineWithin longest line × ModerateShape x × ModerateShape y × ModerateShape z ⌝ }
-    ensures { λ r. ⌜ SettingIs (parametersIn (now (p .entry))) style kind (neighbourAs right) (neighbourAs (line .left)) (line .size .width .0) (definition.arrange (parametersIn (now (p .entry))) style kind (shapeAs x) (shapeAs y) (shapeAs z)) r ⌝ }
+    ensures { λ r. ⌜ PlacingIs (parametersIn (now (p .entry))) style kind (neighbourAs right) (neighbourAs (line .left)) (line .size .width .0) (definition.arrange (parametersIn (now (p .entry))) style kind (shapeAs x) (shapeAs y) (shapeAs z)) r ⌝ }
 {
     let left = line.left;
     let size = line.size;
@@ -54,7 +54,7 @@ fn setting_of(
     let class = changed_class(left, class_of(kind), right);
     let across = width.plus(space_before(p, style, left, class));
     let arranged = arrange(p, style, kind, x, y, z);
-    Setting {
+    Placing {
         class,
         x: across,
         arranged,
@@ -62,13 +62,13 @@ fn setting_of(
 }
 
 // Moves a field's nodes, which stand behind those of `before`, to their place in the list.
-fn move_field(before: Run, field: Run, x: Sp, place: Place, buf: &mut [u8]) -> Run
-    requires { ⌜ MoveGiven before field (x .0) place ⌝ }
-    ensures { λ r. ⌜ FieldMoved before field (x .0) (placeAs place) r (now (buf .entry)) (now (buf .exit)) ⌝ }
+fn move_field(before: Run, field: Run, x: Sp, offset: Offset, buf: &mut [u8]) -> Run
+    requires { ⌜ MoveGiven before field (x .0) offset ⌝ }
+    ensures { λ r. ⌜ FieldMoved before field (x .0) (offsetAs offset) r (now (buf .entry)) (now (buf .exit)) ⌝ }
 {
-    let across = place.across;
+    let across = offset.across;
     let dx = x.plus(across);
-    let dy = place.up;
+    let dy = offset.up;
     move_nodes(buf, before.count, field.count, dx, dy);
     before.joined(field.moved(dx, dy))
 }
@@ -81,10 +81,10 @@ fn put_own(before: Run, own: Ruling, x: Sp, buf: &mut [u8]) -> Run
     match own {
         Ruling::Unruled => before,
         Ruling::Ruled(r) => {
-            let place = r.place;
-            let across = place.across;
+            let corner = r.corner;
+            let across = corner.across;
             let dx = x.plus(across);
-            let dy = place.up;
+            let dy = corner.up;
             put_rule(buf, before.count, dx, dy, r.width, r.thickness);
             before.joined(Run::point(dx, dy))
         }
@@ -125,10 +125,10 @@ pub fn finished(
     let first = a.shape;
     let second = b.shape;
     let third = c.shape;
-    let setting = setting_of(p, style, kind, right, line, first, second, third);
-    let class = setting.class;
-    let x = setting.x;
-    let arranged = setting.arranged;
+    let placing = placing_of(p, style, kind, right, line, first, second, third);
+    let class = placing.class;
+    let x = placing.x;
+    let arranged = placing.arranged;
     let run = put_item(x, arranged, a.run, b.run, c.run, buf);
     extended(line, class, x, arranged.size, run)
 }

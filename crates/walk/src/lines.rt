@@ -4,7 +4,7 @@ ghost use mathlib.Core.Path.{_≡_};
 ghost use mathlib.Core.Bool.{_&&_, not};
 ghost use Rattle.boxes.specs.Values.{sizeAs};
 ghost use Rattle.nodes.specs.Hull.{hullFits};
-ghost use Rattle.nodes.specs.Runs.{hullOf, isLarge};
+ghost use Rattle.nodes.specs.Values.{hullOf, isLarge};
 ghost use Rattle.setting.specs.Fitting.{sizeFits};
 use boxes::Size;
 use nodes::run::Run;

@@ -44,7 +44,7 @@ pub enum ItemsSet {
 }
 
 // How many bytes an item has, and the line with it; or the place in the item of its first missing symbol.
-enum Step {
+enum ItemSet {
     Next(usize, Line),
     Missing(usize),
 }
@@ -76,11 +76,11 @@ fn set_items(
         let j = room(l.run.count - line.run.count, buf.len());
         let step = set_item(table, p, style, beyond, &s[at..], l, &mut buf[j..]);
         match step {
-            Step::Next(size, next) => {
+            ItemSet::Next(size, next) => {
                 at += size;
                 l = next;
             }
-            Step::Missing(place) => {
+            ItemSet::Missing(place) => {
                 return ItemsSet::Missing(at + place);
             }
         }
@@ -97,15 +97,15 @@ fn set_item(
     s: &[u8],
     line: Line,
     buf: &mut [u8],
-) -> Step
+) -> ItemSet
     requires { ⌜ ItemsGiven (now table) (now p) (now s) line × (0 < length (now s)) ⌝ }
     ensures { λ r. ⌜ ItemDone (fontOf (now (table .entry))) style (neighbourAs beyond) (now (s .entry)) line (now (buf .entry)) r (now (buf .exit)) ⌝ }
 {
     let o = opening(s);
     match o {
-        Opening::NoItem => Step::Missing(0), // not in a list that reads
+        Opening::NoItem => ItemSet::Missing(0), // not in a list that reads
         Opening::Fields(kind) => set_noad(table, p, style, kind, beyond, s, line, buf),
-        Opening::Kern(n) => Step::Next(KERN_BYTES, kerned(line, n)),
+        Opening::Kern(n) => ItemSet::Next(KERN_BYTES, kerned(line, n)),
     }
 }
 
@@ -119,7 +119,7 @@ fn set_noad(
     s: &[u8],
     line: Line,
     buf: &mut [u8],
-) -> Step
+) -> ItemSet
     requires { ⌜ NoadGiven (now table) (now p) (now s) kind line ⌝ }
     ensures { λ r. ⌜ ItemDone (fontOf (now (table .entry))) style (neighbourAs beyond) (now (s .entry)) line (now (buf .entry)) r (now (buf .exit)) ⌝ }
 {
@@ -132,7 +132,7 @@ fn set_noad(
     let a = match x {
         FieldSet::Whole(a) => a,
         FieldSet::Missing(place) => {
-            return Step::Missing(place);
+            return ItemSet::Missing(place);
         }
     };
     let n = own.before + a.run.count + own.behind;
@@ -142,7 +142,7 @@ fn set_noad(
     let b = match y {
         FieldSet::Whole(b) => b,
         FieldSet::Missing(place) => {
-            return Step::Missing(place);
+            return ItemSet::Missing(place);
         }
     };
     let k = room(n + b.run.count, buf.len());
@@ -154,12 +154,12 @@ fn set_noad(
     let c = match z {
         FieldSet::Whole(c) => c,
         FieldSet::Missing(place) => {
-            return Step::Missing(place);
+            return ItemSet::Missing(place);
         }
     };
     let end = c.end;
     let right = right_of(kind, beyond, &s[end..]);
-    Step::Next(end, finished(p, style, kind, right, line, a, b, c, buf))
+    ItemSet::Next(end, finished(p, style, kind, right, line, a, b, c, buf))
 }
 
 // Sets the field whose kind byte stands at `at` of its item alone, at its own reference point, into the front of buf.

@@ -4,7 +4,7 @@ use mathlib.Core.List.{List}
 use Prim.Native.Nat.{ℕ}
 use borrow.Author.Tests.{not-true, not-false}
 use borrow.Author.Needs.{needs}
-use Rattle.font.specs.Answers.{soundCharacters}
+use Rattle.font.specs.Values.{soundCharacters}
 use Rattle.font.specs.Table.{headerBytes, characterBytes, pieces, characterRecords, characterCount}
 use Rattle.font.proofs.WordLaws.{rest-of}
 use Rattle.font.proofs.CheckLaws.{good-table, length-short, length-broken, length-great, length-good, pass, stop}

@@ -7,7 +7,7 @@ use native.Mathlib.Nat.{sub-zero}
 use native.Mathlib.Omega.{arith}
 use borrow.Author.Tests.{not-true, not-false}
 use lib.ListN.{drop, length-drop}
-use Rattle.font.specs.Answers.{soundCharacters, soundFront}
+use Rattle.font.specs.Values.{soundCharacters, soundFront}
 use Rattle.font.specs.Table.{characterBytes, pieces, every, rising}
 use Rattle.font.proofs.WordLaws.{rest-of, Passing, stopped, again, finished}
 use Rattle.font.proofs.CheckLaws.{sound-front}

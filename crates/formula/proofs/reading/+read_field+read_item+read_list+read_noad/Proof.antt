@@ -15,11 +15,11 @@ use Rattle.formula.specs.declared.Opening.the-variants.{Fields}
 use Rattle.formula.specs.declared.FieldHead.{FieldHead}
 use Rattle.formula.specs.declared.FieldHead.the-variants.{Sublist}
 use Rattle.formula.specs.declared.Verdict.the-variants.{Good, Faulty}
-use Rattle.formula.specs.declared.Step.the-variants.{Next}
+use Rattle.formula.specs.declared.PartRead.the-variants.{Next}
 use Rattle.formula.specs.Tree.{openingBytes}
 use Rattle.formula.specs.Heads.{fieldHead}
 use Rattle.formula.specs.Reading.{fieldBy, fieldAt, openedBy, itemBy, read}
-use Rattle.formula.specs.Verdicts.{told, stepOf}
+use Rattle.formula.specs.Values.{told, partReadOf}
 use Rattle.formula.specs.Places.{headBytes}
 use Rattle.formula.specs.HeadLaws.{list-opening, opening-fits}
 use Rattle.formula.proofs.VerdictLaws.{later, later-zero, fault-in, next-in, field-step, field-fits, field-deep, cut-deep, cut-short, field-list, noad-first, noad-second, noad-three, noad-two, item-step, list-next, list-stop, list-done}
@@ -109,7 +109,7 @@ module _ (t : ℕ) (c : read-field-lts.After-field-head (read-field-claims t) (r
       field-fits (a .levels) (a .at) (a .s .now) h rf-is (start .pre .1)
 
   rf-says : let a = c .before .before .before .args in
-      stepOf (fieldBy read (a .levels) (a .at) (drop (a .at) (a .s .now)) h) ≡ stepOf (fieldAt read (a .levels) (a .s .now) (a .at))
+      partReadOf (fieldBy read (a .levels) (a .at) (drop (a .at) (a .s .now)) h) ≡ partReadOf (fieldAt read (a .levels) (a .s .now) (a .at))
   rf-says = sym (field-step _ _ _ h rf-is)
 
 -- in the arm of a list of n bytes behind its opening
@@ -130,15 +130,15 @@ read-field-add-t28 t c =
     omega (arith, says, call .before .read-list-arg .given .2, rf-in t list)
 
 read-field-returns-3 : (t : ℕ) → read-field-lts.Need-returns-3 (read-field-claims t) (read-field-at t) read-field.Post
-unfolding fieldBy stepOf
+unfolding fieldBy partReadOf
 read-field-returns-3 t c = rf-says t (c .before .before) _ (c .enum-told .given .1)
 
 read-field-returns-4 : (t : ℕ) → read-field-lts.Need-returns-4 (read-field-claims t) (read-field-at t) read-field.Post
-unfolding fieldBy stepOf
+unfolding fieldBy partReadOf
 read-field-returns-4 t c = rf-says t (c .before .before) _ (c .enum-told2 .given .1)
 
 read-field-returns-5 : (t : ℕ) → read-field-lts.Need-returns-5 (read-field-claims t) (read-field-at t) read-field.Post
-unfolding fieldBy stepOf
+unfolding fieldBy partReadOf
 read-field-returns-5 t c = rf-says t (c .before .before) _ (c .enum-told3 .given .1)
 
 read-field-returns-6 : (t : ℕ) → read-field-lts.Need-returns-6 (read-field-claims t) (read-field-at t) read-field.Post
@@ -162,11 +162,11 @@ read-field-returns-7 t c =
 
 -- the item says what it says by the opening that is matched
 ri-says : (t : ℕ) (c : read-item-lts.After-opening (read-item-claims t) (read-item-at t) read-item.Post) (o : Opening) → c .opening .result ≡ o →
-    let a = c .before .before .args in stepOf (openedBy read (a .levels) (a .s .now) o) ≡ stepOf (itemBy read (a .levels) (a .s .now))
+    let a = c .before .before .args in partReadOf (openedBy read (a .levels) (a .s .now) o) ≡ partReadOf (itemBy read (a .levels) (a .s .now))
 ri-says t c o e = sym (item-step _ _ o (sym (c .opening .ensures) ∙ e))
 
 read-item-returns : (t : ℕ) → read-item-lts.Need-returns (read-item-claims t) (read-item-at t) read-item.Post
-unfolding openedBy stepOf
+unfolding openedBy partReadOf
 read-item-returns t c = ri-says t (c .before .before) _ (c .enum-told .given .1)
 
 read-item-returns-2 : (t : ℕ) → read-item-lts.Need-returns-2 (read-item-claims t) (read-item-at t) read-item.Post
@@ -174,7 +174,7 @@ unfolding openedBy
 read-item-returns-2 t c = let noad = c .before .before in c .read-noad .ensures ∙ ri-says t (noad .before .before) _ (noad .o .given .1)
 
 read-item-returns-3 : (t : ℕ) → read-item-lts.Need-returns-3 (read-item-claims t) (read-item-at t) read-item.Post
-unfolding openedBy stepOf
+unfolding openedBy partReadOf
 read-item-returns-3 t c = ri-says t (c .before .before) _ (c .enum-told2 .given .1)
 
 -- ---- read_list
@@ -222,16 +222,16 @@ rn-fits t c =
 -- what the first field says
 rn-first : (t : ℕ) (c : read-noad-lts.After-read-field (read-noad-claims t) (read-noad-at t) read-noad.Post) →
     let a = c .before .before .before .args in
-    stepOf (fieldAt read (a .levels) (a .s .now) (openingBytes (a .kind))) ≡ c .read-field .result
+    partReadOf (fieldAt read (a .levels) (a .s .now) (openingBytes (a .kind))) ≡ c .read-field .result
 rn-first t c =
     let a = c .before .before .before .args in
-    let same = ap (λ (at : ℕ). stepOf (fieldAt read (a .levels) (a .s .now) at)) (c .before .opening-bytes .ensures) in
+    let same = ap (λ (at : ℕ). partReadOf (fieldAt read (a .levels) (a .s .now) at)) (c .before .opening-bytes .ensures) in
     sym (c .read-field .ensures ∙ same)
 
 -- after the first field, and after the second
 rn-a : (t : ℕ) (c : read-noad-lts.After-a (read-noad-claims t) (read-noad-at t) read-noad.Post) →
     let a = c .before .before .before .before .before .args in
-    (stepOf (fieldAt read (a .levels) (a .s .now) (openingBytes (a .kind))) ≡ Next (c .a .given .0 .0))
+    (partReadOf (fieldAt read (a .levels) (a .s .now) (openingBytes (a .kind))) ≡ Next (c .a .given .0 .0))
     × (c .a .given .0 .0 ≤ length (a .s .now))
 rn-a t c =
     let call = c .before .before in (
@@ -242,7 +242,7 @@ rn-a t c =
 rn-b : (t : ℕ) (c : read-noad-lts.After-b (read-noad-claims t) (read-noad-at t) read-noad.Post) →
     let first = c .before .before .before .before in
     let a = first .before .before .before .before .before .args in
-    (stepOf (fieldAt read (a .levels) (a .s .now) (first .a .given .0 .0)) ≡ Next (c .b .given .0 .0))
+    (partReadOf (fieldAt read (a .levels) (a .s .now) (first .a .given .0 .0)) ≡ Next (c .b .given .0 .0))
     × (c .b .given .0 .0 ≤ length (a .s .now))
 rn-b t c =
     let says = sym (c .before .before .read-field2 .ensures) ∙ c .b .given .1 in

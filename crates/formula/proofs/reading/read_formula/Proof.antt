@@ -4,7 +4,7 @@ use mathlib.Core.Path.{_∙_, sym}
 use borrow.Author.Needs.{needs}
 use borrow.Author.Tests.{lt-ltb, le-ltb}
 use Rattle.formula.specs.Reading.{readFormula}
-use Rattle.formula.specs.Verdicts.{told}
+use Rattle.formula.specs.Values.{told}
 use Rattle.formula.proofs.reading.read_formula.Statement.{statement}
 use Rattle.formula.proofs.reading.read_formula.Tie as tie
 

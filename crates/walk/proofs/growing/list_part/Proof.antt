@@ -12,7 +12,7 @@ use Rattle.nodes.specs.declared.run.Run.{Run}
 use Rattle.nodes.specs.Bounds.{within}
 use Rattle.nodes.specs.Hull.{hullFits}
 use Rattle.nodes.specs.HullLaws.{within-true, fits-within}
-use Rattle.nodes.specs.Runs.{hullOf, isLarge, LargeRun}
+use Rattle.nodes.specs.Values.{hullOf, isLarge, LargeRun}
 use Rattle.setting.specs.Fitting.{sizeFits}
 use Rattle.walk.specs.declared.lines.Line as lines
 use Rattle.walk.specs.Values.{lineFits}

@@ -13,7 +13,7 @@ use Rattle.boxes.specs.Values.{parametersIn, arrangedAs}
 use Rattle.spacing.specs.Values.{neighbourAs}
 use Rattle.boxes.specs.Bounds.{words}
 use Rattle.nodes.specs.Hull.{joined}
-use Rattle.nodes.specs.Runs.{hullOf, isLarge}
+use Rattle.nodes.specs.Values.{hullOf, isLarge}
 use Rattle.walk.specs.Bounds.{longest, stride}
 use Rattle.walk.proofs.ItemLaws.{few-rules, item-grows}
 use Rattle.walk.proofs.items.finished.Statement.{statement}
@@ -23,8 +23,8 @@ use Rattle.walk.proofs.items.finished.Tie as tie
 x-near : {x width space : ℤ} → Within (stride longest) width → Within (words 1) space → x ≡ width +ℤ space → Within (2 ^ 54) x
 x-near {width} {space} far near at = rw at (within-by (# width ⊕ # space) (2 ^ 54) (omega arith))
 
-setting-of-requires : tie.Need-setting-of-requires
-setting-of-requires c κs = search needs
+placing-of-requires : tie.Need-placing-of-requires
+placing-of-requires c κs = search needs
 
 put-item-requires : tie.Need-put-item-requires
 put-item-requires c κs =
@@ -39,8 +39,8 @@ put-item-requires c κs =
       first = g .first .hull;
       second = g .second .hull;
       third = g .third .hull;
-      x-small = x-near (g .line .width) (set .setting-of .ensures .space) (set .setting-of .ensures .x-is);
-      bounded = set .setting-of .ensures .bounded;
+      x-small = x-near (g .line .width) (set .placing-of .ensures .space) (set .placing-of .ensures .x-is);
+      bounded = set .placing-of .ensures .bounded;
     }
 
 extended-requires : tie.Need-extended-requires
@@ -48,7 +48,7 @@ extended-requires c κs =
     let put = c .before .before in
     let set = put .before .before .before .before in
     let g = set .before .before .pre in
-    let s = set .setting-of in
+    let s = set .placing-of in
     let one = g .first .count in
     let two = g .second .count in
     let three = g .third .count in
@@ -79,10 +79,10 @@ returns c =
     let start = at-set .before .before in
     let a = start .args in
     let g = start .pre in
-    let s = at-set .setting-of .ensures in
+    let s = at-set .placing-of .ensures in
     let put = at-put .put-item .ensures in
     let e = c .extended .ensures in
-    let setting = at-set .setting-of .result in
+    let setting = at-set .placing-of .result in
     let space = spaceBefore (parametersIn (a .p .now)) (a .style) (neighbourAs (a .line .left)) (setting .class) in
     let counts = e .run-is .count-is ∙ ap (λ (n : ℕ). a .line .run .count + n) (put .count-is) in
     let hulls = e .run-is .hull-is ∙ ap (joined (hullOf (a .line .run))) (put .hull-is) in
@@ -107,4 +107,4 @@ returns c =
 pub finished-spec : {M : Type 1} → statement M
 finished-spec =
     tie.close
-    (tie.spec setting-of-requires put-item-requires extended-requires same-length returns)
+    (tie.spec placing-of-requires put-item-requires extended-requires same-length returns)

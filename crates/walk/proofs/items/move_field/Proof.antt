@@ -5,7 +5,7 @@ use borrow.Author.Needs.{needs}
 use Rattle.scaled.specs.Made.{reach}
 use Rattle.nodes.specs.Bounds.{greatestLength}
 use Rattle.nodes.specs.HullLaws.{within-more}
-use Rattle.nodes.specs.Runs.{hullOf}
+use Rattle.nodes.specs.Values.{hullOf}
 use Rattle.walk.proofs.items.move_field.Statement.{statement}
 use Rattle.walk.proofs.items.move_field.Tie as tie
 

@@ -12,7 +12,7 @@ use Rattle.boxes.specs.Values.{arrangedAs}
 use Rattle.nodes.specs.Nodes.{moved}
 use Rattle.nodes.specs.Buffer.{movedFront, behindNodes}
 use Rattle.nodes.specs.Hull.{Hull, joined, movedHull, hull}
-use Rattle.nodes.specs.Runs.{hullOf, isLarge}
+use Rattle.nodes.specs.Values.{hullOf, isLarge}
 use Rattle.setting.specs.Setting.{ruleNodes}
 use Rattle.walk.specs.Walked.{rulesPut}
 use Rattle.walk.proofs.ItemLaws.{few-rules}

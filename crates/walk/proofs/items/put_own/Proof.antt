@@ -11,7 +11,7 @@ use Rattle.nodes.specs.Nodes.{Node, rule, moved, movedNode}
 use Rattle.nodes.specs.Buffer.{put, behindNodes}
 use Rattle.nodes.specs.Hull.{joined, hull}
 use Rattle.nodes.specs.HullLaws.{join-none, hull-node}
-use Rattle.nodes.specs.Runs.{hullOf, isLarge}
+use Rattle.nodes.specs.Values.{hullOf, isLarge}
 use Rattle.setting.specs.Setting.{ruleNode, ruleNodes}
 use Rattle.walk.specs.Walked.{rulesPut}
 use Rattle.walk.proofs.ItemLaws.{rule-moved}
@@ -64,9 +64,9 @@ returns-2 c =
     let before = start .args .before in
     let r = arm .own .given .0 .0 in
     let x = start .args .x .0 in
-    let n = rule (x +ℤ r .place .across .0) (r .place .up .0) (r .width .0) (r .thickness .0) in
+    let n = rule (x +ℤ r .corner .across .0) (r .corner .up .0) (r .width .0) (r .thickness .0) in
     let node : movedNode x (pos 0) (ruleNode (ruleAs r)) ≡ n = rule-moved x (ruleAs r) in
-    let at : sum .plus .result .0 ≡ x +ℤ r .place .across .0 = sum .plus .ensures .is in
+    let at : sum .plus .result .0 ≡ x +ℤ r .corner .across .0 = sum .plus .ensures .is in
     let point = c .before .point .ensures in
     let one = point .count-is in
     rw (arm .own .given .1)

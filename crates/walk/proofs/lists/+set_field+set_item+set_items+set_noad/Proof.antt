@@ -46,7 +46,7 @@ use Rattle.walk.specs.declared.parts.Part as parts
 use Rattle.walk.specs.declared.parts.FieldSet.{FieldSet}
 use Rattle.walk.specs.declared.parts.FieldSet.the-variants as field
 use Rattle.walk.specs.declared.lists.ItemsSet.the-variants as items
-use Rattle.walk.specs.declared.lists.Step.{Step}
+use Rattle.walk.specs.declared.lists.ItemSet.{ItemSet}
 use Rattle.walk.specs.Bounds.{longest}
 use Rattle.walk.specs.Walked.{HeadDone, ItemDone, ItemsDone}
 use Rattle.walk.proofs.FieldLaws.{Head, head-at, head-short, head-empty, head-symbol, head-whole, head-missing, list-given}
@@ -301,7 +301,7 @@ abbrev stop-turned : (t : ℕ) → Stop t → Turned t
 stop-turned t c = c .before .before .before .before .before
 
 -- what the item came to
-item-done : (t : ℕ) (c : Turned t) {r : Step} → c .set-item .result ≡ r →
+item-done : (t : ℕ) (c : Turned t) {r : ItemSet} → c .set-item .result ≡ r →
     let a = turn-start t (turn-of t c) .args in
     let o = turn-of t c .before .loop in
     let j = c .before .before .before .room .result in
@@ -310,7 +310,7 @@ item-done t c is =
     let a = turn-start t (turn-of t c) .args in
     let o = turn-of t c .before .loop in
     let j = c .before .before .before .room .result in
-    subst (λ (r : Step). ItemDone (fontOf (a .table .now)) (a .style) (neighbourAs (a .beyond)) (take (length (a .s .now) - o .at) (drop (o .at) (a .s .now))) (o .l) (take (length (o .buf) - j) (drop j (o .buf))) r (c .set-item .last .1 .1 .1 .1 .1 .1 .0))
+    subst (λ (r : ItemSet). ItemDone (fontOf (a .table .now)) (a .style) (neighbourAs (a .beyond)) (take (length (a .s .now) - o .at) (drop (o .at) (a .s .now))) (o .l) (take (length (o .buf) - j) (drop j (o .buf))) r (c .set-item .last .1 .1 .1 .1 .1 .1 .0))
     is (c .set-item .ensures)
 
 turn-next : (t : ℕ) (c : Next t) →

@@ -2,7 +2,7 @@
 -- Assumes nothing.
 use mathlib.Core.Path.{sym, ap, _∙_}
 use borrow.Author.Needs.{needs}
-use Rattle.font.specs.Answers.{foundAs}
+use Rattle.font.specs.Values.{foundAs}
 use Rattle.setting.specs.Setting.{found, enlarged, symbolIn}
 use Rattle.walk.proofs.symbols.symbol_in.Statement.{statement}
 use Rattle.walk.proofs.symbols.symbol_in.Tie as tie

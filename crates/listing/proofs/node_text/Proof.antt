@@ -1,18 +1,18 @@
--- `node_line` meets its contract, by the node's first byte. Assumes nothing.
+-- `node_text` meets its contract, by the node's first byte. Assumes nothing.
 use mathlib.Core.Path.{ap}
 use denote.Ref.{now}
-use Rattle.listing.specs.Lines.{nodeLine}
-use Rattle.listing.proofs.LineLaws.{glyph-in, rule-in}
+use Rattle.listing.specs.Texts.{nodeText}
+use Rattle.listing.proofs.TextLaws.{glyph-in, rule-in}
 use Rattle.listing.proofs.PutLaws.{written-as}
 use borrow.Author.Needs.{needs}
-use Rattle.listing.proofs.node_line.Statement.{statement}
-use Rattle.listing.proofs.node_line.Tie as tie
+use Rattle.listing.proofs.node_text.Statement.{statement}
+use Rattle.listing.proofs.node_text.Tie as tie
 
 shared-slice-read-if1 : tie.Need-shared-slice-read-if1
 shared-slice-read-if1 c = search needs
 
-glyph-line-requires : tie.Need-glyph-line-requires
-glyph-line-requires c κs = search needs
+glyph-text-requires : tie.Need-glyph-text-requires
+glyph-text-requires c κs = search needs
 
 same-length : tie.Need-same-length
 same-length c = search needs
@@ -22,10 +22,10 @@ returns c =
     let line = c .before .before in
     let tested = line .before .before in
     let node = now (tested .before .before .before .before .args .node) in
-    written-as (ap nodeLine (glyph-in node (tested .if1 .taken))) (line .glyph-line .ensures)
+    written-as (ap nodeText (glyph-in node (tested .if1 .taken))) (line .glyph-text .ensures)
 
-rule-line-requires : tie.Need-rule-line-requires
-rule-line-requires c κs = search needs
+rule-text-requires : tie.Need-rule-text-requires
+rule-text-requires c κs = search needs
 
 same-length-2 : tie.Need-same-length-2
 same-length-2 c = search needs
@@ -35,16 +35,16 @@ returns-2 c =
     let line = c .before .before in
     let tested = line .before .before in
     let node = now (tested .before .before .before .before .args .node) in
-    written-as (ap nodeLine (rule-in node (tested .if1 .left))) (line .rule-line .ensures)
+    written-as (ap nodeText (rule-in node (tested .if1 .left))) (line .rule-text .ensures)
 
-pub node-line-spec : {M : Type 1} → statement M
-node-line-spec =
+pub node-text-spec : {M : Type 1} → statement M
+node-text-spec =
     tie.close
     (tie.spec
     shared-slice-read-if1
-    glyph-line-requires
+    glyph-text-requires
     same-length
     returns
-    rule-line-requires
+    rule-text-requires
     same-length-2
     returns-2)

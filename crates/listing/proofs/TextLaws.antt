@@ -8,18 +8,18 @@ use borrow.Author.Tests.{eq-eqb, ne-eqb}
 use lib.ListN.{getD}
 use Rattle.answers.specs.Answers.{Answered, acceptedNumber}
 use Rattle.nodes.specs.Nodes.{Node}
-use Rattle.listing.specs.Lines.{sizesLine, refusalLine, answerLine, glyphIn, ruleIn, nodeIn}
+use Rattle.listing.specs.Texts.{sizesText, refusalText, answerText, glyphIn, ruleIn, nodeIn}
 
 module _ (a : Answered) where
   abbrev by : Bool → List ℕ
-  by t = cond t (sizesLine (a .size) (a .count)) (refusalLine (a .number) (a .place))
+  by t = cond t (sizesText (a .size) (a .count)) (refusalText (a .number) (a .place))
 
-  pub accepted-line : a .number ≡ acceptedNumber → sizesLine (a .size) (a .count) ≡ answerLine a
-  unfolding answerLine
+  pub accepted-line : a .number ≡ acceptedNumber → sizesText (a .size) (a .count) ≡ answerText a
+  unfolding answerText
   accepted-line e = sym (ap by (eq-eqb (a .number) acceptedNumber e))
 
-  pub refused-line : (a .number ≡ acceptedNumber → ⊥) → refusalLine (a .number) (a .place) ≡ answerLine a
-  unfolding answerLine
+  pub refused-line : (a .number ≡ acceptedNumber → ⊥) → refusalText (a .number) (a .place) ≡ answerText a
+  unfolding answerText
   refused-line e = sym (ap by (ne-eqb (a .number) acceptedNumber e))
 
 module _ (s : List ℕ) where

@@ -1,11 +1,11 @@
--- `glyph_line` meets its contract: mark and place, three bytes, and the end of the line. Assumes nothing.
+-- `glyph_text` meets its contract: mark and place, three bytes, and the end of the line. Assumes nothing.
 use mathlib.Core.Path.{_∙_}
 use native.Mathlib.Omega.{arith}
-use Rattle.listing.specs.Lines.{space, nodeLine}
+use Rattle.listing.specs.Texts.{space, nodeText}
 use Rattle.listing.proofs.PutLaws.{line-more, line-ended}
 use borrow.Author.Needs.{needs}
-use Rattle.listing.proofs.glyph_line.Statement.{statement}
-use Rattle.listing.proofs.glyph_line.Tie as tie
+use Rattle.listing.proofs.glyph_text.Statement.{statement}
+use Rattle.listing.proofs.glyph_text.Tie as tie
 
 put-bytes-requires : tie.Need-put-bytes-requires
 put-bytes-requires c κs =
@@ -39,7 +39,7 @@ same-length c =
     ∙ place .put-place .kept .1 .1 .0
 
 returns : tie.Need-returns
-unfolding nodeLine
+unfolding nodeText
 returns c =
     let end = c .before .before in
     let third = end .before .before .before .before .before in
@@ -57,8 +57,8 @@ returns c =
     (code .of-byte3 .ensures) (third .put-number3 .ensures))
     (end .put-bytes .ensures)
 
-pub glyph-line-spec : {M : Type 1} → statement M
-glyph-line-spec =
+pub glyph-text-spec : {M : Type 1} → statement M
+glyph-text-spec =
     tie.close
     (tie.spec
     (λ c. search needs)

@@ -1,12 +1,12 @@
--- `rule_line` meets its contract: mark and place, two words, and the end of the line. Assumes nothing.
-use Rattle.listing.specs.Lines.{space, nodeLine}
+-- `rule_text` meets its contract: mark and place, two words, and the end of the line. Assumes nothing.
+use Rattle.listing.specs.Texts.{space, nodeText}
 use Rattle.listing.proofs.PutLaws.{line-more, line-ended}
 use borrow.Author.Needs.{needs}
-use Rattle.listing.proofs.rule_line.Statement.{statement}
-use Rattle.listing.proofs.rule_line.Tie as tie
+use Rattle.listing.proofs.rule_text.Statement.{statement}
+use Rattle.listing.proofs.rule_text.Tie as tie
 
 returns : tie.Need-returns
-unfolding nodeLine
+unfolding nodeText
 returns c =
     let end = c .before .before in
     let second = end .before .before .before .before .before in
@@ -20,8 +20,8 @@ returns c =
     (thickness .number-at2 .ensures) (second .put-number2 .ensures))
     (end .put-bytes .ensures)
 
-pub rule-line-spec : {M : Type 1} → statement M
-rule-line-spec =
+pub rule-text-spec : {M : Type 1} → statement M
+rule-text-spec =
     tie.close
     (tie.spec
     (λ c. search needs)

@@ -1,11 +1,11 @@
--- `sizes_line` meets its contract: four marks with their numbers, and the end of the line. Assumes nothing.
+-- `sizes_text` meets its contract: four marks with their numbers, and the end of the line. Assumes nothing.
 use mathlib.Core.Path.{_∙_}
 use native.Mathlib.Omega.{arith}
-use Rattle.listing.specs.Lines.{widthMark, heightMark, depthMark, countMark}
+use Rattle.listing.specs.Texts.{widthMark, heightMark, depthMark, countMark}
 use Rattle.listing.proofs.PutLaws.{number-put, line-more, line-ended}
 use borrow.Author.Needs.{needs}
-use Rattle.listing.proofs.sizes_line.Statement.{statement}
-use Rattle.listing.proofs.sizes_line.Tie as tie
+use Rattle.listing.proofs.sizes_text.Statement.{statement}
+use Rattle.listing.proofs.sizes_text.Tie as tie
 
 put-bytes-requires : tie.Need-put-bytes-requires
 put-bytes-requires c κs =
@@ -46,8 +46,8 @@ returns c =
     (count .of-count .ensures) (fourth .put-number4 .ensures))
     (end .put-bytes .ensures)
 
-pub sizes-line-spec : {M : Type 1} → statement M
-sizes-line-spec =
+pub sizes-text-spec : {M : Type 1} → statement M
+sizes-text-spec =
     tie.close
     (tie.spec
     (λ c. search needs)

@@ -1,8 +1,8 @@
--- `setting_of` meets its contract: the class, x and the arrangement are those of the definition, by what the calls promise.
+-- `placing_of` meets its contract: the class, x and the arrangement are those of the definition, by what the calls promise.
 -- Assumes nothing.
 use borrow.Author.Needs.{needs}
-use Rattle.walk.proofs.items.setting_of.Statement.{statement}
-use Rattle.walk.proofs.items.setting_of.Tie as tie
+use Rattle.walk.proofs.items.placing_of.Statement.{statement}
+use Rattle.walk.proofs.items.placing_of.Tie as tie
 
 class-of-requires : tie.Need-class-of-requires
 class-of-requires c κs = search needs
@@ -32,8 +32,8 @@ returns c =
       bounded = c .arrange .ensures .1;
     }
 
-pub setting-of-spec : {M : Type 1} → statement M
-setting-of-spec =
+pub placing-of-spec : {M : Type 1} → statement M
+placing-of-spec =
     tie.close
     (tie.spec
     class-of-requires

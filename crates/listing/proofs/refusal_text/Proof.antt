@@ -1,9 +1,9 @@
--- `refusal_line` meets its contract: two marks with their numbers, and the end of the line. Assumes nothing.
-use Rattle.listing.specs.Lines.{refusedMark, atMark}
+-- `refusal_text` meets its contract: two marks with their numbers, and the end of the line. Assumes nothing.
+use Rattle.listing.specs.Texts.{refusedMark, atMark}
 use Rattle.listing.proofs.PutLaws.{number-put, line-more, line-ended}
 use borrow.Author.Needs.{needs}
-use Rattle.listing.proofs.refusal_line.Statement.{statement}
-use Rattle.listing.proofs.refusal_line.Tie as tie
+use Rattle.listing.proofs.refusal_text.Statement.{statement}
+use Rattle.listing.proofs.refusal_text.Tie as tie
 
 returns : tie.Need-returns
 returns c =
@@ -18,8 +18,8 @@ returns c =
     (place .of-count2 .ensures) (second .put-number2 .ensures))
     (end .put-bytes .ensures)
 
-pub refusal-line-spec : {M : Type 1} → statement M
-refusal-line-spec =
+pub refusal-text-spec : {M : Type 1} → statement M
+refusal-text-spec =
     tie.close
     (tie.spec
     (λ c. search needs)

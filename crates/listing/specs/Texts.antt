@@ -1,6 +1,6 @@
 -- The text of an answer and of its nodes, a line each.
---     answerLine    an acceptance, as `w 500 h 430 d 200 n 2`, or a refusal, as `refused 5 at 4`
---     nodeLine      a node: `glyph x y size family code`, or `rule x y width thickness`
+--     answerText    an acceptance, as `w 500 h 430 d 200 n 2`, or a refusal, as `refused 5 at 4`
+--     nodeText      a node: `glyph x y size family code`, or `rule x y width thickness`
 --     nodeIn        the node that stands at the front of some bytes
 -- Assumes nothing.
 use mathlib.Core.Bool.{cond}
@@ -52,32 +52,32 @@ ruleMark = 114 ∷ 117 ∷ 108 ∷ 101 ∷ 32 ∷ []
 
 -- ---- the first line
 
-abbrev pub sizesLine : Size → ℕ → List ℕ
-sizesLine z count =
+abbrev pub sizesText : Size → ℕ → List ℕ
+sizesText z count =
     widthMark ++ textOf (z .width)
     ++ (heightMark ++ textOf (z .height))
     ++ (depthMark ++ textOf (z .depth))
     ++ (countMark ++ decimalOf count)
     ++ newline
 
-abbrev pub refusalLine : ℕ → ℕ → List ℕ
-refusalLine number place = refusedMark ++ decimalOf number ++ (atMark ++ decimalOf place) ++ newline
+abbrev pub refusalText : ℕ → ℕ → List ℕ
+refusalText number place = refusedMark ++ decimalOf number ++ (atMark ++ decimalOf place) ++ newline
 
-unfoldable pub answerLine : Answered → List ℕ
-answerLine a =
-    cond (eqb (a .number) acceptedNumber) (sizesLine (a .size) (a .count)) (refusalLine (a .number) (a .place))
+unfoldable pub answerText : Answered → List ℕ
+answerText a =
+    cond (eqb (a .number) acceptedNumber) (sizesText (a .size) (a .count)) (refusalText (a .number) (a .place))
 
 -- ---- a node
 
-unfoldable pub nodeLine : Node → List ℕ
-nodeLine (glyph x y size family code) =
+unfoldable pub nodeText : Node → List ℕ
+nodeText (glyph x y size family code) =
     glyphMark ++ textOf x
     ++ (space ++ textOf y)
     ++ (space ++ decimalOf size)
     ++ (space ++ decimalOf family)
     ++ (space ++ decimalOf code)
     ++ newline
-nodeLine (rule x y width thickness) =
+nodeText (rule x y width thickness) =
     ruleMark ++ textOf x ++ (space ++ textOf y) ++ (space ++ textOf width) ++ (space ++ textOf thickness) ++ newline
 
 -- the signed word at a place
