@@ -5,28 +5,20 @@
 -- So `omega` proves a fact on values from `hi` and `lo`, as the last argument of
 --     fits-by                 the value fits 64 bits, as overflow needs ask
 --     within-by               the value is within a bound
---     natural-by, natural-is  the value, not negative, is cast to an unsigned width: that it fits, and what it is there
---     eq-by, le-by, lt-by     an equation, an order
---     test-yes, test-no       what `ltZ` answers
--- and reads a fact in hand by
---     eq-held                 an equation
---     lt-held, lt-failed      what a test with `<` said
+--     eq-by, le-by            an equation, an order
 -- Assumes nothing.
-use mathlib.Core.Path.{_≡_, sym, _∙_}
-use mathlib.Core.Bool.{true, false}
+use mathlib.Core.Path.{_≡_}
 use Prim.Native.Nat.{ℕ, _+_, _-_, _*_, _/_, _^_, _≤_, _<_, max, min}
 use native.Mathlib.Omega.{arith}
-use lib.IntN.{ℤ, pos, negℤ, natAbs, _+ℤ_, _-ℤ_, _*ℤ_}
-use lib.Signed.{ltZ, shrZ, quotZ, nonNeg, _≤ℤ_, _<ℤ_}
-use lib.Dec.{T}
-use mir.Syntax.{Width, w64}
-use mir.Val.{Fits, SFits, bits, toZ, ofZ}
+use lib.IntN.{ℤ, pos, negℤ, _+ℤ_, _-ℤ_, _*ℤ_}
+use lib.Signed.{shrZ, quotZ, _≤ℤ_}
+use mir.Syntax.{w64}
+use mir.Val.{SFits, toZ, ofZ}
 use mir.ValLaws.{toZ-pos, toZ-ofZ}
-use borrow.Author.Tests.{ltb-true, ltb-false, lt-ltb, le-ltb}
 use Rattle.scaled.specs.Length.{maxℤ, minℤ, half, unitsInQuad, atQuad}
-use Rattle.scaled.specs.Signed.{above, below, Within, Parts, own, lt-test, parts-is, parts-same, parts-le, parts-lt}
+use Rattle.scaled.specs.Signed.{above, below, Within, Parts, own, parts-is, parts-same, parts-le}
 use Rattle.scaled.specs.Signed.{parts-add, parts-sub, parts-neg, parts-times, parts-product, parts-max, parts-min}
-use Rattle.scaled.specs.Signed.{parts-half, parts-floor, parts-units, fits-parts, quot-floor, natural-parts}
+use Rattle.scaled.specs.Signed.{parts-half, parts-floor, parts-units, fits-parts, quot-floor}
 
 infixl 6 _⊕_ _⊖_
 pub data Exp : Type 0 where
@@ -144,39 +136,12 @@ module _ (e : Exp) where
   pub within-by : (k : ℕ) → Ok e × (hi e ≤ lo e + k) × (lo e ≤ hi e + k) → Within k (den e)
   within-by k o = omega (arith, sound e (o .0), o)
 
-  pub natural-is : Ok e × (lo e ≤ hi e) → natAbs (den e) + lo e ≡ hi e
-  natural-is o = natural-parts (sound e (o .0)) (o .1) .1
-
-  pub natural-by : (w : Width) → Ok e × (lo e ≤ hi e) × (hi e < lo e + 2 ^ bits w) →
-      T (nonNeg (den e)) × Fits w (natAbs (den e))
-  natural-by w o =
-      let r = natural-parts (sound e (o .0)) (o .1) in
-      (r .0, record { fits = omega (arith, o) })
-
 module _ (e f : Exp) where
   pub eq-by : Ok e × Ok f × (hi e + lo f ≡ hi f + lo e) → den e ≡ den f
   eq-by o = parts-same (sound e (o .0)) (sound f (o .1)) (o .2)
 
   pub le-by : Ok e × Ok f × (hi e + lo f ≤ hi f + lo e) → den e ≤ℤ den f
   le-by o = parts-le (omega (arith, sound e (o .0), sound f (o .1), o))
-
-  pub lt-by : Ok e × Ok f × (hi e + lo f < hi f + lo e) → den e <ℤ den f
-  lt-by o = parts-lt (omega (arith, sound e (o .0), sound f (o .1), o))
-
-  pub test-yes : Ok e × Ok f × (hi e + lo f < hi f + lo e) → ltZ (den e) (den f) ≡ true
-  test-yes o = lt-test (sound e (o .0)) (sound f (o .1)) ∙ lt-ltb _ _ (o .2)
-
-  pub test-no : Ok e × Ok f × (hi f + lo e ≤ hi e + lo f) → ltZ (den e) (den f) ≡ false
-  test-no o = lt-test (sound e (o .0)) (sound f (o .1)) ∙ le-ltb _ _ (o .2)
-
-  pub eq-held : Ok e × Ok f → den e ≡ den f → hi e + lo f ≡ hi f + lo e
-  eq-held o q = omega (arith, parts-is q (sound f (o .1)), sound e (o .0))
-
-  pub lt-held : Ok e × Ok f → ltZ (den e) (den f) ≡ true → hi e + lo f < hi f + lo e
-  lt-held o t = ltb-true _ _ (sym (lt-test (sound e (o .0)) (sound f (o .1))) ∙ t)
-
-  pub lt-failed : Ok e × Ok f → ltZ (den e) (den f) ≡ false → hi f + lo e ≤ hi e + lo f
-  lt-failed o t = ltb-false _ _ (sym (lt-test (sound e (o .0)) (sound f (o .1))) ∙ t)
 
 -- for example
 max-moved : (a b d : ℤ) → maxℤ (a +ℤ d) (b +ℤ d) ≡ maxℤ a b +ℤ d

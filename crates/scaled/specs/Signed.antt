@@ -17,8 +17,8 @@ use Prim.Native.Nat.{ℕ, zero, suc, _+_, _-_, _*_, _/_, _%_, _^_, _≤_, _<_, m
 use native.Mathlib.Omega.{arith}
 use native.Mathlib.Nat.{mul-le-mul, add-mul-div-right, div-eq-of-lt-le, div-add-mod', mod-lt, zero-lt-suc}
 use lib.Dec.{T, leb, ltb, lit<, leb→le, ltb→lt, le→leb, lt→ltb}
-use lib.IntN.{ℤ, pos, negsuc, negℤ, natAbs, subℕ, _+ℤ_, _-ℤ_, _*ℤ_}
-use lib.Signed.{mag, ltZ, leZ, shrZ, quotZ, nonNeg, _≤ℤ_, _<ℤ_}
+use lib.IntN.{ℤ, pos, negsuc, negℤ, subℕ, _+ℤ_, _-ℤ_, _*ℤ_}
+use lib.Signed.{mag, ltZ, leZ, shrZ, quotZ, _≤ℤ_, _<ℤ_}
 use mir.Syntax.{w64}
 use mir.Val.{SFits}
 use borrow.Author.Tests.{ltb-true, ltb-false, leb-true, leb-false, lt-ltb, le-ltb, le-leb, lt-leb}
@@ -229,10 +229,6 @@ within-times {m} {a} h l =
 pub quot-floor : (z : ℤ) (k : ℕ) → NotNegative z → quotZ z (pos k) ≡ shrZ z k
 quot-floor (pos n) k h = refl
 quot-floor (negsuc n) k h = absurd (omega arith)
-
-pub natural-parts : {z : ℤ} {p n : ℕ} → Parts z p n → n ≤ p → T (nonNeg z) × (natAbs z + n ≡ p)
-natural-parts {z = pos a} h l = (tt, omega arith)
-natural-parts {z = negsuc a} h l = absurd (omega arith)
 
 -- ---- the rules for `omega`
 
