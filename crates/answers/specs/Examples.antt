@@ -114,14 +114,14 @@ examples =
     ∷ example (atom ord f a a) T′ (pos 33868) (pos 774) (pos 246)
     (glyph (pos 0) (pos 0) 0 1 102 ∷ glyph (pos 600) (pos 344) 1 1 97 ∷ glyph (pos 490) (minus 246) 1 1 97 ∷ [])
     -- P10
-    ∷ example (fraction 0) T (pos 500) (pos 830) (pos 350)
-    (glyph (pos 0) (pos 400) 1 1 97
-    ∷ rule (pos 0) (pos 230) (pos 500) (pos 40)
-    ∷ glyph (pos 0) (minus 350) 1 1 97
+    ∷ example (fraction 0) T (pos 157786) (pos 830) (pos 350)
+    (glyph (pos 78643) (pos 400) 1 1 97
+    ∷ rule (pos 78643) (pos 230) (pos 500) (pos 40)
+    ∷ glyph (pos 78643) (minus 350) 1 1 97
     ∷ [])
     -- P11
-    ∷ example (fraction 1) T (pos 500) (pos 880) (pos 350)
-    (glyph (pos 0) (pos 450) 1 1 97 ∷ glyph (pos 0) (minus 350) 1 1 97 ∷ [])
+    ∷ example (fraction 1) T (pos 157786) (pos 880) (pos 350)
+    (glyph (pos 78643) (pos 450) 1 1 97 ∷ glyph (pos 78643) (minus 350) 1 1 97 ∷ [])
     -- P12
     ∷ example (atom op (symbol 3 80) empty a) D (pos 1400) (pos 950) (pos 1150)
     (glyph (pos 0) (pos 950) 0 3 88 ∷ glyph (pos 450) (minus 1050) 1 1 97 ∷ [])

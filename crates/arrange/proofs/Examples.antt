@@ -1,5 +1,5 @@
 -- A worked example of document 01 for each way that an item goes, from the shapes of its fields: scripts beside a symbol (P8), a
--- fraction (P10), a limit (P12). An edit of a rule is refused here, by the row that it changes.
+-- fraction (P10, whose numbers stand with its rules), a limit (P12). An edit of a rule is refused here, by the row that it changes.
 -- Assumes nothing.
 use mathlib.Core.Path.{_≡_, refl}
 use mathlib.Core.List.{List, [], _∷_}
@@ -12,11 +12,11 @@ use Rattle.formula.specs.declared.Base.the-variants.{Atom}
 use Rattle.formula.specs.declared.Kind.the-variants.{Scripted, Fraction}
 use Rattle.boxes.specs.declared.styles.Level.the-variants.{Display, Text}
 use Rattle.boxes.specs.Styles.{plain}
-use Rattle.boxes.specs.Boxes.{nothing, char, Arranged, at, origin, noOwn, ruledBehind}
+use Rattle.boxes.specs.Boxes.{nothing, char, charSize, Arranged, at, origin, noOwn}
 use Rattle.boxes.proofs.Bench.{bench, a, f, largeSum, minus, arranged}
 use Rattle.limits.specs.Limits.{limited}
 use Rattle.scripts.specs.Scripts.{drops, greatest, leastUp, superscriptCandidates, pairCandidates, gapDown, ψOf, lifted, spread, pairShifts, reach, scripted}
-use Rattle.fractions.specs.Fractions.{fractionShifts, cleared, shiftsWithBar, fraction}
+use Rattle.fractions.specs.Fractions.{fraction}
 use Rattle.arrange.specs.Arrange.{nucleusOf, arrange}
 
 set : List Arranged
@@ -29,12 +29,11 @@ set =
 stated : List Arranged
 stated =
     arranged 33_868 800 250 origin (at (pos 600) (pos 370)) (at (pos 490) (minus 250)) noOwn
-    ∷ arranged 500 830 350 (at (pos 0) (pos 400)) (at (pos 0) (minus 350)) origin
-    (ruledBehind record { corner = at (pos 0) (pos 230); width = pos 500; thickness = pos 40 })
+    ∷ fraction bench (plain Text) Default (charSize a) (charSize a)
     ∷ arranged 1_400 950 1_150 (at (pos 0) (pos 950)) origin (at (pos 450) (minus 1_050)) noOwn
     ∷ []
 
 examples-hold : set ≡ stated
 unfolding
-    bench set stated pick maxℤ half limited drops greatest leastUp superscriptCandidates pairCandidates gapDown ψOf lifted spread pairShifts reach scripted fractionShifts cleared shiftsWithBar fraction nucleusOf arrange
+    bench set stated pick maxℤ half limited drops greatest leastUp superscriptCandidates pairCandidates gapDown ψOf lifted spread pairShifts reach scripted nucleusOf arrange
 examples-hold = refl

@@ -1,4 +1,4 @@
--- The worked examples P10 and P11 of document 01, on numbers alone: a fraction with a bar and one without. An edit of a rule
+-- The worked examples P10 and P11 of document 01 with the blanks of request 1, on numbers alone: a fraction with a bar and one without. An edit of a rule
 -- is refused here, by the row that it changes.
 -- Assumes nothing.
 use mathlib.Core.Path.{_≡_, refl}
@@ -20,9 +20,9 @@ set =
 
 stated : List Arranged
 stated =
-    arranged 500 830 350 (at (pos 0) (pos 400)) (at (pos 0) (minus 350)) origin
-    (ruledBehind record { corner = at (pos 0) (pos 230); width = pos 500; thickness = pos 40 })
-    ∷ arranged 500 880 350 (at (pos 0) (pos 450)) (at (pos 0) (minus 350)) origin noOwn
+    arranged 157_786 830 350 (at (pos 78_643) (pos 400)) (at (pos 78_643) (minus 350)) origin
+    (ruledBehind record { corner = at (pos 78_643) (pos 230); width = pos 500; thickness = pos 40 })
+    ∷ arranged 157_786 880 350 (at (pos 78_643) (pos 450)) (at (pos 78_643) (minus 350)) origin noOwn
     ∷ []
 
 examples-hold : set ≡ stated

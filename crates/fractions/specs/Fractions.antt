@@ -1,4 +1,4 @@
--- Fractions (document 01, "FR"; rules 15 to 15d): numerator x, denominator z, bar thickness θ.
+-- Fractions (document 01, "FR", and request 1; rules 15 to 15e): numerator x, denominator z, bar thickness θ.
 -- Assumes nothing.
 use mathlib.Core.Bool.{Bool, true, false}
 use Prim.Native.Nat.{ℕ}
@@ -73,7 +73,15 @@ shiftsWithBar axis θ φ x z t =
       down = cleared φ (axis -ℤ half θ) (z .height -ℤ t .down) (t .down);
     }
 
--- ---- the item: both parts and the bar stand in the width of the wider part
+-- ---- 15e: the whole stands between two delimiters; an absent one is blank, with a width alone
+
+abbrev pub nullDelimiterWidth : ℤ
+nullDelimiterWidth = pos 78_643
+
+abbrev pub enclosed : ℤ → ℤ
+enclosed w = (nullDelimiterWidth +ℤ w) +ℤ nullDelimiterWidth
+
+-- ---- the item: both parts and the bar stand in the width of the wider part, behind the blank on the left
 
 abbrev pub finalShifts : Parameters → Style → ℤ → Size → Size → Shifts
 finalShifts p s θ x z =
@@ -87,20 +95,24 @@ abbrev pub barOf : ℤ → ℤ → ℤ → Own
 barOf axis θ w =
     elim (hasBar θ) [
       | true ↦ ruledBehind record {
-        corner = at (pos 0) ((axis +ℤ half θ) -ℤ θ);
+        corner = at nullDelimiterWidth ((axis +ℤ half θ) -ℤ θ);
         width = w;
         thickness = θ;
       }
       | false ↦ noOwn
     ]
 
+-- where a part stands in the middle of the width w
+abbrev pub acrossOf : ℤ → Size → ℤ
+acrossOf w z = nullDelimiterWidth +ℤ centred w (z .width)
+
 -- numerator and denominator, shifted by t, in the middle of the width w
 abbrev pub stacked : Size → Size → ℤ → Shifts → Own → Arranged
 stacked x z w t bar =
     record {
-      size = record { width = w; height = x .height +ℤ t .up; depth = z .depth +ℤ t .down };
-      first = at (centred w (x .width)) (t .up);
-      second = at (centred w (z .width)) (negℤ (t .down));
+      size = record { width = enclosed w; height = x .height +ℤ t .up; depth = z .depth +ℤ t .down };
+      first = at (acrossOf w x) (t .up);
+      second = at (acrossOf w z) (negℤ (t .down));
       third = origin;
       own = bar;
     }

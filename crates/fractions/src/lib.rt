@@ -1,4 +1,4 @@
-// Fractions (rules 15 to 15d): numerator x, denominator z, bar thickness θ.
+// Fractions (rules 15 to 15e): numerator x, denominator z, bar thickness θ.
 use boxes::Arranged;
 use boxes::Offset;
 use boxes::Own;
@@ -30,10 +30,13 @@ ghost use lib.IntN.{pos, _*ℤ_};
 ghost use Rattle.scaled.specs.Signed.{Within};
 ghost use Rattle.scaled.specs.Length.{pick};
 ghost use Rattle.boxes.specs.Styles.{isDisplay};
-ghost use Rattle.fractions.specs.Fractions.{barThickness, hasBar, numeratorUp, denominatorDown, fractionShifts, leastClearance, shiftsWithoutBar, leastFromBar, shiftsWithBar, finalShifts, barOf};
+ghost use Rattle.fractions.specs.Fractions.{barThickness, hasBar, numeratorUp, denominatorDown, fractionShifts, leastClearance, shiftsWithoutBar, leastFromBar, shiftsWithBar, finalShifts, barOf, acrossOf};
 ghost use Rattle.fractions.specs.Fractions as rule;
 ghost use Rattle.boxes.specs.Values.{parametersIn, sizeAs, shiftsAs, ownAs, arrangedAs};
 ghost use Rattle.boxes.specs.Bounds.{words, itemWords, Moderate, ShiftsWithin, OwnWithin, Bounded};
+
+// 15e: the blank on each side, where a delimiter is absent.
+const NULL_DELIMITER_WIDTH: i64 = 78_643;
 
 pub fn fraction(p: &Parameters, style: Style, bar: Bar, x: Size, z: Size) -> Arranged
     requires { ⌜ Moderate x × Moderate z ⌝ }
@@ -207,7 +210,7 @@ fn bar_of(axis: Sp, theta: Sp, w: Sp) -> Own
     if has_bar(theta) {
         let rule = Rule {
             corner: Offset {
-                across: Sp(0),
+                across: Sp(NULL_DELIMITER_WIDTH),
                 up: axis.plus(theta.half()).minus(theta),
             },
             width: w,
@@ -219,6 +222,23 @@ fn bar_of(axis: Sp, theta: Sp, w: Sp) -> Own
     }
 }
 
+// 15e: a width w and the blanks beside it.
+fn enclosed(w: Sp) -> Sp
+    requires { ⌜ Within (words 2) (w .0) ⌝ }
+    ensures { λ r. ⌜ (r .0 ≡ rule.enclosed (w .0)) × Within (words 3) (r .0) ⌝ }
+{
+    Sp(NULL_DELIMITER_WIDTH).plus(w)
+        .plus(Sp(NULL_DELIMITER_WIDTH))
+}
+
+// Where a part stands in the middle of the width w, behind the blank.
+fn across_of(w: Sp, z: Size) -> Sp
+    requires { ⌜ Within (words 2) (w .0) × Moderate z ⌝ }
+    ensures { λ r. ⌜ (r .0 ≡ acrossOf (w .0) (sizeAs z)) × Within (words 4) (r .0) ⌝ }
+{
+    Sp(NULL_DELIMITER_WIDTH).plus(centred(w, z.width))
+}
+
 // Both parts in the middle of the width w.
 fn stacked(x: Size, z: Size, w: Sp, t: Shifts, bar: Own) -> Arranged
     requires { ⌜ Moderate x × Moderate z × Within (words 2) (w .0) × ShiftsWithin 12 t × OwnWithin itemWords bar ⌝ }
@@ -227,16 +247,16 @@ fn stacked(x: Size, z: Size, w: Sp, t: Shifts, bar: Own) -> Arranged
     let up = t.up;
     Arranged {
         size: Size {
-            width: w,
+            width: enclosed(w),
             height: x.height.plus(t.up),
             depth: z.depth.plus(t.down),
         },
         first: Offset {
-            across: centred(w, x.width),
+            across: across_of(w, x),
             up,
         },
         second: Offset {
-            across: centred(w, z.width),
+            across: across_of(w, z),
             up: t.down.negated(),
         },
         third: origin(),

@@ -1,17 +1,17 @@
 // Runs test cases through the library and writes what the thin program would write for each.
-// base.bin: 'T', a four-byte length and a table, which holds from there on; 'F', a style, a two-byte length and a formula.
+// cases.bin: 'T', a four-byte length and a table, which holds from there on; 'F', a style, a two-byte length and a formula.
 
 ghost use Prim.Native.Nat.{_≤_};
 
-const CASES_SPACE: usize = 300_000;
+const CASES_SPACE: usize = 360_000;
 
 const NODE_SPACE: usize = 131_072;
 
 fn main() {
     let mut cases = [0u8; CASES_SPACE];
-    let fd = os::open_read(b"base.bin");
+    let fd = os::open_read(b"cases.bin");
     if fd < 0 {
-        os::fail(b"base.bin");
+        os::fail(b"cases.bin");
         return;
     }
     let size = io::read_full(fd, &mut cases);

@@ -192,14 +192,16 @@ fn p9_both_scripts_cramped() {
 #[test]
 fn p10_fraction() {
     let outcome = outcome(TEXT, &fraction(0, &A, &A));
-    assert_eq!(outcome.places(), [(0, 400), (0, 230), (0, -350)]);
-    assert_eq!(outcome.sizes, [500, 830, 350]);
+    assert_eq!(outcome.places(), [(78_643, 400), (78_643, 230), (78_643, -350)]);
+    assert_eq!(outcome.nodes[1][10..14], 500u32.to_le_bytes());
+    assert_eq!(outcome.sizes, [157_786, 830, 350]);
 }
 
 #[test]
 fn p11_fraction_without_bar() {
     let outcome = outcome(TEXT, &fraction(1, &A, &A));
-    assert_eq!(outcome.places(), [(0, 450), (0, -350)]);
+    assert_eq!(outcome.places(), [(78_643, 450), (78_643, -350)]);
+    assert_eq!(outcome.sizes[0], 157_786);
 }
 
 #[test]

@@ -5,17 +5,20 @@ use borrow.Author.Needs.{needs}
 use Rattle.fractions.proofs.stacked.Statement.{statement}
 use Rattle.fractions.proofs.stacked.Tie as tie
 
+enclosed-requires : tie.Need-enclosed-requires
+enclosed-requires c κs = search needs
+
 plus-requires : tie.Need-plus-requires
 plus-requires c κs = search needs
 
 plus-requires-2 : tie.Need-plus-requires-2
 plus-requires-2 c κs = search needs
 
-centred-requires : tie.Need-centred-requires
-centred-requires c κs = search needs
+across-of-requires : tie.Need-across-of-requires
+across-of-requires c κs = search needs
 
-centred-requires-2 : tie.Need-centred-requires-2
-centred-requires-2 c κs = search needs
+across-of-requires-2 : tie.Need-across-of-requires-2
+across-of-requires-2 c κs = search needs
 
 negated-requires : tie.Need-negated-requires
 negated-requires c κs = search needs
@@ -30,14 +33,15 @@ returns c =
     let left = right .before in
     let deep = left .before in
     let high = deep .before in
-    let pre = high .before .before .pre in (
-      rw (c .origin .ensures .0, lower .negated .ensures .is, right .centred2 .ensures .0, left .centred .ensures .0, deep .plus2 .ensures .is, high .plus .ensures .is),
+    let wide = high .before in
+    let pre = wide .before .before .pre in (
+      rw (c .origin .ensures .0, lower .negated .ensures .is, right .across-of2 .ensures .0, left .across-of .ensures .0, deep .plus2 .ensures .is, high .plus .ensures .is, wide .enclosed .ensures .0),
       record {
-        width = omega (arith, pre);
+        width = omega (arith, wide .enclosed .ensures .1);
         height = omega (arith, high .plus .ensures .parts, pre);
         depth = omega (arith, deep .plus2 .ensures .parts, pre);
-        first = omega (arith, left .centred .ensures .1, pre);
-        second = omega (arith, right .centred2 .ensures .1, lower .negated .ensures .parts, pre);
+        first = omega (arith, left .across-of .ensures .1, pre);
+        second = omega (arith, right .across-of2 .ensures .1, lower .negated .ensures .parts, pre);
         third = omega (arith, c .origin .ensures .1);
         own = pre .4;
       },
@@ -47,10 +51,11 @@ pub stacked-spec : {M : Type 1} → statement M
 stacked-spec =
     tie.close
     (tie.spec
+    enclosed-requires
     plus-requires
     plus-requires-2
-    centred-requires
-    centred-requires-2
+    across-of-requires
+    across-of-requires-2
     negated-requires
     origin-requires
     returns)

@@ -1,4 +1,4 @@
-//! Fractions (rules 15 to 15d).
+//! Fractions (rules 15 to 15e).
 
 use crate::answer::Refusal;
 use crate::boxes::{half, Extent, MathBox};
@@ -7,6 +7,9 @@ use crate::nodes::{Ink, Node, Pen};
 use crate::reading::Field;
 use crate::style::Style;
 use crate::table::Parameters;
+
+/// 15e: an absent delimiter, of which one stands on each side.
+const NULL_DELIMITER: i64 = 78_643;
 
 /// How far the numerator goes up and the denominator goes down.
 struct Shifts {
@@ -41,8 +44,9 @@ impl<P: Pen> Layout<'_, P> {
         } else {
             barless_shifts(&numerator, &denominator, style, font)
         };
-        let over = self.place(&numerator, half(width - numerator.width), shifts.up);
-        let under = self.place(&denominator, half(width - denominator.width), -shifts.down);
+        let middle = |part: &MathBox| NULL_DELIMITER + half(width - part.width);
+        let over = self.place(&numerator, middle(&numerator), shifts.up);
+        let under = self.place(&denominator, middle(&denominator), -shifts.down);
         let mut extent = over.joined(under);
         if thickness > 0 {
             let bar = bar(width, thickness, font);
@@ -50,7 +54,7 @@ impl<P: Pen> Layout<'_, P> {
             self.pen.replace(bar_index, bar);
         }
         Ok(MathBox {
-            width,
+            width: width + 2 * NULL_DELIMITER,
             height: numerator.height + shifts.up,
             depth: denominator.depth + shifts.down,
             nodes: self.run_from(start),
@@ -61,7 +65,7 @@ impl<P: Pen> Layout<'_, P> {
 
 fn bar(width: i64, thickness: i64, font: &Parameters) -> Node {
     Node {
-        x: 0,
+        x: NULL_DELIMITER,
         y: font.axis_height() + half(thickness) - thickness,
         ink: Ink::Rule { width, thickness },
     }
