@@ -1,24 +1,24 @@
 -- The check of a table, test by test.
 --     pass, stop                            tests joined by `&&`, after one that holds, or does not
 --     good-table, length-..                 the tests of a table, for `is_good`
---     front-.., sound-front                 the first CH record with the second, for `is_front`, and with those behind it
---     good-character, flag-..               the tests of a CH record, for `is_character` and `is_successor`
---     before-size, before-family, before-code    the order of two, by the first byte that differs, for `is_before`
+--     soundFrom, sound-pass                 the CH records in one pass that carries the least key for the next, for `are_characters`
+--     good-character                        the tests of a CH record, for `is_character`
 -- The idea: each definition is brought into the order of the code's tests, as a && (b && ..), and is then followed by
 -- `pass` up to the test that decides.
 -- Assumes nothing.
-use mathlib.Core.Path.{_≡_, refl, _∙_}
-use mathlib.Core.Bool.{Bool, true, false, _&&_, _||_, or-false}
-use mathlib.Core.List.{List}
-use Prim.Native.Nat.{ℕ, zero, suc, _+_, _-_, _*_, _/_, _<_, _≤_}
+use mathlib.Core.Path.{_≡_, refl, sym, ap, ap₂, _∙_}
+use mathlib.Core.Bool.{Bool, true, false, _&&_, _||_, and-true, and-assoc}
+use mathlib.Core.List.{List, [], _∷_}
+use Prim.Native.Nat.{ℕ, suc, _+_, _-_, _*_, _/_, _<_, _≤_}
 use native.Mathlib.Omega.{arith}
-use borrow.Author.Tests.{lt-ltb, le-ltb, le-leb, lt-leb, eq-eqb, ne-eqb}
-use lib.Dec.{ltb, leb, eqb}
-use lib.ListN.{length, take, drop}
+use borrow.Author.Tests.{le-leb, lt-leb, eq-eqb, ne-eqb}
+use lib.Dec.{leb, eqb}
+use lib.ListN.{length}
 use Rattle.font.specs.Table.{headerBytes, characterBytes, mostCharacters, greatestSize, greatestFamily}
-use Rattle.font.specs.Table.{pieces, parameterRecords, characterRecords, characterCount, metricWords, sizeByte, familyByte, codeByte, flagByte, successorByte}
+use Rattle.font.specs.Table.{parameterRecords, characterRecords, characterCount, metricWords, sizeByte, familyByte, flagByte, successorByte}
 use Rattle.font.specs.Table.{every, marked, goodWord, goodParameters, goodCharacter, before, rising, goodLength, goodTable}
-use Rattle.font.specs.Values.{soundCharacters, soundFront}
+use Rattle.font.specs.Values.{soundCharacters}
+use Rattle.font.specs.Keys.{keyIn, InBytes, AllInBytes, before-key}
 
 -- ---- tests joined by `&&`
 
@@ -64,94 +64,53 @@ module _ (t : List ℕ) where
   unfolding goodLength characterCount
   length-good e h = pass _ _ (eq-eqb _ _ e) ∙ le-leb _ _ h
 
--- ---- CH records
+-- ---- CH records, in one pass
 
-abbrev twoCharacters : ℕ
-twoCharacters = characterBytes + characterBytes
+-- the rules for each of some records, and each key at least the one that may come next
+unfoldable pub soundFrom : ℕ → List (List ℕ) → Bool
+soundFrom least [] = true
+soundFrom least (r ∷ l) = (goodCharacter r && leb least (keyIn r)) && soundFrom (keyIn r + 1) l
 
-module _ (s : List ℕ) where
-  pub front-bad : goodCharacter (take characterBytes s) ≡ false → soundFront s ≡ false
-  unfolding soundFront
-  front-bad g = stop _ _ g
-
-  pub front-last : goodCharacter (take characterBytes s) ≡ true → length s < twoCharacters → soundFront s ≡ true
-  unfolding soundFront
-  front-last g h = pass _ _ g ∙ rw (lt-ltb (length s) twoCharacters h)
-
-  pub front-more : goodCharacter (take characterBytes s) ≡ true → twoCharacters ≤ length s →
-      soundFront s ≡ before (take characterBytes s) (take characterBytes (drop characterBytes s))
-  unfolding soundFront
-  front-more g h = pass _ _ g ∙ rw (le-ltb (length s) twoCharacters h)
-
--- good record, order, rules for each after it, order after it: the first two together
-regroup : (g b e r : Bool) → ((g && e) && (b && r)) ≡ ((g && b) && (e && r))
+-- good record, order, rules for each after it, order after it
+regroup : (g b e r : Bool) → ((g && b) && (e && r)) ≡ ((g && e) && (b && r))
 regroup false b e r = refl
 regroup true true e r = refl
 regroup true false true r = refl
 regroup true false false r = refl
 
--- the rules for some records are those for the first, with its order, and for the others
-pub sound-front : (u : List ℕ) (m : ℕ) → length u ≡ characterBytes * suc m →
-    soundCharacters (pieces characterBytes (suc m) u) ≡ (soundFront u && soundCharacters (pieces characterBytes m (drop characterBytes u)))
-unfolding soundCharacters soundFront pieces every rising
-sound-front u zero h = rw (lt-ltb (length u) twoCharacters (omega arith))
-sound-front u (suc m) h = rw (le-ltb (length u) twoCharacters (omega arith)) (regroup (goodCharacter (take characterBytes u)) _ _ _)
+-- a greater key is at least the next one
+next-key : (r q : List ℕ) → InBytes r → InBytes q → leb (keyIn r + 1) (keyIn q) ≡ before r q
+next-key r q b d =
+    let next : keyIn r + 1 ≡ suc (keyIn r) = omega arith in
+    ap (λ (n : ℕ). leb n (keyIn q)) next ∙ sym (before-key r q b d)
+
+sound-behind : (r : List ℕ) (l : List (List ℕ)) → AllInBytes (r ∷ l) → soundFrom (keyIn r + 1) l ≡ (every goodCharacter l && rising (r ∷ l))
+unfolding soundFrom every rising
+sound-behind r [] b = refl
+sound-behind r (q ∷ l) b =
+    ap₂ (λ (o e : Bool). (goodCharacter q && o) && e) (next-key r q (b 0) (b 1)) (sound-behind q l (λ i. b (suc i)))
+    ∙ regroup (goodCharacter q) (before r q) (every goodCharacter l) (rising (q ∷ l))
+
+pub sound-pass : (l : List (List ℕ)) → AllInBytes l → soundCharacters l ≡ soundFrom 0 l
+unfolding soundCharacters soundFrom every rising
+sound-pass [] b = refl
+sound-pass (r ∷ l) b =
+    let first : (goodCharacter r && leb 0 (keyIn r)) ≡ goodCharacter r = rw (le-leb 0 (keyIn r) (omega arith)) (and-true (goodCharacter r)) in
+    and-assoc (goodCharacter r) (every goodCharacter l) (rising (r ∷ l))
+    ∙ ap (λ (t : Bool). goodCharacter r && t) (sym (sound-behind r l b))
+    ∙ ap (λ (t : Bool). t && soundFrom (keyIn r + 1) l) (sym first)
 
 -- ---- the tests of a CH record
 
--- a flag of 0 or 1, and a successor code of 0 without it
-abbrev pub goodSuccessor : ℕ → ℕ → Bool
-goodSuccessor flag code = leb flag 1 && (eqb flag 1 || eqb code 0)
-
-in-turn : (m s f g o w : Bool) → (m && s && f && g && o && w) ≡ (m && (s && (f && ((g && o) && w))))
-in-turn false s f g o w = refl
-in-turn true false f g o w = refl
-in-turn true true false g o w = refl
-in-turn true true true g o w = refl
+in-turn : (m s f g o w : Bool) → (m && s && f && g && o && w) ≡ (m && s && f && (g && o) && w)
+in-turn m s f g o w = ap (λ (t : Bool). t && w) (and-assoc (m && s && f) g o)
 
 pub good-character : (r : List ℕ) →
     goodCharacter r
     ≡ (marked 67 72 r
-    && (leb (sizeByte r) greatestSize
-    && (leb (familyByte r) greatestFamily
-    && (goodSuccessor (flagByte r) (successorByte r)
-    && every goodWord (metricWords r)))))
+    && leb (sizeByte r) greatestSize
+    && leb (familyByte r) greatestFamily
+    && (leb (flagByte r) 1 && (eqb (flagByte r) 1 || eqb (successorByte r) 0))
+    && every goodWord (metricWords r))
 unfolding goodCharacter
 good-character r = in-turn (marked 67 72 r) (leb (sizeByte r) greatestSize) (leb (familyByte r) greatestFamily) (leb (flagByte r) 1) _ _
-
-module _ (flag code : ℕ) where
-  pub flag-one : flag ≡ 1 → goodSuccessor flag code ≡ true
-  flag-one h = rw (le-leb flag 1 (omega arith), eq-eqb flag 1 h)
-
-  pub flag-zero : flag ≡ 0 → goodSuccessor flag code ≡ eqb code 0
-  flag-zero h = rw h
-
-  pub flag-more : (flag ≡ 1 → ⊥) → (flag ≡ 0 → ⊥) → goodSuccessor flag code ≡ false
-  flag-more h g = rw (lt-leb flag 1 (more flag h g))
-    where
-      more : (n : ℕ) → (n ≡ 1 → ⊥) → (n ≡ 0 → ⊥) → 1 < n
-      more zero h g = absurd (g refl)
-      more (suc zero) h g = absurd (h refl)
-      more (suc (suc n)) h g = omega arith
-
--- ---- the order of two CH records
-
--- the order by one number, where it differs, and else by what is left
-apart : (a b : ℕ) (x : Bool) → (a ≡ b → ⊥) → (ltb a b || (eqb a b && x)) ≡ ltb a b
-apart a b x h = rw (ne-eqb a b h) (or-false (ltb a b))
-
-alike : (a b : ℕ) (x : Bool) → a ≡ b → (ltb a b || (eqb a b && x)) ≡ x
-alike a b x h = rw (le-ltb a b (omega arith), eq-eqb a b h)
-
-module _ (r q : List ℕ) where
-  pub before-size : (sizeByte r ≡ sizeByte q → ⊥) → before r q ≡ ltb (sizeByte r) (sizeByte q)
-  unfolding before
-  before-size s = apart _ _ _ s
-
-  pub before-family : sizeByte r ≡ sizeByte q → (familyByte r ≡ familyByte q → ⊥) → before r q ≡ ltb (familyByte r) (familyByte q)
-  unfolding before
-  before-family s f = alike _ _ _ s ∙ apart _ _ _ f
-
-  pub before-code : sizeByte r ≡ sizeByte q → familyByte r ≡ familyByte q → before r q ≡ ltb (codeByte r) (codeByte q)
-  unfolding before
-  before-code s f = alike _ _ _ s ∙ alike _ _ _ f

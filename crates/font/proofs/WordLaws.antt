@@ -1,14 +1,11 @@
 -- Words and records in a list of bytes, for the loops that read them.
 --     part-of, rest-of    what `&t[a..a + k]` and `&t[a..]` hold
---     turn              a turn of a loop over records: the first of those that are left, and the others
---     Passing           the invariant of a loop that tests records, `stopped` by one, going on to the next by `again`, or `finished`
+--     Passing           the invariant of a loop that tests records, which goes on to the next by `again`, or is `finished`
 --     parameter-word    a parameter of a table's font, by where its word stands in the table: a turn of `row`
 --     number-beyond, size-beyond    beyond the last number and the last size it is 0
--- A turn takes one record off the front; where it stands, and how many are left, is said by equations, so that each loop may count
--- in its own way.
 -- Assumes nothing.
-use mathlib.Core.Path.{_≡_, refl, ap, _∙_}
-use mathlib.Core.Bool.{Bool, true, false, _&&_}
+use mathlib.Core.Path.{_≡_, refl, sym, ap, _∙_}
+use mathlib.Core.Bool.{Bool, true, _&&_, and-true, and-assoc}
 use mathlib.Core.List.{List, [], _∷_, map}
 use Prim.Native.Nat.{ℕ, zero, suc, _+_, _-_, _*_, _<_, _≤_}
 use native.Mathlib.Nat.{add-comm, mul-zero, mul-suc}
@@ -30,36 +27,28 @@ rest-of a t = take-all (length t - a) (drop a t) (simp length-drop (omega arith)
 
 -- ---- records one after the other
 
--- `whole` comes of m records of k bytes from a place on: by what the first of them does to what comes of the others
-pub turn : {B : Type 0} (P : ℕ → List ℕ → B) (f : B → B) {whole : B} (k : ℕ) (s : List ℕ) (m m′ a b : ℕ) →
-    whole ≡ P m (drop a s) → m ≡ suc m′ → b ≡ a + k → P (suc m′) (drop a s) ≡ f (P m′ (drop k (drop a s))) →
-    whole ≡ f (P m′ (drop b s))
-turn P f k s m m′ a b is left next first = is ∙ rw (left, next, ← drop-drop) first
-
--- `whole` says that each of n records passes a test, as P does of so many from the front: the invariant of a loop over them, which
--- has passed i of them and stands at a place
-pub record Passing (P : ℕ → List ℕ → Bool) (whole : Bool) (n : ℕ) (s : List ℕ) (at i : ℕ) : Type 0 where
+-- `whole` says that each of n records passes a test: those so far do if `good`, and P says so of those that are left, from a place
+-- on. The invariant of a loop that has tested i of them
+pub record Passing (P : ℕ → List ℕ → Bool) (whole : Bool) (n : ℕ) (s : List ℕ) (at i : ℕ) (good : Bool) : Type 0 where
   pub passed : i ≤ n
-  pub rest : whole ≡ P (n - i) (drop at s)
+  pub rest : whole ≡ (good && P (n - i) (drop at s))
 
-module _ {P : ℕ → List ℕ → Bool} {whole : Bool} {n at i : ℕ} {s : List ℕ} (p : Passing P whole n s at i) where
-  pub finished : n ≤ i → ((u : List ℕ) → P 0 u ≡ true) → whole ≡ true
+module _ {P : ℕ → List ℕ → Bool} {whole good : Bool} {n at i : ℕ} {s : List ℕ} (p : Passing P whole n s at i good) where
+  -- all have been tested
+  pub finished : n ≤ i → ((u : List ℕ) → P 0 u ≡ true) → whole ≡ good
   finished l none =
       let done : n - i ≡ 0 = omega arith in
-      p .rest ∙ rw done (none (drop at s))
+      p .rest ∙ rw (done, none (drop at s)) (and-true good)
 
-  module _ (k : ℕ) (t : Bool) (more : i < n)
-      (first : (m : ℕ) → n - i ≡ suc m → P (suc m) (drop at s) ≡ (t && P m (drop k (drop at s)))) where
-    tested : (b : ℕ) → b ≡ at + k → whole ≡ (t && P (n - (i + 1)) (drop b s))
-    tested b next =
-        let left : n - i ≡ suc (n - (i + 1)) = omega arith in
-        turn P (λ (r : Bool). t && r) k s (n - i) (n - (i + 1)) at b (p .rest) left next (first (n - (i + 1)) left)
-
-    pub stopped : t ≡ false → whole ≡ false
-    stopped bad = tested (at + k) refl ∙ rw bad
-
-    pub again : {b : ℕ} → b ≡ at + k → t ≡ true → Passing P whole n s b (i + 1)
-    again {b} next good = record { passed = omega arith; rest = tested b next ∙ rw good }
+  -- the first of k bytes, whose test came to t; of those behind it Q says what P said
+  pub again : (Q : ℕ → List ℕ → Bool) (k : ℕ) (t : Bool) {b : ℕ} → i < n → b ≡ at + k →
+      ((m : ℕ) → n - i ≡ suc m → P (suc m) (drop at s) ≡ (t && Q m (drop k (drop at s)))) →
+      Passing Q whole n s b (i + 1) (good && t)
+  again Q k t {b} more next first =
+      let left : n - i ≡ suc (n - (i + 1)) = omega arith in
+      let turn : P (n - i) (drop at s) ≡ (t && Q (n - (i + 1)) (drop b s)) =
+      rw (left, next, ← drop-drop) (first (n - (i + 1)) left) in
+      record { passed = omega arith; rest = p .rest ∙ rw turn (sym (and-assoc good t _)) }
 
 -- ---- the parameters of a table's font
 
@@ -69,18 +58,31 @@ getD-words zero s j h = absurd (omega arith)
 getD-words (suc n) s zero h = refl
 getD-words (suc n) s (suc j) h = getD-words n (drop wordBytes s) j (omega arith) ∙ (let e : wordBytes + wordBytes * j ≡ wordBytes * suc j = omega arith in rw (drop-drop, e))
 
-getD-pieces : {B : Type 0} (f : List ℕ → B) (d : B) (k n : ℕ) (t : List ℕ) (i : ℕ) → i < n → getD (map f (pieces k n t)) i d ≡ f (take k (drop (k * i) t))
+pub length-pieces : (k n : ℕ) (s : List ℕ) → length (pieces k n s) ≡ n
 unfolding pieces
-getD-pieces f d k zero t i h = absurd (omega arith)
-getD-pieces f d k (suc n) t zero h = rw mul-zero
-getD-pieces f d k (suc n) t (suc i) h = getD-pieces f d k n (drop k t) i (omega arith) ∙ rw (drop-drop, mul-suc, add-comm k (k * i))
+length-pieces k zero s = refl
+length-pieces k (suc n) s = ap suc (length-pieces k n (drop k s))
+
+-- a piece by its number
+pub piece-at : (k n : ℕ) (t : List ℕ) (i : ℕ) → i < n → getD (pieces k n t) i [] ≡ take k (drop (k * i) t)
+unfolding pieces
+piece-at k zero t i h = absurd (omega arith)
+piece-at k (suc n) t zero h = rw mul-zero
+piece-at k (suc n) t (suc i) h = piece-at k n (drop k t) i (omega arith) ∙ rw (drop-drop, mul-suc, add-comm k (k * i))
+
+getD-map : {B : Type 0} (f : List ℕ → B) (d : B) (l : List (List ℕ)) (i : ℕ) → i < length l → getD (map f l) i d ≡ f (getD l i [])
+getD-map f d [] i h = absurd (omega arith)
+getD-map f d (r ∷ l) zero h = refl
+getD-map f d (r ∷ l) (suc i) h = getD-map f d l i (omega arith)
 
 pub parameter-word : (t : List ℕ) (size number : ℕ) → size < sizeCount → number < parameterCount → fontOf t .parameter size number ≡ littleEndian wordBytes (drop (parameterBytes * size + markBytes + wordBytes * number) t)
 unfolding fontOf parameterRecords parameterWords
 parameter-word t size number hs hn =
     let start = parameterBytes * size in
     let b = markBytes + wordBytes * number in
-    let row = getD-pieces parameterWords [] parameterBytes sizeCount t size hs in
+    let rows = pieces parameterBytes sizeCount t in
+    let inside : size < length rows = omega (arith, length-pieces parameterBytes sizeCount t) in
+    let row = getD-map parameterWords [] rows size inside ∙ ap parameterWords (piece-at parameterBytes sizeCount t size hs) in
     let word = getD-words parameterCount (drop markBytes (take parameterBytes (drop start t))) number hn in
     let within = word-take parameterBytes b (drop start t) (omega arith) in
     let place : start + b ≡ start + markBytes + wordBytes * number = omega arith in
@@ -92,11 +94,6 @@ length-words : (n : ℕ) (s : List ℕ) → length (words n s) ≡ n
 unfolding words
 length-words zero s = refl
 length-words (suc n) s = ap suc (length-words n (drop wordBytes s))
-
-length-pieces : (k n : ℕ) (s : List ℕ) → length (pieces k n s) ≡ n
-unfolding pieces
-length-pieces k zero s = refl
-length-pieces k (suc n) s = ap suc (length-pieces k n (drop k s))
 
 row-short : (l : List (List ℕ)) (size : ℕ) → length (getD (map parameterWords l) size []) ≤ parameterCount
 unfolding parameterWords

@@ -4,3 +4,5 @@ pub mod Table
 pub mod Font
 pub mod Values
 pub mod FontLaws
+pub mod Keys
+pub mod Halving

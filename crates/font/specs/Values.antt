@@ -2,21 +2,19 @@
 --     foundAs            what a lookup found
 --     HoldsParameters    three rows of numbers hold the parameters of a table's font
 --     soundCharacters    the rules for the CH records, those for each and that for their order together
---     soundFront         the same of the first record of some bytes, and of its order with the second
 -- Assumes nothing.
 use mathlib.Core.Path.{_≡_}
-use mathlib.Core.Bool.{Bool, _&&_, _||_}
+use mathlib.Core.Bool.{Bool, _&&_}
 use mathlib.Core.List.{List, []}
 use mathlib.Core.Option.{Option, none, some}
-use Prim.Native.Nat.{ℕ, _+_}
-use lib.Dec.{ltb}
-use lib.ListN.{length, getD, take, drop}
+use Prim.Native.Nat.{ℕ}
+use lib.ListN.{getD}
 use Rattle.font.specs.declared.Metrics as declared
 use Rattle.font.specs.declared.Successor.{Successor}
 use Rattle.font.specs.declared.Successor.the-variants.{Nothing, Code}
 use Rattle.font.specs.declared.Found.{Found}
 use Rattle.font.specs.declared.Found.the-variants.{Symbol, Absent}
-use Rattle.font.specs.Table.{characterBytes, every, goodCharacter, before, rising}
+use Rattle.font.specs.Table.{every, goodCharacter, rising}
 use Rattle.font.specs.Font.{Metrics, fontOf}
 
 -- ---- a lookup
@@ -53,8 +51,3 @@ pub record HoldsParameters (r : List (List ℕ)) (t : List ℕ) : Type 0 where
 
 unfoldable pub soundCharacters : List (List ℕ) → Bool
 soundCharacters l = every goodCharacter l && rising l
-
-unfoldable pub soundFront : List ℕ → Bool
-soundFront s =
-    let r = take characterBytes s in
-    goodCharacter r && (ltb (length s) (characterBytes + characterBytes) || before r (take characterBytes (drop characterBytes s)))

@@ -16,9 +16,10 @@ pub const HEADER_BYTES: usize = SIZE_COUNT * PARAMETER_BYTES;
 // CH records: where each part of one stands.
 pub const CHARACTER_BYTES: usize = 23;
 
-pub const TWO_CHARACTERS: usize = CHARACTER_BYTES + CHARACTER_BYTES;
-
 pub const MOST_CHARACTERS: usize = 2_048;
+
+// Steps of a lookup, each of which halves the records.
+pub const MOST_STEPS: usize = 12;
 
 pub const SIZE: usize = 2;
 

@@ -4,10 +4,11 @@ mod format;
 mod records;
 
 ghost use mathlib.Core.Path.{_≡_};
-ghost use Prim.Native.Nat.{ℕ, _<_, _≤_};
-ghost use lib.ListN.{length, getD};
+ghost use mathlib.Core.Bool.{true};
+ghost use Prim.Native.Nat.{_<_, _≤_};
+ghost use lib.ListN.{length};
 ghost use Rattle.font.specs.Table.{sizeCount, headerBytes, characterBytes, goodTable};
-ghost use Rattle.font.specs.Font.{fontOf, isOf, metricsOf, successorOf};
+ghost use Rattle.font.specs.Font.{fontOf, metricsOf, successorOf};
 ghost use Rattle.font.specs.Values.{foundAs, metricsAs, successorAs, HoldsRow, HoldsParameters};
 
 // The code of the next larger symbol of the same family, if there is one.
@@ -77,36 +78,32 @@ fn row(table: &[u8], size: usize) -> [u32; 35]
     words
 }
 
-// The symbol of a size, family and code: the first record that is theirs.
+// The symbol of a size, family and code. The records of a good table rise, so that each step halves the range `from` to `to`
+// in which its record can be. `steps` only counts: that it never falls below 0 is proved, so that twelve are enough.
 pub fn symbol(table: &[u8], size: u8, family: u8, code: u8) -> Found
+    requires { ⌜ goodTable (now table) ≡ true ⌝ }
     ensures { λ answer. ⌜ foundAs answer ≡ fontOf (now (table .entry)) .symbol size family code ⌝ }
 {
-    if table.len() < format::HEADER_BYTES {
-        return Found::Absent;
-    }
-    let mut at = format::HEADER_BYTES;
-    while format::CHARACTER_BYTES <= table.len() - at {
-        let next = at + format::CHARACTER_BYTES;
-        if is_of(&table[at..next], size, family, code) {
-            return Found::Symbol(metrics_of(&table[at..next]));
+    let key = records::key_of(size, family, code);
+    let mut from = 0;
+    let mut to = (table.len() - format::HEADER_BYTES) / format::CHARACTER_BYTES;
+    let mut steps = format::MOST_STEPS;
+    while from < to {
+        steps -= 1;
+        let middle = (from + to) / 2;
+        let at = format::HEADER_BYTES + format::CHARACTER_BYTES * middle;
+        let other = records::key_at(table, at);
+        if other == key {
+            let end = at + format::CHARACTER_BYTES;
+            return Found::Symbol(metrics_of(&table[at..end]));
         }
-        at = next;
+        if other < key {
+            from = middle + 1;
+        } else {
+            to = middle;
+        }
     }
     Found::Absent
-}
-
-// Whether a record is that of this size, family and code. Most records have another code, so that is tested first.
-fn is_of(r: &[u8], size: u8, family: u8, code: u8) -> bool
-    requires { ⌜ characterBytes ≤ length (now r) ⌝ }
-    ensures { λ answer. ⌜ answer ≡ isOf size family code (now (r .entry)) ⌝ }
-{
-    if r[format::CODE] != code {
-        return false;
-    }
-    if r[format::FAMILY] != family {
-        return false;
-    }
-    r[format::SIZE] == size
 }
 
 // The metrics in a record.

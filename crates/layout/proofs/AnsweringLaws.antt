@@ -76,7 +76,7 @@ module _ (style : ℕ) (table formula : List ℕ) where
 pub given-list : {style : ℕ} {table formula : List ℕ} {s : Style} (p : List (List ℕ)) → Reads style table formula s →
     HoldsParameters p table → ListGiven table p formula
 given-list {table = table} p h held =
-    record { parameters-are = taken-out table p held; readable = h .readable; short = omega (arith, h .short) }
+    record { table-good = h .table-good; parameters-are = taken-out table p held; readable = h .readable; short = omega (arith, h .short) }
 
 module _ (s : Style) (table formula : List ℕ) where
   abbrev F : Font

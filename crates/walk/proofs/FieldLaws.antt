@@ -141,6 +141,7 @@ list-given {t} {p} {s} {at} {end} {opening} {n} {start} given o empty-line =
       record {
         list =
             record {
+              table-good = given .table-good;
               parameters-are = given .parameters-are;
               readable = subst (GoodField (drop at s)) (o .is) (given .good);
               short = omega arith;

@@ -312,7 +312,7 @@ rest-given {s = s} {at = at} given a more =
     let low = a .low in
     rw (tail-part s at) (
       record {
-        list = record { parameters-are = given .list .parameters-are; readable = a .rest; short = omega arith };
+        list = record { table-good = given .list .table-good; parameters-are = given .list .parameters-are; readable = a .rest; short = omega arith };
         small = line-more (omega arith) (a .added .grows (longest - length s) (given .small));
       },
       omega arith,

@@ -14,6 +14,7 @@ use lib.IntN.{ℤ, pos, _+ℤ_}
 use lib.ListN.{length, drop}
 use Rattle.scaled.specs.Length.{maxℤ}
 use Rattle.scaled.specs.Signed.{Within}
+use Rattle.font.specs.Table.{goodTable}
 use Rattle.font.specs.Font.{Font, fontOf}
 use Rattle.formula.specs.declared.Class.{Class}
 use Rattle.formula.specs.declared.Kind.{Kind}
@@ -258,6 +259,7 @@ pub record Finished (P : Parameters) (s : Style) (kind : Kind) (right : Neighbou
 
 -- a list's bytes, a table and its parameters
 pub record ListGiven (t : List ℕ) (p : List (List ℕ)) (s : List ℕ) : Type 0 where
+  pub table-good : goodTable t ≡ true
   pub parameters-are : parametersIn p ≡ fontOf t .parameter
   pub readable : Readable s
   pub short : length s ≤ longest
@@ -274,6 +276,7 @@ pub record NoadGiven (t : List ℕ) (p : List (List ℕ)) (s : List ℕ) (kind :
 
 -- a field at a place of its item
 pub record FieldGiven (t : List ℕ) (p : List (List ℕ)) (s : List ℕ) (at : ℕ) : Type 0 where
+  pub table-good : goodTable t ≡ true
   pub parameters-are : parametersIn p ≡ fontOf t .parameter
   pub good : GoodFieldAt s at
   pub inside : at ≤ length s

@@ -1,6 +1,9 @@
 // A field that has been set alone, at its own reference point.
 
+ghost use mathlib.Core.Path.{_≡_};
+ghost use mathlib.Core.Bool.{true};
 ghost use Prim.Native.Nat.{_<_};
+ghost use Rattle.font.specs.Table.{goodTable};
 ghost use Rattle.font.specs.Font.{fontOf};
 ghost use Rattle.formula.specs.Tree.{symbol};
 ghost use Rattle.walk.specs.Walked.{EmptyPart, FieldDone};
@@ -48,7 +51,7 @@ pub fn symbol_part(
     end: usize,
     buf: &mut [u8],
 ) -> FieldSet
-    requires { ⌜ at < end ⌝ }
+    requires { ⌜ (goodTable (now table) ≡ true) × (at < end) ⌝ }
     ensures { λ r. ⌜ FieldDone (fontOf (now (table .entry))) style enlarge (symbol family code) at end (now (buf .entry)) r (now (buf .exit)) ⌝ }
 {
     let size = font_size(style) as u8;

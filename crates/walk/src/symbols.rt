@@ -1,6 +1,8 @@
 // The symbol that is set for a family and a code.
 
 ghost use mathlib.Core.Path.{_≡_};
+ghost use mathlib.Core.Bool.{true};
+ghost use Rattle.font.specs.Table.{goodTable};
 ghost use Rattle.font.specs.Font.{fontOf};
 ghost use Rattle.font.specs.Values.{foundAs, successorAs};
 ghost use Rattle.setting.specs.Setting as definition;
@@ -22,6 +24,7 @@ pub enum Sought {
 
 // A symbol gives way to its successor, if it has one, where it is enlarged.
 pub fn symbol_in(table: &[u8], size: u8, enlarge: bool, family: u8, code: u8) -> Sought
+    requires { ⌜ goodTable (now table) ≡ true ⌝ }
     ensures { λ r. ⌜ soughtAs r ≡ definition.symbolIn (fontOf (now (table .entry))) size enlarge family code ⌝ }
 {
     let found = font::symbol(table, size, family, code);
@@ -38,6 +41,7 @@ pub fn symbol_in(table: &[u8], size: u8, enlarge: bool, family: u8, code: u8) ->
 }
 
 fn successor(table: &[u8], size: u8, family: u8, symbol: Symbol) -> Sought
+    requires { ⌜ goodTable (now table) ≡ true ⌝ }
     ensures { λ r. ⌜ soughtAs r ≡ definition.successor (fontOf (now (table .entry))) size family (symbolAs symbol) (successorAs (symbol .metrics .successor)) ⌝ }
 {
     let metrics = symbol.metrics;

@@ -1,6 +1,6 @@
 -- `metrics_of` reads the four words one after the other, as `words` does.
 use borrow.Author.Needs.{needs}
-use Rattle.font.proofs.LookupLaws.{metrics-of}
+use Rattle.font.proofs.RecordLaws.{metrics-of}
 use Rattle.font.proofs.metrics_of.Tie as tie
 use Rattle.font.proofs.metrics_of.Statement.{statement}
 

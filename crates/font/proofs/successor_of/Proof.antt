@@ -1,7 +1,7 @@
 -- `successor_of` goes by the flag.
 use mathlib.Core.Path.{sym}
 use borrow.Author.Needs.{needs}
-use Rattle.font.proofs.LookupLaws.{successor-some, successor-none}
+use Rattle.font.proofs.RecordLaws.{successor-some, successor-none}
 use Rattle.font.proofs.successor_of.Tie as tie
 use Rattle.font.proofs.successor_of.Statement.{statement}
 

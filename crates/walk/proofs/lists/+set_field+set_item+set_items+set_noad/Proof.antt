@@ -181,6 +181,11 @@ list-lacks t c =
     head-missing (fontOf (a .table .now)) (a .style) (a .enlarge) (a .buf .now) (list-buffer t set) (list-head t (listed-of t set)) (set .before .before .start .ensures) _
     (set .set-items .ensures) (c .before .l2 .given .1)
 
+set-field-symbol-part-requires : (t : ℕ) → set-field-lts.Need-symbol-part-requires (set-field-claims t) (set-field-at t) set-field.Post
+set-field-symbol-part-requires t c κs =
+    let read = c .before .before .before .before in
+    (read-start t read .pre .1 .table-good, omega (arith, head-of t read (c .before .before .head .given .1) .goes))
+
 set-field-set-items-requires : (t : ℕ) → set-field-lts.Need-set-items-requires (set-field-claims t) (set-field-at t) set-field.Post
 set-field-set-items-requires t c κs =
     let listed = c .before .before .before in
@@ -619,6 +624,7 @@ set-noad-set-field-requires t c κs =
     let items = start .pre .1 .items .list in (
       omega (arith, start .pre .0),
       record {
+        table-good = items .table-good;
         parameters-are = items .parameters-are;
         good = rw (opened .opening-bytes .ensures) (n .x);
         inside = rw (opened .opening-bytes .ensures) (omega (arith, n .first-in, n .second-in, n .third-in, n .end-in));
@@ -641,6 +647,7 @@ set-noad-set-field-requires-2 t c κs =
     let items = start .pre .1 .items .list in (
       omega (arith, start .pre .0),
       record {
+        table-good = items .table-good;
         parameters-are = items .parameters-are;
         good = rw (o .wx .end-is) (o .noad .y);
         inside = rw (o .wx .end-is) (omega (arith, o .noad .second-in, o .noad .third-in, o .noad .end-in));
@@ -666,6 +673,7 @@ set-noad-set-field-requires-3 t c κs =
     let has = sym (c .before .before .before .has-third .ensures) ∙ c .before .before .if1 .taken in (
       omega (arith, start .pre .0),
       record {
+        table-good = items .table-good;
         parameters-are = items .parameters-are;
         good = rw (o .wy .end-is) (third-good _ _ _ has (o .noad .z));
         inside = rw (o .wy .end-is) (omega (arith, o .noad .third-in, o .noad .end-in));
@@ -723,7 +731,7 @@ pub +set-field+set-item+set-items+set-noad-spec : {M : Type 1} → statement M
     (λ c. search needs)
     (λ c κs. search needs)
     (λ c. search needs)
-    (λ c κs. omega (arith, head-of t (c .before .before .before .before) (c .before .before .head .given .1) .goes))
+    (set-field-symbol-part-requires t)
     (λ c. search needs)
     (λ c. omega (arith, list-head t c .goes, list-head t c .inside, read-start t (read-of t c) .pre .1 .short))
     (λ c. omega (arith, list-head t c .goes, list-head t c .inside, read-start t (read-of t c) .pre .1 .short))

@@ -46,7 +46,7 @@ returns c =
     let symbol = known .sought .given .0 .0 in
     let found : symbolIn (fontOf (a .table .now)) (fontSize (a .style)) (a .enlarge) (a .family) (a .code) ≡ some (symbolAs symbol) =
     rw (← size) (sym (looked .symbol-in .ensures) ∙ ap soughtAs (known .sought .given .1)) in
-    symbol-whole (fontOf (a .table .now)) (a .style) (a .enlarge) (a .at) (a .end) (a .buf .now) (a .family) (a .code) (start .pre) symbol _ _ found
+    symbol-whole (fontOf (a .table .now)) (a .style) (a .enlarge) (a .at) (a .end) (a .buf .now) (a .family) (a .code) (start .pre .1) symbol _ _ found
     (c .point .ensures) (rw (← size) (put .put-glyph .ensures))
 
 returns-2 : tie.Need-returns-2
@@ -57,7 +57,7 @@ returns-2 c =
     let size = looked .before .font-size .ensures .0 in
     let lacks : symbolIn (fontOf (a .table .now)) (fontSize (a .style)) (a .enlarge) (a .family) (a .code) ≡ none =
     rw (← size) (sym (looked .symbol-in .ensures) ∙ ap soughtAs (c .enum-told .given .1)) in
-    symbol-missing (fontOf (a .table .now)) (a .style) (a .enlarge) (a .at) (a .end) (a .buf .now) (a .family) (a .code) (start .pre) lacks
+    symbol-missing (fontOf (a .table .now)) (a .style) (a .enlarge) (a .at) (a .end) (a .buf .now) (a .family) (a .code) (start .pre .1) lacks
 
 pub symbol-part-spec : {M : Type 1} → statement M
 symbol-part-spec =
