@@ -1,6 +1,6 @@
 //! The formulas that are set, over letters that both tables have.
 
-use reference::compose::{atom, fraction, kern, list, symbol, EMPTY};
+use reference::compose::{atom, choice, fraction, kern, list, symbol, EMPTY};
 
 /// Family and code of the signs that stand in other places in other tables.
 pub struct Alphabet {
@@ -11,6 +11,8 @@ pub struct Alphabet {
 const A: [u8; 3] = [1, 1, b'a'];
 const F: [u8; 3] = [1, 1, b'f'];
 const SUM: [u8; 3] = [1, 3, 80];
+/// A list with nothing in it.
+const NO_ITEMS: [u8; 3] = [2, 0, 0];
 
 fn ord(fields: [&[u8]; 3]) -> Vec<u8> {
     atom(0, 0, fields)
@@ -84,7 +86,7 @@ fn phrase(letters: &Alphabet, nucleus: &[u8]) -> Vec<u8> {
     .concat()
 }
 
-/// Phrases one after the other; `bytes` is a multiple of a phrase's.
+/// As many phrases, one after the other, as there are in so many bytes.
 pub fn flat(letters: &Alphabet, bytes: usize) -> Vec<u8> {
     phrase(letters, &A).repeat(bytes / PHRASE_BYTES)
 }
@@ -95,4 +97,20 @@ pub fn nested(letters: &Alphabet, bytes: usize, depth: usize) -> Vec<u8> {
     let levels = depth - 1;
     let innermost = flat(letters, bytes - levels * PHRASE_BYTES);
     (0..levels).fold(innermost, |inner, _| phrase(letters, &list(&inner)))
+}
+
+/// As many choices between empty lists as there is room for.
+pub fn empty_choices(most: usize) -> Vec<u8> {
+    let item = choice([&NO_ITEMS; 4]);
+    item.repeat(most / item.len())
+}
+
+/// As many phrases as there is room for, in the list for display of a choice,
+/// which stands in that of another, down to the given depth.
+pub fn chosen(letters: &Alphabet, most: usize, depth: usize) -> Vec<u8> {
+    let levels = depth - 1;
+    let innermost = flat(letters, most - levels * choice([&NO_ITEMS; 4]).len());
+    (0..levels).fold(innermost, |inner, _| {
+        choice([&list(&inner), &NO_ITEMS, &NO_ITEMS, &NO_ITEMS])
+    })
 }

@@ -1,6 +1,6 @@
 //! What the tables of times and of instructions set, row by row.
 
-use crate::formulas::{flat, nested, typical, Alphabet, PHRASE_BYTES};
+use crate::formulas::{chosen, empty_choices, flat, nested, typical, Alphabet, PHRASE_BYTES};
 use crate::work::{Call, Work};
 
 pub struct Font {
@@ -35,8 +35,13 @@ type Formulas = fn(&Alphabet) -> Vec<Vec<u8>>;
 const PHRASE: Formulas = |letters| vec![flat(letters, PHRASE_BYTES)];
 const FLAT: Formulas = |letters| vec![flat(letters, LONGEST)];
 const NESTED: Formulas = |letters| vec![nested(letters, LONGEST, DEEPEST)];
+const EMPTY_CHOICES: Formulas = |_| vec![empty_choices(LONGEST)];
+const CHOSEN: Formulas = |letters| vec![chosen(letters, LONGEST, DEEPEST)];
 
-const OVER_A_FONT: [(&str, Call, Formulas); 6] = [
+type Row = (&'static str, Call, Formulas);
+
+/// Over each of the fonts.
+const OVER_A_FONT: [Row; 6] = [
     ("typical", Call::Measure, typical),
     ("typical", Call::Set, typical),
     ("64 bytes, one phrase", Call::Measure, PHRASE),
@@ -45,12 +50,24 @@ const OVER_A_FONT: [(&str, Call, Formulas); 6] = [
     ("4,096 bytes, nested 16 deep", Call::Set, NESTED),
 ];
 
-pub const ROWS: usize = FONTS.len() * OVER_A_FONT.len();
+/// Over the bench table alone.
+const OVER_BENCH: [Row; 2] = [
+    ("4,088 bytes, empty choices", Call::Set, EMPTY_CHOICES),
+    ("4,050 bytes, flat, in choices 16 deep", Call::Set, CHOSEN),
+];
+
+const FONT_ROWS: usize = FONTS.len() * OVER_A_FONT.len();
+pub const ROWS: usize = FONT_ROWS + OVER_BENCH.len();
 
 /// The work of the row, counted from 0; it is named by the row's first cells.
 pub fn row(number: usize) -> Work {
-    let font = FONTS[number / OVER_A_FONT.len()];
-    let (what, call, formulas) = OVER_A_FONT[number % OVER_A_FONT.len()];
+    let (font, (what, call, formulas)) = match number.checked_sub(FONT_ROWS) {
+        None => (
+            FONTS[number / OVER_A_FONT.len()],
+            OVER_A_FONT[number % OVER_A_FONT.len()],
+        ),
+        Some(further) => (&BENCH, OVER_BENCH[further]),
+    };
     let name = format!("{what} | {} | {call:?}", font.name);
     Work::new(name, call, font.table, formulas(&font.alphabet))
 }

@@ -1,8 +1,8 @@
 //! The tables of times.
 
 use crate::figures::grouped;
-use crate::formulas::{flat, typical, PHRASE_BYTES};
-use crate::rows::{row, Font, BENCH, FONTS, LONGEST, ROWS};
+use crate::formulas::{chosen, empty_choices, flat, typical, PHRASE_BYTES};
+use crate::rows::{row, Font, BENCH, DEEPEST, FONTS, LONGEST, ROWS};
 use crate::timing::Job;
 use crate::work::{Call, Work};
 
@@ -12,19 +12,21 @@ const SILENT_ROUNDS: usize = 5;
 
 /// Every round times all jobs, so that a slow spell of the machine meets all.
 pub fn print() {
-    let mut sections = [speed_jobs(), share_jobs(), growth_jobs()];
+    let mut sections = [speed_jobs(), share_jobs(), growth_jobs(), form_jobs()];
     for round in 1..=ROUNDS {
         sections.iter_mut().flatten().for_each(Job::round);
         if round % SILENT_ROUNDS == 0 {
             eprintln!("times: {round} of {ROUNDS} rounds");
         }
     }
-    let [speeds, shares, growth] = sections;
+    let [speeds, shares, growth, forms] = sections;
     print_speeds(&speeds);
     println!();
     print_shares(&shares);
     println!();
     print_growth(&growth);
+    println!();
+    print_forms(&growth[0], &forms);
 }
 
 fn speed_jobs() -> Vec<Job> {
@@ -94,6 +96,51 @@ fn print_growth(jobs: &[Job]) {
             (job.library() - empty.library()) / bytes as f64,
             (job.reference() - empty.reference()) / bytes as f64,
             job.speed_ratio()
+        );
+    }
+}
+
+/// The longest formula of each form, the flat one first.
+fn forms() -> [(&'static str, Vec<u8>); 3] {
+    let letters = &BENCH.alphabet;
+    [
+        ("flat", flat(letters, LONGEST)),
+        ("empty choices", empty_choices(LONGEST)),
+        (
+            "flat, in choices 16 deep",
+            chosen(letters, LONGEST, DEEPEST),
+        ),
+    ]
+}
+
+fn form_jobs() -> Vec<Job> {
+    let job = |(name, formula): (&str, Vec<u8>)| {
+        Job::new(Work::new(name, Call::Set, BENCH.table, vec![formula]))
+    };
+    forms().into_iter().map(job).collect()
+}
+
+/// As in the growth; `empty` is the empty formula's job.
+fn print_forms(empty: &Job, jobs: &[Job]) {
+    println!("| form, bench.tab | bytes | library, ns a byte | of flat | reference, ns a byte | of flat |");
+    println!("|---|--:|--:|--:|--:|--:|");
+    let lengths = forms().map(|(_, formula)| formula.len());
+    let a_byte = |at: usize| {
+        let bytes = lengths[at] as f64;
+        [
+            (jobs[at].library() - empty.library()) / bytes,
+            (jobs[at].reference() - empty.reference()) / bytes,
+        ]
+    };
+    let flat = a_byte(0);
+    for (at, job) in jobs.iter().enumerate() {
+        let [library, reference] = a_byte(at);
+        println!(
+            "| {} | {} | {library:.2} | {:.2} | {reference:.2} | {:.2} |",
+            job.work.name,
+            grouped(lengths[at] as f64),
+            library / flat[0],
+            reference / flat[1]
         );
     }
 }

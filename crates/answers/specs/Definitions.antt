@@ -6,8 +6,8 @@ use Rattle.font.specs.Table.{pieces, characterCount, parameterRecords, characte
 use Rattle.font.specs.Font.{successorOf, metricsOf, isOf, lookup, fontOf}
 use Rattle.formula.specs.Tree.{itemsBytes, itemBytes, fieldBytes}
 use Rattle.formula.specs.Marks.{markIn, markOf}
-use Rattle.formula.specs.Heads.{atomOf, atomOpening, fractionOf, fractionOpening, kernWithin, kernOpening, opens, openingOf, symbolHead, listHead, fieldHead}
-use Rattle.formula.specs.Reading.{listGot, fieldBy, fieldAt, thirdAt, noadAt, openedBy, itemBy, before as beforeReading, restBy, listBy, readBy, read, readFormula}
+use Rattle.formula.specs.Heads.{atomOf, atomOpening, fractionOf, fractionOpening, kernWithin, kernOpening, styleOpening, opens, openingOf, symbolHead, listHead, fieldHead}
+use Rattle.formula.specs.Reading.{listGot, fieldBy, onlyList, fieldAt, thirdAt, noadAt, listAt, choiceAt, openedBy, itemBy, before as beforeReading, restBy, listBy, readBy, read, readFormula}
 use Rattle.boxes.specs.Styles.{styleOf}
 use Rattle.spacing.specs.Classes.{changedClass}
 use Rattle.spacing.specs.Spacing.{row, chart, spaceBefore}
@@ -17,11 +17,11 @@ use Rattle.fractions.specs.Fractions.{fractionShifts, parted, shiftsWithoutBar,
 use Rattle.arrange.specs.Arrange.{nucleusOf, arrange}
 use Rattle.nodes.specs.Nodes.{moved, signedBytes, nodeBytes, bytesOf}
 use Rattle.nodes.specs.Bounds.{nodesFit}
-use Rattle.setting.specs.Setting.{found, successor, enlarged, symbolIn, symbolPart, ruleNodes, itemNodes, itemBox, placed, nextClass, setItems, setItem, setField, setList}
+use Rattle.setting.specs.Setting.{found, successor, enlarged, symbolIn, symbolPart, ruleNodes, itemNodes, itemBox, styleAfter, styleBehind, nextClass, classAt, placed, setItems, setItem, setField, setList}
 use Rattle.setting.specs.Missing.{later, absentAt, missingItems, missingItem, missingField}
 use Rattle.setting.specs.Fitting.{boxFits, itemsFit, itemFits, fieldFits, listFits}
 use Rattle.answers.specs.Answers.{ifFits, ifPresent, ifRead, ifGood, ifStyle, resultOf, measuredBy, measured, hasRoom, setBy, setting, bufferBy, bufferAfter}
 
 unfoldable pub definitions : Unit {0}
-unfolding pick maxℤ minℤ half atQuad littleEndian signedWord wordOf fourBytes pieces characterCount parameterRecords characterRecords words marked parameterWords metricWords every goodParameters goodCharacter before rising goodLength goodTable successorOf metricsOf isOf lookup fontOf itemsBytes itemBytes fieldBytes markIn markOf atomOf atomOpening fractionOf fractionOpening kernWithin kernOpening opens openingOf symbolHead listHead fieldHead listGot fieldBy fieldAt thirdAt noadAt openedBy itemBy beforeReading restBy listBy readBy read readFormula styleOf changedClass row chart spaceBefore limited drops greatest subscriptCandidates leastUp superscriptCandidates pairCandidates gapDown ψOf lifted spread pairShifts reach scripted fractionShifts parted shiftsWithoutBar cleared shiftsWithBar fraction nucleusOf arrange moved signedBytes nodeBytes bytesOf found successor enlarged symbolIn symbolPart ruleNodes itemNodes itemBox placed nextClass setItems setItem setField setList later absentAt missingItems missingItem missingField nodesFit boxFits itemsFit itemFits fieldFits listFits ifFits ifPresent ifRead ifGood ifStyle resultOf measuredBy measured hasRoom setBy setting bufferBy bufferAfter
+unfolding pick maxℤ minℤ half atQuad littleEndian signedWord wordOf fourBytes pieces characterCount parameterRecords characterRecords words marked parameterWords metricWords every goodParameters goodCharacter before rising goodLength goodTable successorOf metricsOf isOf lookup fontOf itemsBytes itemBytes fieldBytes markIn markOf atomOf atomOpening fractionOf fractionOpening kernWithin kernOpening styleOpening opens openingOf symbolHead listHead fieldHead listGot fieldBy onlyList fieldAt thirdAt noadAt listAt choiceAt openedBy itemBy beforeReading restBy listBy readBy read readFormula styleOf changedClass row chart spaceBefore limited drops greatest subscriptCandidates leastUp superscriptCandidates pairCandidates gapDown ψOf lifted spread pairShifts reach scripted fractionShifts parted shiftsWithoutBar cleared shiftsWithBar fraction nucleusOf arrange moved signedBytes nodeBytes bytesOf found successor enlarged symbolIn symbolPart ruleNodes itemNodes itemBox styleAfter styleBehind nextClass classAt placed setItems setItem setField setList later absentAt missingItems missingItem missingField nodesFit boxFits itemsFit itemFits fieldFits listFits ifFits ifPresent ifRead ifGood ifStyle resultOf measuredBy measured hasRoom setBy setting bufferBy bufferAfter
 definitions = tt

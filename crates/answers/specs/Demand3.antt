@@ -1,8 +1,10 @@
 -- Demand 3: a list field stands in the whole as it stands alone. It is shown from bytes, for every style, table and formula that
--- setting accepts with room enough, and for every list field in it, at any depth: by the place of its kind byte (`demand-3-at`,
--- with `ListFieldAt` of `ListFields`), and by a path (`demand-3`): the list l at `into p t`, which is in the list at p, past the
--- items before, into one field of the next item.
---     fieldPart, fieldStyleNumber     the field's bytes, in the middle of the formula, and the style that the rules give it
+-- setting accepts with room enough, and for every list field of what is set, at any depth: by the place of its kind byte
+-- (`demand-3-at`, with `ListFieldAt` of `ListFields`), and by a path (`demand-3`): the list l at `into p t`, which is in the list at p,
+-- at a spot of it, in one field of the item there. An item in the list that a choice takes is set too; the choice's lists themselves are
+-- no list fields.
+--     fieldPart, fieldStyleNumber     the field's bytes, in the middle of the formula, and the style that the rules give it from the
+--                  style current at its item
 --     Alone        1: with those bytes as the formula and in that style, measuring accepts, and setting with room enough
 --     InPlace      2: the buffer of the whole has nodes before, the field's nodes as alone but for one distance, nodes after;
 --                  of each of the field's nodes only the bytes of x and y change (`OnlyPlaceMoved` of `MovedBytes`)
@@ -18,12 +20,12 @@ use mathlib.Core.List.{List, _++_, append-assoc}
 use mathlib.Core.Option.{some}
 use Prim.Native.Nat.{ℕ, _+_, _*_, _≤_, _<_}
 use native.Mathlib.Omega.{arith}
-use lib.ListN.{length, drop, length-append}
+use lib.ListN.{length, take, drop, length-append}
 use Rattle.font.specs.Font.{Font, fontOf}
 use Rattle.formula.specs.Tree.{Items, list, listOpeningBytes}
 use Rattle.formula.specs.Reading.{good}
 use Rattle.formula.specs.Places.{treeOf}
-use Rattle.formula.specs.PlacesLaws.{readable-of, tree-is}
+use Rattle.formula.specs.PlacesLaws.{readable-of, tree-is, items-bytes}
 use Rattle.boxes.specs.declared.styles.Level.{Level}
 use Rattle.boxes.specs.declared.styles.Level.the-variants.{Display, Text, Script, Scriptscript}
 use Rattle.boxes.specs.declared.styles.Style.{Style}
@@ -34,7 +36,7 @@ use Rattle.nodes.specs.Nodes.{Node, bytesOf, bytesInNode}
 use Rattle.nodes.specs.NodeLaws.{length-moved, bytes-append}
 use Rattle.setting.specs.Setting.{Box, Line, placed, setItem, setField, setList}
 use Rattle.setting.specs.Frames.{Frame, movedBy, framed}
-use Rattle.setting.specs.Paths.{Step, holder, stepStyle, Path, into, fill, styleAt, placeOf}
+use Rattle.setting.specs.Paths.{fieldStyle, Step, holder, itemStyle, stepStyle, Path, into, fill, styleAt, placeOf}
 use Rattle.setting.specs.FieldInPlace.{sized, itemAround, size-used, frame, field-in-place}
 use Rattle.setting.specs.FieldAlone.{missing-alone, fits-alone}
 use Rattle.answers.specs.Answers.{Answered, acceptedNumber, accepted, measured, setting, bufferAfter, resultOf, boxed}
@@ -101,13 +103,14 @@ pub record InPlace (style : ℕ) (table formula : List ℕ) (fieldStyle : ℕ) (
       OnlyPlaceMoved (f .distance) (nodeAt k (bufferAfter fieldStyle table field own))
       (nodeAt (length (f .before) + k) (bufferAfter style table formula buffer))
 
--- the field's shape, and the item that holds it, which is in the style s: it is set from that shape and the other two
+-- the field's shape, in a list in the style s, and the item that holds it: in a line of the style current at it, it is set from that
+-- shape and the other two
 pub record SizeUsed (F : Font) (s : Style) (t : Step) (l : Items) (size : Size) : Type 0 where
-  pub shape : (enlarge : Bool) → setField F (stepStyle t s) enlarge (list l) .shape ≡ box size
-  pub holder-arranged : (right : Neighbour) (line : Line) →
-      setItem F s right line (holder t l)
-      ≡ placed F s right line (classOf (t .kind))
-      (itemAround F s (t .kind) (t .arm) (sized size (setList F (stepStyle t s) l .nodes)))
+  pub shape : (enlarge : Bool) → setField F (stepStyle s t) enlarge (list l) .shape ≡ box size
+  pub holder-arranged : (right : Neighbour) (line : Line) → line .style ≡ itemStyle s t →
+      setItem F right line (holder t l)
+      ≡ placed F right line (classOf (t .kind))
+      (itemAround F (itemStyle s t) (t .kind) (t .arm) (sized size (setList F (stepStyle s t) l .nodes)))
 
 abbrev pub fieldStyleNumber : Style → Path → Step → ℕ
 fieldStyleNumber s p t = numberOf (styleAt s (into p t))
@@ -121,19 +124,19 @@ abbrev pub run : List ℕ → Style → Path → Step → Items → List Node
 run table s p t l = setList (fontOf table) (styleAt s (into p t)) l .nodes
 
 pub record FieldAsAlone (style : ℕ) (table formula : List ℕ) (s : Style) (p : Path) (t : Step) (l : Items) : Type 0 where
-  pub alone : Alone (fieldStyleNumber s p t) table (fieldPart (into p t) l formula)
+  pub alone : Alone (fieldStyleNumber s p t) table (fieldPart s (into p t) l formula)
   pub in-place :
       let n = fieldStyleNumber s p t in
-      let field = fieldPart (into p t) l formula in
+      let field = fieldPart s (into p t) l formula in
       InPlace style table formula n field (around table s p t (measured n table field .size)) (run table s p t l)
   pub size-used :
-      let size = measured (fieldStyleNumber s p t) table (fieldPart (into p t) l formula) .size in
+      let size = measured (fieldStyleNumber s p t) table (fieldPart s (into p t) l formula) .size in
       SizeUsed (fontOf table) (styleAt s p) t l size
   pub same-outside : (other : List ℕ) (m : Items) →
       let n = fieldStyleNumber s p t in
-      let size = measured n table (fieldPart (into p t) l formula) .size in
-      let field = fieldPart (into p t) m other in
-      Accepted style table other s (fill (into p t) m) → measured n table field .size ≡ size →
+      let size = measured n table (fieldPart s (into p t) l formula) .size in
+      let field = fieldPart s (into p t) m other in
+      Accepted style table other s (fill s (into p t) m) → measured n table field .size ≡ size →
       InPlace style table other n field (around table s p t size) (run table s p t m)
 
 -- ---- the proof
@@ -173,7 +176,7 @@ in-place-by style table formula n field w b f whole-is alone-is e =
         ∙ simp (bytes-append, append-assoc)
 
 module _ (style : ℕ) (table formula : List ℕ) (s : Style) (p : Path) (t : Step) (l : Items) where
-  module _ (h : Accepted style table formula s (fill (into p t) l)) where
+  module _ (h : Accepted style table formula s (fill s (into p t) l)) where
     field-passed : Passed table (styleAt s (into p t)) l
     field-passed =
         let w = passed h in
@@ -183,52 +186,56 @@ module _ (style : ℕ) (table formula : List ℕ) (s : Style) (p : Path) (t : St
           fits = fits-alone (fontOf table) s (into p t) l (w .fits);
         }
 
-    whole-boxed : resultOf style table formula ≡ boxed (setList (fontOf table) s (fill (into p t) l))
-    whole-boxed = boxed-of style table formula s (fill (into p t) l) (h .style-is) (h .reads) (passed h)
+    whole-boxed : resultOf style table formula ≡ boxed (setList (fontOf table) s (fill s (into p t) l))
+    whole-boxed = boxed-of style table formula s (fill s (into p t) l) (h .style-is) (h .reads) (passed h)
 
-    field-boxed : resultOf (fieldStyleNumber s p t) table (fieldPart (into p t) l formula)
+    field-boxed : resultOf (fieldStyleNumber s p t) table (fieldPart s (into p t) l formula)
         ≡ boxed (setList (fontOf table) (styleAt s (into p t)) l)
     field-boxed =
-        boxed-of (fieldStyleNumber s p t) table (fieldPart (into p t) l formula) (styleAt s (into p t)) l
-        (number-of-style (styleAt s (into p t))) (field-reads formula (into p t) l (h .reads)) field-passed
+        boxed-of (fieldStyleNumber s p t) table (fieldPart s (into p t) l formula) (styleAt s (into p t)) l
+        (number-of-style (styleAt s (into p t))) (field-reads formula s (into p t) l (h .reads)) field-passed
 
-    field-measured : measured (fieldStyleNumber s p t) table (fieldPart (into p t) l formula)
+    field-measured : measured (fieldStyleNumber s p t) table (fieldPart s (into p t) l formula)
         ≡ accepted (setList (fontOf table) (styleAt s (into p t)) l)
-    field-measured = measured-boxed (fieldStyleNumber s p t) table (fieldPart (into p t) l formula) _ field-boxed
+    field-measured = measured-boxed (fieldStyleNumber s p t) table (fieldPart s (into p t) l formula) _ field-boxed
 
-    field-alone : Alone (fieldStyleNumber s p t) table (fieldPart (into p t) l formula)
+    field-alone : Alone (fieldStyleNumber s p t) table (fieldPart s (into p t) l formula)
     field-alone =
         record {
           measured-alone = ap (λ (a : Answered). a .number) field-measured;
-          set-alone = set-boxed (fieldStyleNumber s p t) table (fieldPart (into p t) l formula) _ field-boxed;
+          set-alone = set-boxed (fieldStyleNumber s p t) table (fieldPart s (into p t) l formula) _ field-boxed;
         }
 
     -- for any size that is the one measured
-    field-stands : (size : Size) → measured (fieldStyleNumber s p t) table (fieldPart (into p t) l formula) .size ≡ size →
-        InPlace style table formula (fieldStyleNumber s p t) (fieldPart (into p t) l formula) (around table s p t size)
+    field-stands : (size : Size) → measured (fieldStyleNumber s p t) table (fieldPart s (into p t) l formula) .size ≡ size →
+        InPlace style table formula (fieldStyleNumber s p t) (fieldPart s (into p t) l formula) (around table s p t size)
         (run table s p t l)
     field-stands size e =
         let F = fontOf table in
         let b = setList F (styleAt s (into p t)) l in
         let same : b .size ≡ size = ap (λ (a : Answered). a .size) (sym field-measured) ∙ e in
-        in-place-by style table formula (fieldStyleNumber s p t) (fieldPart (into p t) l formula) _ b
+        in-place-by style table formula (fieldStyleNumber s p t) (fieldPart s (into p t) l formula) _ b
         (frame F s (into p t) size) whole-boxed field-boxed
         (ap (λ (w : Box). w .nodes) (field-in-place F s (into p t) l)
         ∙ ap (λ (z : Size). framed (frame F s (into p t) z) (b .nodes)) same)
 
     field-used :
-        let size = measured (fieldStyleNumber s p t) table (fieldPart (into p t) l formula) .size in
+        let size = measured (fieldStyleNumber s p t) table (fieldPart s (into p t) l formula) .size in
         SizeUsed (fontOf table) (styleAt s p) t l size
     unfolding setField setList
     field-used =
+        let F = fontOf table in
+        let kind = t .kind in
+        let g = t .arm in
         record {
           shape = λ enlarge. ap (λ (a : Answered). box (a .size)) (sym field-measured);
-          holder-arranged = λ right line.
-              rw field-measured (size-used (fontOf table) (styleAt s p) (t .kind) right line (t .arm) l);
+          holder-arranged = λ right line e.
+              rw field-measured (size-used F right line kind g l
+              ∙ ap (λ (u : Style). placed F right line (classOf kind) (itemAround F u kind g (setList F (fieldStyle kind g u) l))) e);
         }
 
 pub demand-3 : (style : ℕ) (table formula : List ℕ) (s : Style) (p : Path) (t : Step) (l : Items) →
-    Accepted style table formula s (fill (into p t) l) → FieldAsAlone style table formula s p t l
+    Accepted style table formula s (fill s (into p t) l) → FieldAsAlone style table formula s p t l
 demand-3 style table formula s p t l h =
     record {
       alone = field-alone style table formula s p t l h;
@@ -239,33 +246,35 @@ demand-3 style table formula s p t l h =
 
 -- ---- by the place of a field's kind byte
 
--- what `FieldAsAlone` says, of the list field that has its kind byte at this place of the formula and holds these bytes
-pub record ListFieldAsAlone (style : ℕ) (table formula : List ℕ) (place : ℕ) (field : List ℕ) : Type 0 where
-  pub s : Style
+-- what `FieldAsAlone` says, of the list field that has its kind byte at this place of the formula, the style v by the rules, and holds
+-- these bytes; s is the formula's style
+pub record ListFieldAsAlone (style : ℕ) (table formula : List ℕ) (s : Style) (place : ℕ) (v : Style) (field : List ℕ) : Type 0 where
   pub p : Path
   pub t : Step
-  pub reads : Accepted style table formula s (fill (into p t) (treeOf field))
-  pub place-is : placeOf (into p t) ≡ place + listOpeningBytes
-  pub part-is : fieldPart (into p t) (treeOf field) formula ≡ field
+  pub reads : Accepted style table formula s (fill s (into p t) (treeOf field))
+  pub place-is : placeOf s (into p t) ≡ place + listOpeningBytes
+  pub style-is : styleAt s (into p t) ≡ v
+  pub part-is : fieldPart s (into p t) (treeOf field) formula ≡ field
   pub as-alone : FieldAsAlone style table formula s p t (treeOf field)
 
 pub demand-3-at : (style : ℕ) (table formula : List ℕ) (room : ℕ) → setting style table formula room .number ≡ acceptedNumber →
-    (place : ℕ) (field : List ℕ) → ListFieldAt formula place field → ListFieldAsAlone style table formula place field
-demand-3-at style table formula room e place field f =
+    (s : Style) → styleOf style ≡ some s → (place : ℕ) (v : Style) (field : List ℕ) → ListFieldAt s formula place v field →
+    ListFieldAsAlone style table formula s place v field
+demand-3-at style table formula room e s is place v field f =
     let a = accepted-reads style table formula room e in
     let h = a .2 in
     let read = read-formula formula (a .1) (h .reads) .1 in
-    let w = reached formula (readable-of formula _ (a .1) read) place field f in
-    let tree : a .1 ≡ fill (into (w .p) (w .t)) (treeOf field) = sym (tree-is formula _ (a .1) read) ∙ w .tree in
-    let reads : Accepted style table formula (a .0) (fill (into (w .p) (w .t)) (treeOf field)) =
-    record { style-is = h .style-is; reads = h .reads ∙ ap good tree; room = room; is-accepted = e }
+    let w = reached s formula (readable-of formula _ (a .1) read) f in
+    let tree : a .1 ≡ fill s (into (w .p) (w .t)) (treeOf field) = sym (tree-is formula _ (a .1) read) ∙ w .tree in
+    let reads : Accepted style table formula s (fill s (into (w .p) (w .t)) (treeOf field)) =
+    record { style-is = is; reads = h .reads ∙ ap good tree; room = room; is-accepted = e }
     in
     record {
-      s = a .0;
       p = w .p;
       t = w .t;
       reads = reads;
       place-is = w .there;
-      part-is = w .bytes;
-      as-alone = demand-3 style table formula (a .0) (w .p) (w .t) (treeOf field) reads;
+      style-is = w .style;
+      part-is = ap (λ (n : ℕ). take n (drop (placeOf s (into (w .p) (w .t))) formula)) (items-bytes field (w .readable)) ∙ sym (w .part);
+      as-alone = demand-3 style table formula s (w .p) (w .t) (treeOf field) reads;
     }

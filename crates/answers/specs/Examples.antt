@@ -1,5 +1,6 @@
 -- The worked examples of document 01, computed by the definition from bytes: P1 to P12 as one table under one statement,
--- `examples-hold`, and the underlined a with the 36 bytes of its two nodes, `underlined-answer` and `underlined-buffer`.
+-- `examples-hold`, and the underlined a with the 36 bytes of its two nodes, `underlined-set` and `underlined-buffer`. Of change
+-- request 2, `display-from-here`: in T, an ST in the list that a C4 takes makes the operator behind it that of P12.
 -- Assumes nothing.
 use mathlib.Core.Path.{_≡_, refl}
 use mathlib.Core.List.{List, [], _∷_, _++_, map}
@@ -136,6 +137,26 @@ stated e = boxed (e .box)
 examples-hold : map computed examples ≡ map stated examples
 unfolding definitions benchTable examples computed stated
 examples-hold = refl
+
+-- ---- a style change in a choice
+
+abbrev sublist : ℕ → List ℕ → List ℕ
+sublist length items = 2 ∷ length ∷ 0 ∷ items
+
+abbrev choice : List ℕ → List ℕ → List ℕ → List ℕ → List ℕ
+choice d t sc ss = 67 ∷ 52 ∷ (d ++ t ++ sc ++ ss)
+
+-- a, then D from here if the style is T, then P12's operator, 165 behind a
+display-from-here :
+    resultOf T benchTable
+    (alone ord a ++ choice (sublist 0 []) (sublist 3 (83 ∷ 84 ∷ D ∷ [])) (sublist 0 []) (sublist 0 []) ++ atom op (symbol 3 80) empty a)
+    ≡ boxed record {
+      size = record { width = pos 2065; height = pos 950; depth = pos 1150 };
+      nodes =
+          glyph (pos 0) (pos 0) 0 1 97 ∷ glyph (pos 665) (pos 950) 0 3 88 ∷ glyph (pos 1115) (minus 1050) 1 1 97 ∷ [];
+    }
+unfolding definitions benchTable
+display-from-here = refl
 
 -- ---- the underlined a, in T, with a buffer that has two bytes more than its nodes need
 

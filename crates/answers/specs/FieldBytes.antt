@@ -1,9 +1,10 @@
 -- The bytes of a list field, as a formula: they read to the field's list.
+--     PartAt           bytes that stand at a place of a list; `part-within`: a part of a part is a part
 --     fieldPart        the bytes of the formula from the field's place on, as many as its list is written in
---     part-of-part     a part of a part is a part
 --     read-formula     a formula that reads is short enough, and reads with the levels below the first
 --     field-reads      if the formula reads to the tree that has the list l at the path p, those bytes read to l
--- A list at the path's end is read with fewer levels than the formula, and reads to the same tree with as many (`agree`).
+-- A list at the path's end is read with fewer levels than the formula, and reads to the same tree with as many (`agree`). So is the
+-- list that a choice takes, on the way to it.
 -- Assumes nothing.
 use mathlib.Core.Path.{_≡_, refl, sym, subst, ap, ap₂, _∙_}
 use mathlib.Core.Bool.{Bool, true, false}
@@ -16,23 +17,33 @@ use lib.Seq.{take-all, take-take, drop-drop}
 use borrow.Author.Tests.{ltb-false, le-ltb}
 use Rattle.formula.specs.declared.Kind.{Kind}
 use Rattle.formula.specs.declared.Opening.{Opening}
-use Rattle.formula.specs.declared.Opening.the-variants.{NoItem, Fields, Kern}
+use Rattle.formula.specs.declared.Opening.the-variants.{NoItem, Fields, Kern, Restyle, Choice}
 use Rattle.formula.specs.declared.FieldHead.{FieldHead}
 use Rattle.formula.specs.declared.FieldHead.the-variants.{NoField, Empty, Symbol, Sublist, CutSublist}
 use Rattle.formula.specs.declared.Fault.the-variants.{Unreadable}
-use Rattle.formula.specs.Tree.{Items, Item, Field, nil, cons, noad, kern, list, openingBytes, listOpeningBytes, itemsBytes, itemBytes, fieldBytes}
+use Rattle.formula.specs.Tree.{Items, Item, Field, nil, cons, noad, kern, restyle, choice, list, openingBytes, listOpeningBytes, itemsBytes, itemBytes, fieldBytes}
 use Rattle.formula.specs.Heads.{openingOf, fieldHead}
 use Rattle.formula.specs.Reading.{good, fault, read, formulaLimit, depthLimit, readFormula}
-use Rattle.formula.specs.Places.{headBytes, contents, hasThird, headAt, second, third, itemSize}
+use Rattle.formula.specs.Places.{headBytes, contents, hasThird, headAt, second, third, listPlace, itemSize}
 use Rattle.formula.specs.HeadLaws.{list-opening, contents-shorter}
-use Rattle.formula.specs.ReadingLaws.{FieldIs, FieldAtIs, ThirdIs, NoadIs, ItemIs, Below, ListIs, size-fits, read-none, list-good, agree}
+use Rattle.formula.specs.ReadingLaws.{FieldIs, FieldAtIs, ThirdIs, ItemIs, Below, size-fits, read-none, list-good, agree}
 use Rattle.formula.specs.PlacesLaws.{readable-of, tree-is, items-bytes}
-use Rattle.setting.specs.Paths.{Arm, inFirst, inSecond, inThird, holding, fieldPlace, Step, join, listWith, stepPlace, Path, whole, into, fill, placeOf}
+use Rattle.boxes.specs.declared.styles.Level.{Level}
+use Rattle.boxes.specs.declared.styles.Level.the-variants.{Display, Text, Script, Scriptscript}
+use Rattle.boxes.specs.declared.styles.Style.{Style}
+use Rattle.setting.specs.Setting.{styleAfter}
+use Rattle.setting.specs.Paths.{Arm, inFirst, inSecond, inThird, holding, fieldPlace, join, choiceWith, listPlace as takenPlace, Spot, among, within, put, spotPlace, Step, holder, listWith, stepPlace, Path, whole, into, fill, styleAt, placeOf}
 
-abbrev pub fieldPart : Path → Items → List ℕ → List ℕ
-fieldPart p l formula = take (itemsBytes l) (drop (placeOf p) formula)
+abbrev pub fieldPart : Style → Path → Items → List ℕ → List ℕ
+fieldPart s p l formula = take (itemsBytes l) (drop (placeOf s p) formula)
 
--- ---- a part of a part
+-- ---- a part of a list
+
+abbrev pub PartAt : List ℕ → ℕ → List ℕ → Type 0
+PartAt s at part = part ≡ take (length part) (drop at s)
+
+pub part-behind : (s : List ℕ) (at : ℕ) → PartAt s at (drop at s)
+part-behind s at = sym (take-all (length (drop at s)) (drop at s) (omega arith))
 
 take-within : (k n N : ℕ) (s : List ℕ) → k + n ≤ N → take n (drop k (take N s)) ≡ take n (drop k s)
 take-within zero n N s h = take-take n N s (omega arith)
@@ -41,7 +52,7 @@ take-within (suc k) n (suc N) [] h = refl
 take-within (suc k) n (suc N) (a ∷ s) h = take-within k n N s (omega arith)
 
 -- the n bytes at k of the N bytes at K, where there are n
-pub part-of-part : (s : List ℕ) (K k N n : ℕ) → n ≡ length (take n (drop k (take N (drop K s)))) →
+part-of-part : (s : List ℕ) (K k N n : ℕ) → n ≡ length (take n (drop k (take N (drop K s)))) →
     take n (drop k (take N (drop K s))) ≡ take n (drop (K + k) s)
 part-of-part s K k N zero long = refl
 part-of-part s K k N (suc n) long =
@@ -50,6 +61,15 @@ part-of-part s K k N (suc n) long =
     omega (arith, length-take (suc n) (drop k (take N r)), length-drop k (take N r), length-take N r)
     in
     take-within k (suc n) N r h ∙ ap (take (suc n)) (drop-drop k K s)
+
+pub part-within : (s t r : List ℕ) (K k : ℕ) → PartAt s K t → PartAt t k r → PartAt s (K + k) r
+part-within s t r K k outer inner =
+    let same : r ≡ take (length r) (drop k (take (length t) (drop K s))) =
+    inner ∙ ap (λ (x : List ℕ). take (length r) (drop k x)) outer
+    in
+    same ∙ part-of-part s K k (length t) (length r) (ap length same)
+
+-- ---- what reads
 
 -- a list is as long as its tree is written
 written : (levels : ℕ) (s : List ℕ) (l : Items) → read levels s ≡ good l → itemsBytes l ≡ length s
@@ -61,18 +81,17 @@ inner-reads zero s l b = absurd b
 inner-reads (suc levels) s l b = agree s levels (suc levels) l b (omega arith)
 
 module _ (levels : ℕ) where
-  -- at a place of s stand the bytes of l, and read to l on the level below
-  abbrev Inside : List ℕ → ℕ → Items → Type 0
-  Inside s place l = Below read levels (take (itemsBytes l) (drop place s)) l
+  -- at a place of s stand bytes that read to l
+  record ReadAt (s : List ℕ) (place : ℕ) (l : Items) : Type 0 where
+    bytes : List ℕ
+    part : PartAt s place bytes
+    reads : read levels bytes ≡ good l
+
+  read-within : (s t : List ℕ) (K k : ℕ) (l : Items) → PartAt s K t → ReadAt t k l → ReadAt s (K + k) l
+  read-within s t K k l outer h =
+      record { bytes = h .bytes; part = part-within s t (h .bytes) K k outer (h .part); reads = h .reads }
 
   -- ---- a field, by its head
-
-  -- a list field's two bytes of length say how long its tree is written
-  sublist-length : (s : List ℕ) (opening n : ℕ) (l : Items) → fieldHead s ≡ Sublist opening n →
-      Below read levels (contents opening n s) l → n ≡ itemsBytes l
-  sublist-length s opening n l e b =
-      let inner = contents opening n s in
-      omega (arith, contents-shorter s opening n e, written levels inner l (inner-reads levels inner l b))
 
   field-length : (s : List ℕ) (h : FieldHead) (f : Field) → fieldHead s ≡ h → FieldIs (Below read levels) s h f →
       headBytes h ≡ fieldBytes f
@@ -81,79 +100,96 @@ module _ (levels : ℕ) where
   field-length s Empty f e i = rw i
   field-length s (Symbol family code) f e i = rw i
   field-length s (Sublist opening n) f e i =
-      ap₂ _+_ (list-opening s opening n e) (sublist-length s opening n (i .0) e (i .1)) ∙ ap fieldBytes (sym (i .2))
+      let inner = contents opening n s in
+      let long : n ≡ itemsBytes (i .0) =
+      omega (arith, contents-shorter s opening n e, written levels inner (i .0) (inner-reads levels inner (i .0) (i .1)))
+      in
+      ap₂ _+_ (list-opening s opening n e) long ∙ ap fieldBytes (sym (i .2))
   field-length s CutSublist f e i = absurd i
 
   list-inside : (s : List ℕ) (h : FieldHead) (l : Items) → fieldHead s ≡ h → FieldIs (Below read levels) s h (list l) →
-      Inside s listOpeningBytes l
+      ReadAt s listOpeningBytes l
   list-inside s NoField l e i = absurd i
   list-inside s Empty l e i = let z : _≡_ {A = ℕ} 0 1 = cc in absurd (omega arith)
   list-inside s (Symbol family code) l e i = let z : _≡_ {A = ℕ} 0 1 = cc in absurd (omega arith)
   list-inside s (Sublist opening n) l e i =
+      let inner = contents opening n s in
       let same : i .0 ≡ l = cc in
-      let b : Below read levels (contents opening n s) l = subst (Below read levels (contents opening n s)) same (i .1) in
-      subst (λ (r : List ℕ). Below read levels r l)
-      (ap₂ (λ (o k : ℕ). contents o k s) (list-opening s opening n e) (sublist-length s opening n l e b)) b
+      record {
+        bytes = inner;
+        part = ap₂ (λ (o k : ℕ). contents o k s) (list-opening s opening n e) (sym (contents-shorter s opening n e .0));
+        reads = inner-reads levels inner (i .0) (i .1) ∙ ap good same;
+      }
   list-inside s CutSublist l e i = absurd i
 
-  -- ---- a field of an item, at its place
+  -- ---- an item, from its first byte on
 
   module _ (s : List ℕ) where
-    list-at : (at place : ℕ) (f : Field) (l : Items) → FieldAtIs (Below read levels) s at f → f ≡ list l → at ≡ place →
-        Inside s (place + listOpeningBytes) l
-    list-at at place f l i is there =
-        let inside = list-inside (drop at s) (headAt s at) l refl (subst (FieldAtIs (Below read levels) s at) is i) in
-        let r = drop-drop listOpeningBytes at s ∙ ap (λ (k : ℕ). drop (k + listOpeningBytes) s) there in
-        subst (λ (t : List ℕ). Below read levels (take (itemsBytes l) t) l) r inside
+    abbrev StandsAt : ℕ → Field → Type 0
+    StandsAt at f = FieldAtIs (Below read levels) s at f
 
-    length-at : (at : ℕ) (f : Field) → FieldAtIs (Below read levels) s at f → headBytes (headAt s at) ≡ fieldBytes f
+    list-at : (at place : ℕ) (l : Items) → StandsAt at (list l) → at ≡ place → ReadAt s (place + listOpeningBytes) l
+    list-at at place l i there =
+        subst (λ (k : ℕ). ReadAt s (k + listOpeningBytes) l) there
+        (read-within s (drop at s) at listOpeningBytes l (part-behind s at) (list-inside (drop at s) (headAt s at) l refl i))
+
+    length-at : (at : ℕ) (f : Field) → StandsAt at f → headBytes (headAt s at) ≡ fieldBytes f
     length-at at f i = field-length (drop at s) (headAt s at) f refl i
 
-    third-at : (there : Bool) (at place : ℕ) (f : Field) (l : Items) → ThirdIs (Below read levels) s there at f →
-        f ≡ list l → at ≡ place → Inside s (place + listOpeningBytes) l
-    third-at true at place f l i is e = list-at at place f l i is e
-    third-at false at place f l i is e = let z : _≡_ {A = ℕ} 0 1 = cc in absurd (omega arith)
+    third-at : (there : Bool) (at place : ℕ) (l : Items) → ThirdIs (Below read levels) s there at (list l) → at ≡ place →
+        ReadAt s (place + listOpeningBytes) l
+    third-at true at place l i e = list-at at place l i e
+    third-at false at place l i e = let z : _≡_ {A = ℕ} 0 1 = cc in absurd (omega arith)
 
-    noad-inside : (kind found : Kind) (g : Arm) (l : Items) → NoadIs (Below read levels) s found (holding kind g l) →
-        Inside s (fieldPlace kind g + listOpeningBytes) l
-    noad-inside kind found g l h = go g (h .is)
-      where
-        go : (g : Arm) → holding kind g l ≡ noad found (h .a) (h .b) (h .c) →
-            Inside s (fieldPlace kind g + listOpeningBytes) l
-        go (inFirst y z) is =
-            let k : found ≡ kind = cc in
-            let a : h .a ≡ list l = cc in
-            list-at (openingBytes found) (openingBytes kind) (h .a) l (h .a-is) a (ap openingBytes k)
-        go (inSecond x z) is =
-            let k : openingBytes found ≡ openingBytes kind = cc in
-            let a : fieldBytes (h .a) ≡ fieldBytes x = cc in
-            let b : h .b ≡ list l = cc in
-            let e = length-at (openingBytes found) (h .a) (h .a-is) in
-            list-at (second s found) (openingBytes kind + fieldBytes x) (h .b) l (h .b-is) b (omega arith)
-        go (inThird x y) is =
-            let k : openingBytes found ≡ openingBytes kind = cc in
-            let a : fieldBytes (h .a) ≡ fieldBytes x = cc in
-            let b : fieldBytes (h .b) ≡ fieldBytes y = cc in
-            let c : h .c ≡ list l = cc in
-            let e = length-at (openingBytes found) (h .a) (h .a-is) in
-            let f = length-at (second s found) (h .b) (h .b-is) in
-            third-at (hasThird found) (third s found) (openingBytes kind + fieldBytes x + fieldBytes y) (h .c) l (h .c-is) c
-            (omega arith)
+    -- its fields, one behind the other
+    abbrev Stands : Item → Type 0
+    Stands (noad kind x y z) =
+        StandsAt (openingBytes kind) x
+        × StandsAt (second s kind) y
+        × ThirdIs (Below read levels) s (hasThird kind) (third s kind) z
+    Stands (kern n) = Unit {0}
+    Stands (restyle n) = Unit {0}
+    Stands (choice d t sc ss) =
+        StandsAt (listPlace s 0) (list d)
+        × StandsAt (listPlace s 1) (list t)
+        × StandsAt (listPlace s 2) (list sc)
+        × StandsAt (listPlace s 3) (list ss)
 
-    item-inside : (kind : Kind) (g : Arm) (l : Items) (i : Item) → i ≡ holding kind g l → (o : Opening) →
-        ItemIs (Below read levels) s o i →
-        Inside s (fieldPlace kind g + listOpeningBytes) l
-    item-inside kind g l i is NoItem h = absurd h
-    item-inside kind g l i is (Fields found) h =
-        noad-inside kind found g l (subst (NoadIs (Below read levels) s found) is h)
-    item-inside kind g l i is (Kern n) h = absurd (no-kern g (sym is ∙ h))
-      where
-        no-kern : (g : Arm) → holding kind g l ≡ kern (n .0) → ⊥
-        no-kern (inFirst y z) e = let z : _≡_ {A = ℕ} 0 1 = cc in omega arith
-        no-kern (inSecond x z) e = let z : _≡_ {A = ℕ} 0 1 = cc in omega arith
-        no-kern (inThird x y) e = let z : _≡_ {A = ℕ} 0 1 = cc in omega arith
+    stands : (o : Opening) (i : Item) → ItemIs (Below read levels) s o i → Stands i
+    stands NoItem i h = absurd h
+    stands (Fields kind) i h = subst Stands (sym (h .is)) (h .a-is, h .b-is, h .c-is)
+    stands (Kern n) i h = subst Stands (sym h) tt
+    stands (Restyle n) i h = subst Stands (sym h) tt
+    stands Choice i h =
+        subst Stands (sym (h .is))
+        (h .are 0 (omega arith), h .are 1 (omega arith), h .are 2 (omega arith), h .are 3 (omega arith))
 
-  -- ---- a field of an item of a list
+    item-inside : (kind : Kind) (g : Arm) (l : Items) → Stands (holding kind g l) →
+        ReadAt s (fieldPlace kind g + listOpeningBytes) l
+    item-inside kind (inFirst y z) l h = list-at (openingBytes kind) _ l (h .0) refl
+    item-inside kind (inSecond x z) l h = list-at (second s kind) _ l (h .1) (omega (arith, length-at (openingBytes kind) x (h .0)))
+    item-inside kind (inThird x y) l h =
+        third-at (hasThird kind) (third s kind) _ l (h .2)
+        (omega (arith, length-at (openingBytes kind) x (h .0), length-at (second s kind) y (h .1)))
+
+    choice-inside : (level : Level) (l a b c : Items) → Stands (choiceWith level l a b c) →
+        ReadAt s (takenPlace level a b c + listOpeningBytes) l
+    unfolding fieldBytes
+    choice-inside Display l a b c h = list-at (listPlace s 0) _ l (h .0) refl
+    choice-inside Text l a b c h = list-at (listPlace s 1) _ l (h .1) (omega (arith, length-at (listPlace s 0) (list a) (h .0)))
+    choice-inside Script l a b c h =
+        list-at (listPlace s 2) _ l (h .2)
+        (omega (arith, length-at (listPlace s 0) (list a) (h .0), length-at (listPlace s 1) (list b) (h .1)))
+    choice-inside Scriptscript l a b c h =
+        list-at (listPlace s 3) _ l (h .3)
+        (omega (
+          arith,
+          length-at (listPlace s 0) (list a) (h .0),
+          length-at (listPlace s 1) (list b) (h .1),
+          length-at (listPlace s 2) (list c) (h .2),
+        ))
+
+  -- ---- an item of a list
 
   some-bytes : (s : List ℕ) (i : Item) (r : Items) → read levels s ≡ good (cons i r) → 0 < length s
   some-bytes s i r e = go (length s) refl
@@ -165,58 +201,72 @@ module _ (levels : ℕ) where
           absurd (omega arith)
       go (suc n) z = omega arith
 
-  -- the first item of a list takes as many bytes as it is written in
-  first-length : (s : List ℕ) (l : Items) (e : read levels s ≡ good l) (g : ListIs levels s l) →
-      itemSize s (openingOf s) ≡ itemBytes (g .first)
+  -- the first item takes as many bytes as it is written in
+  first-item : (s : List ℕ) (i : Item) (r : Items) → read levels s ≡ good (cons i r) →
+      Stands s i × (read levels (drop (itemBytes i) s) ≡ good r)
   unfolding itemsBytes
-  first-length s l e g =
+  first-item s i r e =
+      let g = list-good levels s (cons i r) (some-bytes s i r e) e in
       let size = itemSize s (openingOf s) in
-      let rest : itemsBytes (g .others) ≡ length (drop size s) = written levels (drop size s) (g .others) (g .others-are) in
-      let all : itemBytes (g .first) + itemsBytes (g .others) ≡ length s =
-      ap itemsBytes (sym (g .is)) ∙ written levels s l e
-      in
-      omega (arith, size-fits s, length-drop size s)
+      let is = g .is in
+      let first : g .first ≡ i = cc in
+      let rest : g .others ≡ r = cc in
+      let all : itemBytes i + itemsBytes r ≡ length s = written levels s (cons i r) e in
+      let others : read levels (drop size s) ≡ good r = g .others-are ∙ ap good rest in
+      let long : size ≡ itemBytes i =
+      omega (arith, size-fits s, length-drop size s, written levels (drop size s) r others)
+      in (
+        subst (Stands s) first (stands s (openingOf s) (g .first) (g .first-is)),
+        ap (λ (k : ℕ). read levels (drop k s)) (sym long) ∙ others,
+      )
 
-  module _ (kind : Kind) (g : Arm) (l after : Items) where
-    items-inside : (before : Items) (s : List ℕ) → read levels s ≡ good (join before (cons (holding kind g l) after)) →
-        Inside s (itemsBytes before + (fieldPlace kind g + listOpeningBytes)) l
-    unfolding itemsBytes
-    items-inside nil s e =
-        let q = list-good levels s _ (some-bytes s (holding kind g l) after e) e in
-        let is = q .is in
-        let i : q .first ≡ holding kind g l = cc in
-        let place : fieldPlace kind g + listOpeningBytes ≡ 0 + (fieldPlace kind g + listOpeningBytes) = omega arith in
-        rw place at (item-inside s kind g l (q .first) i (openingOf s) (q .first-is))
-    items-inside (cons i b) s e =
-        let rest = join b (cons (holding kind g l) after) in
-        let size = itemSize s (openingOf s) in
-        let place = itemsBytes b + (fieldPlace kind g + listOpeningBytes) in
-        let q = list-good levels s _ (some-bytes s i rest e) e in
-        let is = q .is in
-        let others : q .others ≡ rest = cc in
-        let bytes : itemBytes (q .first) ≡ itemBytes i = cc in
-        let inside = items-inside b (drop size s) (q .others-are ∙ ap good others) in
-        let long = first-length s _ e q in
-        let there : size + place ≡ itemBytes i + itemsBytes b + (fieldPlace kind g + listOpeningBytes) = omega arith in
-        let r = drop-drop place size s ∙ ap (λ (k : ℕ). drop k s) there in
-        subst (λ (t : List ℕ). Below read levels (take (itemsBytes l) t) l) r inside
+  items-passed : (before r : Items) (s : List ℕ) → read levels s ≡ good (join before r) →
+      read levels (drop (itemsBytes before) s) ≡ good r
+  unfolding itemsBytes
+  items-passed nil r s e = e
+  items-passed (cons i b) r s e =
+      ap (read levels) (sym (drop-drop (itemsBytes b) (itemBytes i) s))
+      ∙ items-passed b r (drop (itemBytes i) s) (first-item s i (join b r) e .1)
+
+  -- an item at a spot, with what stands behind it in its own list
+  spot-reads : (u : Style) (spot : Spot) (i : Item) (s : List ℕ) → read levels s ≡ good (put u spot i) →
+      (after : Items) × ReadAt s (spotPlace u spot) (cons i after)
+  spot-reads u (among before after) i s e = (
+    after,
+    record {
+      bytes = drop (itemsBytes before) s;
+      part = part-behind s (itemsBytes before);
+      reads = items-passed before (cons i after) s e;
+    },
+  )
+  spot-reads u (within before a b c spot after) i s e =
+      let t = styleAfter u before in
+      let l = put t spot i in
+      let q = drop (itemsBytes before) s in
+      let place = takenPlace (t .level) a b c + listOpeningBytes in
+      let first = first-item q (choiceWith (t .level) l a b c) after (items-passed before _ s e) .0 in
+      let inner = read-within s q (itemsBytes before) place l (part-behind s (itemsBytes before)) (choice-inside q (t .level) l a b c first) in
+      let item = spot-reads t spot i (inner .bytes) (inner .reads) in
+      (item .0, read-within s (inner .bytes) (itemsBytes before + place) (spotPlace t spot) (cons i (item .0)) (inner .part) (item .1))
 
   -- ---- a list at a path
 
-  step-reads : (t : Step) (s : List ℕ) (l : Items) → read levels s ≡ good (listWith t l) →
-      read levels (take (itemsBytes l) (drop (stepPlace t) s)) ≡ good l
-  step-reads t s l e = inner-reads levels _ l (items-inside (t .kind) (t .arm) l (t .after) (t .before) s e)
+  step-reads : (u : Style) (t : Step) (s : List ℕ) (l : Items) → read levels s ≡ good (listWith u t l) →
+      ReadAt s (stepPlace u t) l
+  step-reads u t s l e =
+      let item = spot-reads u (t .spot) (holder t l) s e in
+      let q = item .1 .bytes in
+      let first = first-item q (holder t l) (item .0) (item .1 .reads) .0 in
+      read-within s q (spotPlace u (t .spot)) _ l (item .1 .part) (item-inside q (t .kind) (t .arm) l first)
 
-  path-reads : (formula : List ℕ) (p : Path) (l : Items) → read levels formula ≡ good (fill p l) →
-      read levels (fieldPart p l formula) ≡ good l
-  path-reads formula whole l e =
-      let long = written levels formula l e in
-      ap (read levels) (take-all (itemsBytes l) formula (omega arith)) ∙ e
-  path-reads formula (into p t) l e =
-      let outer = path-reads formula p (listWith t l) e in
-      let inner = step-reads t (fieldPart p (listWith t l) formula) l outer in
-      ap (read levels) (sym (part-of-part formula (placeOf p) (stepPlace t) (itemsBytes (listWith t l)) (itemsBytes l)
-      (written levels _ l inner))) ∙ inner
+  path-reads : (formula : List ℕ) (u : Style) (p : Path) (l : Items) → read levels formula ≡ good (fill u p l) →
+      ReadAt formula (placeOf u p) l
+  path-reads formula u whole l e = record { bytes = formula; part = part-behind formula 0; reads = e }
+  path-reads formula u (into p t) l e =
+      let v = styleAt u p in
+      let outer = path-reads formula u p (listWith v t l) e in
+      read-within formula (outer .bytes) (placeOf u p) (stepPlace v t) l (outer .part)
+      (step-reads v t (outer .bytes) l (outer .reads))
 
 -- ---- a formula
 
@@ -235,12 +285,17 @@ formula-read : (s : List ℕ) (l : Items) → length s ≤ formulaLimit → read
 unfolding readFormula
 formula-read s l h e = rw (le-ltb formulaLimit (length s) h, readFormula) e
 
-pub field-reads : (formula : List ℕ) (p : Path) (l : Items) → readFormula formula ≡ good (fill p l) →
-    readFormula (fieldPart p l formula) ≡ good l
-field-reads formula p l e =
-    let r = read-formula formula (fill p l) e in
-    let rest = drop (placeOf p) formula in
-    let short : length (fieldPart p l formula) ≤ formulaLimit =
-    omega (arith, r .0, length-take (itemsBytes l) rest, length-drop (placeOf p) formula)
+pub field-reads : (formula : List ℕ) (s : Style) (p : Path) (l : Items) → readFormula formula ≡ good (fill s p l) →
+    readFormula (fieldPart s p l formula) ≡ good l
+field-reads formula s p l e =
+    let levels = depthLimit - 1 in
+    let r = read-formula formula (fill s p l) e in
+    let h = path-reads levels formula s p l (r .1) in
+    let rest = drop (placeOf s p) formula in
+    let same : fieldPart s p l formula ≡ h .bytes =
+    ap (λ (k : ℕ). take k rest) (written levels (h .bytes) l (h .reads)) ∙ sym (h .part)
     in
-    formula-read (fieldPart p l formula) l short (path-reads (depthLimit - 1) formula p l (r .1))
+    let short : length (fieldPart s p l formula) ≤ formulaLimit =
+    omega (arith, r .0, length-take (itemsBytes l) rest, length-drop (placeOf s p) formula)
+    in
+    formula-read (fieldPart s p l formula) l short (ap (read levels) same ∙ h .reads)

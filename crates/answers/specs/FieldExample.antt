@@ -2,6 +2,8 @@
 -- The formula is accepted, so that `demand-3` speaks of it; the field is in the style S, its bytes are 19 to 27 of the formula,
 -- two nodes stand before its one node, and it is moved 1000 across and 370 up (P7).
 -- By the place of its kind byte it is the list field at 16 (`superscript-by-place`); `nested-at` is one a level deeper.
+-- A C4 takes its list for T, an ST that says D; the C4 behind it takes its list for D, `a^{a}`. The superscript there is the list field at
+-- 29 (`chosen-by-place`), in the style S, and moved 500 across and 420 up, as in D.
 -- Assumes nothing.
 use mathlib.Core.Path.{_≡_, refl}
 use mathlib.Core.List.{List, [], _∷_, _++_}
@@ -14,17 +16,18 @@ use Rattle.formula.specs.declared.Limits.the-variants.{DisplayOnly}
 use Rattle.formula.specs.declared.Base.the-variants.{Atom, Under}
 use Rattle.formula.specs.declared.Kind.{Kind}
 use Rattle.formula.specs.declared.Kind.the-variants.{Scripted}
-use Rattle.formula.specs.Tree.{Items, Field, nil, cons, noad, empty, symbol}
-use Rattle.boxes.specs.declared.styles.Level.the-variants.{Text}
+use Rattle.formula.specs.Tree.{Items, Field, nil, cons, noad, restyle, choice, empty, symbol}
+use Rattle.boxes.specs.declared.styles.Level.the-variants.{Display, Text, Script}
+use Rattle.boxes.specs.declared.styles.Style.{Style}
 use Rattle.boxes.specs.Styles.{plain}
 use Rattle.nodes.specs.Nodes.{glyph}
-use Rattle.setting.specs.Paths.{inSecond, Step, whole, into, fill}
+use Rattle.setting.specs.Paths.{inSecond, among, within, Step, whole, into, fill}
 use Rattle.answers.specs.Answers.{measured}
 use Rattle.answers.specs.BenchTable.{benchTable}
 use Rattle.answers.specs.Definitions.{definitions}
 use Rattle.answers.specs.Accepting.{Accepted}
 use Rattle.answers.specs.FieldBytes.{fieldPart}
-use Rattle.answers.specs.ListFields.{first, next, inOne, inTwo, listField, OwnListField, ListFieldAt, own, deeper}
+use Rattle.answers.specs.ListFields.{listField, ItemAt, first, pastFields, pastStyle, pastChoice, inList, inTaken, inOne, inTwo, OwnListField, ListFieldAt, own, deeper}
 use Rattle.answers.specs.Demand3.{fieldStyleNumber, around, FieldAsAlone, demand-3, ListFieldAsAlone, demand-3-at}
 
 abbrev T : ℕ
@@ -48,20 +51,21 @@ aAlone = cons (noad ord a empty empty) nil
 
 -- past the first a, into the second field of the second item, whose nucleus is a
 abbrev superscript : Step
-superscript = record { before = aAlone; kind = ord; arm = inSecond a empty; after = nil }
+superscript = record { spot = among aAlone nil; kind = ord; arm = inSecond a empty }
 
-is-accepted : Accepted T benchTable formula (plain Text) (fill (into whole superscript) aAlone)
+is-accepted : Accepted T benchTable formula (plain Text) (fill (plain Text) (into whole superscript) aAlone)
 unfolding definitions benchTable
 is-accepted = record { style-is = refl; reads = refl; room = 54; is-accepted = refl }
 
 pub superscript-as-alone : FieldAsAlone T benchTable formula (plain Text) whole superscript aAlone
 superscript-as-alone = demand-3 T benchTable formula (plain Text) whole superscript aAlone is-accepted
 
-pub superscript-bytes : fieldPart (into whole superscript) aAlone formula ≡ atomBytes
+pub superscript-bytes : fieldPart (plain Text) (into whole superscript) aAlone formula ≡ atomBytes
 unfolding definitions
 superscript-bytes = refl
 
 pub superscript-style : fieldStyleNumber (plain Text) whole superscript ≡ 4
+unfolding definitions
 superscript-style = refl
 
 pub superscript-frame :
@@ -76,12 +80,14 @@ superscript-frame = refl
 
 -- ---- by the place of the kind byte
 
-superscript-at : ListFieldAt formula 16 atomBytes
+superscript-at : ListFieldAt (plain Text) formula 16 (plain Script) atomBytes
 unfolding definitions
 superscript-at =
-    own 16 atomBytes (record {
+    own (record {
       item-place = 9;
-      item = next formula 0 (first (drop 9 formula));
+      item-style = plain Text;
+      item = drop 9 formula;
+      is-set = inList (pastFields 0 ord refl first);
       kind = ord;
       opens = refl;
       field-place = 7;
@@ -90,17 +96,22 @@ superscript-at =
       is-list = listField 9 0 (atomBytes ++ (0 ∷ []));
     })
 
-pub superscript-by-place : ListFieldAsAlone T benchTable formula 16 atomBytes
-superscript-by-place = demand-3-at T benchTable formula (is-accepted .room) (is-accepted .is-accepted) 16 atomBytes superscript-at
+pub superscript-by-place : ListFieldAsAlone T benchTable formula (plain Text) 16 (plain Script) atomBytes
+unfolding definitions
+superscript-by-place =
+    demand-3-at T benchTable formula (is-accepted .room) (is-accepted .is-accepted) (plain Text) refl 16 (plain Script) atomBytes
+    superscript-at
 
 -- an underlined list
-underlined : (low high : ℕ) (rest : List ℕ) →
-    OwnListField (85 ∷ 78 ∷ 2 ∷ low ∷ high ∷ rest) 2 (take (littleEndian 2 (low ∷ high ∷ [])) rest)
+underlined : (u : Style) (low high : ℕ) (rest : List ℕ) →
+    OwnListField u (85 ∷ 78 ∷ 2 ∷ low ∷ high ∷ rest) 2 u (take (littleEndian 2 (low ∷ high ∷ [])) rest)
 unfolding definitions
-underlined low high rest =
+underlined u low high rest =
     record {
       item-place = 0;
-      item = first _;
+      item-style = u;
+      item = 85 ∷ 78 ∷ 2 ∷ low ∷ high ∷ rest;
+      is-set = inList first;
       kind = Scripted Under;
       opens = refl;
       field-place = 2;
@@ -113,8 +124,74 @@ abbrev emptyUnderlined : List ℕ
 emptyUnderlined = 85 ∷ 78 ∷ 2 ∷ 0 ∷ 0 ∷ 0 ∷ 0 ∷ []
 
 -- the empty list within the list that is underlined
-pub nested-at : ListFieldAt (85 ∷ 78 ∷ 2 ∷ 7 ∷ 0 ∷ (emptyUnderlined ++ (0 ∷ 0 ∷ []))) 7 []
+pub nested-at : (u : Style) → ListFieldAt u (85 ∷ 78 ∷ 2 ∷ 7 ∷ 0 ∷ (emptyUnderlined ++ (0 ∷ 0 ∷ []))) 7 u []
 unfolding definitions
-nested-at =
-    deeper 2 emptyUnderlined 2 [] (own 2 emptyUnderlined (underlined 7 0 (emptyUnderlined ++ (0 ∷ 0 ∷ []))))
-    (underlined 0 0 (0 ∷ 0 ∷ []))
+nested-at u =
+    deeper (own (underlined u 7 0 (emptyUnderlined ++ (0 ∷ 0 ∷ [])))) (underlined u 0 0 (0 ∷ 0 ∷ []))
+
+-- ---- behind a style change, in the list that a choice takes
+
+-- a with the superscript a, a list
+abbrev raised : List ℕ
+raised = 65 ∷ 84 ∷ 0 ∷ 0 ∷ 1 ∷ 1 ∷ 97 ∷ 2 ∷ 9 ∷ 0 ∷ (atomBytes ++ (0 ∷ []))
+
+abbrev emptyList : List ℕ
+emptyList = 2 ∷ 0 ∷ 0 ∷ []
+
+-- the list of one ST, D
+abbrev display : List ℕ
+display = 83 ∷ 84 ∷ 0 ∷ []
+
+-- that list for T, and behind it the list raised for D
+abbrev chosen : List ℕ
+chosen =
+    67 ∷ 52 ∷ emptyList ++ (2 ∷ 3 ∷ 0 ∷ display) ++ emptyList ++ emptyList
+    ++ (67 ∷ 52 ∷ 2 ∷ 20 ∷ 0 ∷ raised) ++ emptyList ++ emptyList ++ emptyList
+
+-- past the first choice, in the list that the second takes
+abbrev inChoice : Step
+inChoice =
+    record {
+      spot = within (cons (choice nil (cons (restyle 0) nil) nil nil) nil) nil nil nil (among nil nil) nil;
+      kind = ord;
+      arm = inSecond a empty;
+    }
+
+chosen-accepted : Accepted T benchTable chosen (plain Text) (fill (plain Text) (into whole inChoice) aAlone)
+unfolding definitions benchTable
+chosen-accepted = record { style-is = refl; reads = refl; room = 36; is-accepted = refl }
+
+pub chosen-frame :
+    around benchTable (plain Text) whole inChoice (measured 4 benchTable atomBytes .size)
+    ≡ record {
+      before = glyph (pos 0) (pos 0) 0 1 97 ∷ [];
+      distance = record { across = pos 500; up = pos 420 };
+      after = [];
+    }
+unfolding definitions benchTable
+chosen-frame = refl
+
+chosen-at : ListFieldAt (plain Text) chosen 29 (plain Script) atomBytes
+unfolding definitions
+chosen-at =
+    own (record {
+      item-place = 22;
+      item-style = plain Display;
+      item = raised;
+      is-set = inTaken past-first refl (listField 20 0 (raised ++ emptyList ++ emptyList ++ emptyList)) (inList first);
+      kind = ord;
+      opens = refl;
+      field-place = 7;
+      in-item = inTwo;
+      place-is = refl;
+      is-list = listField 9 0 (atomBytes ++ (0 ∷ []));
+    })
+  where
+    past-first : ItemAt (plain Text) chosen 17 (plain Display)
+    past-first = pastChoice 0 refl (listField 3 0 (drop 8 chosen)) (pastStyle 0 0 refl refl first) first
+
+pub chosen-by-place : ListFieldAsAlone T benchTable chosen (plain Text) 29 (plain Script) atomBytes
+unfolding definitions
+chosen-by-place =
+    demand-3-at T benchTable chosen (chosen-accepted .room) (chosen-accepted .is-accepted) (plain Text) refl 29 (plain Script) atomBytes
+    chosen-at

@@ -6,9 +6,9 @@
 -- Assumes nothing.
 use mathlib.Core.Path.{_≡_, refl, sym, ap, subst, _∙_}
 use mathlib.Core.Bool.{Bool, true, false}
-use mathlib.Core.List.{List, [], _∷_}
+use mathlib.Core.List.{List}
 use mathlib.Core.Option.{Option, none, some}
-use Prim.Native.Nat.{ℕ, suc, _+_, _-_, _≤_}
+use Prim.Native.Nat.{ℕ, _+_, _-_, _≤_}
 use native.Mathlib.Omega.{arith}
 use lib.Dec.{ltb}
 use lib.ListN.{length, length-append}
@@ -19,17 +19,19 @@ use Rattle.formula.specs.declared.Base.the-variants.{Atom, Over, Under}
 use Rattle.formula.specs.declared.Fault.the-variants.{Unreadable}
 use Rattle.formula.specs.declared.Kind.{Kind}
 use Rattle.formula.specs.declared.Kind.the-variants.{Scripted, Fraction}
-use Rattle.formula.specs.Tree.{Items, Item, Field, cons, noad, kern, empty, symbol, list, openingBytes, thirdBytes, itemsBytes, itemBytes, fieldBytes}
+use Rattle.formula.specs.Tree.{Items, Item, Field, cons, noad, kern, restyle, choice, empty, symbol, list, openingBytes, kernBytes, restyleBytes, choiceOpeningBytes, listOpeningBytes, sublistBytes, thirdBytes, itemsBytes, itemBytes, fieldBytes}
 use Rattle.formula.specs.Reading.{Read, good, fault, formulaLimit, depthLimit, read, readFormula}
 use Rattle.formula.specs.ReadIn.{Parts, Closed, ReadIn, read-in}
+use Rattle.boxes.specs.declared.styles.Level.{Level}
+use Rattle.boxes.specs.declared.styles.Level.the-variants.{Display, Text, Script, Scriptscript}
 use Rattle.boxes.specs.declared.styles.Style.{Style}
 use Rattle.boxes.specs.Styles.{styleOf, fontSize}
 use Rattle.spacing.specs.Classes.{Neighbour}
 use Rattle.arrange.specs.Arrange.{firstStyle, secondStyle, thirdStyle, enlarges}
 use Rattle.arrange.proofs.ArrangeLaws.{own-before, own-behind, few-own}
 use Rattle.nodes.specs.NodeLaws.{length-moved}
-use Rattle.setting.specs.Setting.{Box, Line, Symbol, Part, symbolIn, symbolPart, itemNodes, itemBox, placed, nextClass, start, setItems, setItem, setField, setList}
-use Rattle.setting.specs.SettingLaws.{length-rules}
+use Rattle.setting.specs.Setting.{Box, Line, Symbol, Part, symbolIn, symbolPart, itemNodes, itemBox, taken, styleBehind, nextClass, start, placed, setItems, setItem, setField, setList}
+use Rattle.setting.specs.SettingLaws.{length-rules, setItem-choice, missingItem-choice}
 use Rattle.setting.specs.Missing.{_orElse_, later, absentAt, missingItems, missingItem, missingField}
 use Rattle.setting.specs.Fitting.{listFits}
 use Rattle.answers.specs.Answers.{Answered, Result, boxed, refused, refusal, accepted, noRoomNumber, ifFits, ifPresent, ifRead, ifGood, ifStyle, resultOf, measuredBy, measured, hasRoom, setBy, setting}
@@ -39,20 +41,27 @@ use Rattle.answers.specs.Answers.{Answered, Result, boxed, refused, refu
 pub record ItemsIn (n : ℕ) (l : Items) : Type 0 where
   pub bytes : itemsBytes l ≡ n
   pub missing : (F : Font) (s : Style) (place : ℕ) → missingItems F s l ≡ some place → place ≤ n
-  pub few : (F : Font) (s : Style) (beyond : Neighbour) (line : Line) →
-      length (setItems F s beyond line l .box .nodes) ≤ length (line .box .nodes) + n
+  pub few : (F : Font) (beyond : Neighbour) (line : Line) →
+      length (setItems F beyond line l .box .nodes) ≤ length (line .box .nodes) + n
 
 pub record ItemIn (n : ℕ) (i : Item) : Type 0 where
   pub bytes : itemBytes i ≡ n
   pub missing : (F : Font) (s : Style) (place : ℕ) → missingItem F s i ≡ some place → place ≤ n
-  pub few : (F : Font) (s : Style) (right : Neighbour) (line : Line) →
-      length (setItem F s right line i .box .nodes) ≤ length (line .box .nodes) + n
+  pub few : (F : Font) (right : Neighbour) (line : Line) →
+      length (setItem F right line i .box .nodes) ≤ length (line .box .nodes) + n
+
+-- a list that is a field
+abbrev pub ListIn : Field → Type 0
+ListIn empty = Unit {0}
+ListIn (symbol family code) = Unit {0}
+ListIn (list l) = ItemsIn (itemsBytes l) l
 
 -- from one place of its item to another, k bytes
 pub record FieldIn (at end k : ℕ) (f : Field) : Type 0 where
   pub bytes : end ≡ at + k
   pub missing : (F : Font) (s : Style) (enlarge : Bool) (place : ℕ) → missingField F s enlarge at f ≡ some place → place ≤ end
   pub few : (F : Font) (s : Style) (enlarge : Bool) → at + length (setField F s enlarge f .nodes) ≤ end
+  pub if-list : ListIn f
 
 -- ---- a field
 
@@ -77,7 +86,12 @@ symbol-few size family (some s) = omega arith
 empty-in : (at end k : ℕ) → end ≡ at + k → FieldIn at end k empty
 unfolding missingField setField
 empty-in at end k e =
-    record { bytes = e; missing = λ F s enlarge place q. none-some q; few = λ F s enlarge. omega arith }
+    record {
+      bytes = e;
+      missing = λ F s enlarge place q. none-some q;
+      few = λ F s enlarge. omega arith;
+      if-list = tt;
+    }
 
 symbol-in : (at family code : ℕ) → FieldIn at (at + 3) 3 (symbol family code)
 unfolding missingField setField
@@ -86,6 +100,7 @@ symbol-in at family code =
       bytes = refl;
       missing = λ F s enlarge place q. omega (arith, absent-place at place (symbolIn F (fontSize s) enlarge family code) q);
       few = λ F s enlarge. omega (arith, symbol-few (fontSize s) family (symbolIn F (fontSize s) enlarge family code));
+      if-list = tt;
     }
 
 list-in : (at n : ℕ) (l : Items) → ItemsIn n l → FieldIn at (at + 3 + n) (fieldBytes (list l)) (list l)
@@ -94,7 +109,8 @@ list-in at n l h =
     record {
       bytes = omega (arith, h .bytes);
       missing = λ F s enlarge place q. later-place (at + 3) n place (missingItems F s l) (h .missing F s) q;
-      few = λ F s enlarge. omega (arith, h .few F s none start);
+      few = λ F s enlarge. omega (arith, h .few F none (start s));
+      if-list = subst (λ (k : ℕ). ItemsIn k l) (sym (h .bytes)) h;
     }
 
 -- ---- an item
@@ -139,10 +155,11 @@ module _ (kind : Kind) (x y z : Field) (m₁ m₂ m₃ : ℕ) (a : FieldIn (open
       q)
       e
 
-  noad-few : (F : Font) (s : Style) (right : Neighbour) (line : Line) →
-      length (setItem F s right line (noad kind x y z) .box .nodes) ≤ length (line .box .nodes) + m₃
+  noad-few : (F : Font) (right : Neighbour) (line : Line) →
+      length (setItem F right line (noad kind x y z) .box .nodes) ≤ length (line .box .nodes) + m₃
   unfolding setItem placed
-  noad-few F s right line =
+  noad-few F right line =
+      let s = line .style in
       let X = setField F (firstStyle kind s) (enlarges kind s) x in
       let Y = setField F (secondStyle kind s) false y in
       let Z = setField F (thirdStyle s) false z in
@@ -153,14 +170,48 @@ module _ (kind : Kind) (x y z : Field) (m₁ m₂ m₃ : ℕ) (a : FieldIn (open
   unfolding itemBytes
   noad-in = record { bytes = omega (arith, a .bytes, b .bytes, c .bytes); missing = noad-missing; few = noad-few }
 
-kern-in : (n : ℕ) (i : Item) → itemBytes i ≡ n → ((F : Font) (s : Style) → missingItem F s i ≡ none) →
-    ((F : Font) (s : Style) (right : Neighbour) (line : Line) → setItem F s right line i .box .nodes ≡ line .box .nodes) → ItemIn n i
-kern-in n i bytes present same =
+-- an item that has no symbol and adds no node
+bare-in : (n : ℕ) (i : Item) → itemBytes i ≡ n → ((F : Font) (s : Style) → missingItem F s i ≡ none) →
+    ((F : Font) (right : Neighbour) (line : Line) → setItem F right line i .box .nodes ≡ line .box .nodes) → ItemIn n i
+bare-in n i bytes present same =
     record {
       bytes = bytes;
       missing = λ F s place q. none-some (sym (present F s) ∙ q);
-      few = λ F s right line. omega (arith, ap length (same F s right line));
+      few = λ F right line. omega (arith, ap length (same F right line));
     }
+
+module _ (d t sc ss : Items) (n : ℕ) (bytes : itemBytes (choice d t sc ss) ≡ n) (a : ItemsIn (itemsBytes d) d)
+    (b : ItemsIn (itemsBytes t) t) (c : ItemsIn (itemsBytes sc) sc) (e : ItemsIn (itemsBytes ss) ss) where
+  -- the taken list, behind its kind byte and its length, lies in the choice
+  abbrev TakenIn : Style → Type 0
+  TakenIn s =
+      let second = choiceOpeningBytes + sublistBytes (itemsBytes d) in
+      let third = second + sublistBytes (itemsBytes t) in
+      let fourth = third + sublistBytes (itemsBytes sc) in
+      let l = taken s d t sc ss in
+      ItemsIn (itemsBytes l) l × (taken s choiceOpeningBytes second third fourth + listOpeningBytes + itemsBytes l ≤ n)
+
+  taken-in : (s : Style) → TakenIn s
+  unfolding itemBytes
+  taken-in s = go (s .level) (s .cramped)
+    where
+      go : (level : Level) (cramped : Bool) → TakenIn (record { level = level; cramped = cramped })
+      go Display cramped = (a, omega arith)
+      go Text cramped = (b, omega arith)
+      go Script cramped = (c, omega arith)
+      go Scriptscript cramped = (e, omega arith)
+
+  choice-in : ItemIn n (choice d t sc ss)
+  choice-in =
+      record {
+        bytes = bytes;
+        missing = λ F s place q.
+            let h = taken-in s in
+            omega (arith, h .1, later-place _ _ place _ (h .0 .missing F s) (sym (missingItem-choice F s d t sc ss) ∙ q));
+        few = λ F right line.
+            let h = taken-in (line .style) in
+            omega (arith, h .1, h .0 .few F right line, ap (λ (m : Line). length (m .box .nodes)) (setItem-choice F right line d t sc ss));
+      }
 
 -- ---- a list
 
@@ -172,9 +223,13 @@ cons-in size n i l a b =
       missing = λ F s place q.
           either-place (size + n) place (missingItem F s i) _
           (λ p e. omega (arith, a .missing F s p e))
-          (λ p e. omega (arith, a .bytes, later-place (itemBytes i) n p (missingItems F s l) (b .missing F s) e))
+          (λ p e.
+          let t = styleBehind s i in
+          omega (arith, a .bytes, later-place (itemBytes i) n p (missingItems F t l) (b .missing F t) e))
           q;
-      few = λ F s beyond line. omega (arith, a .few F s (nextClass beyond l) line, b .few F s beyond (setItem F s (nextClass beyond l) line i));
+      few = λ F beyond line.
+          let right = nextClass (styleBehind (line .style) i) beyond l in
+          omega (arith, a .few F right line, b .few F beyond (setItem F right line i));
     }
 
 -- ---- whatever is read
@@ -198,8 +253,11 @@ parts-so =
       third-is = λ base at end f h. h;
       no-third = λ bar at. empty-in at at 0 (omega arith);
       noad-is = noad-in;
-      kern-is = λ n. kern-in 6 (kern n) refl (λ F s. refl) (λ F s right line. refl);
-      nil-is = record { bytes = refl; missing = λ F s place q. none-some q; few = λ F s beyond line. omega arith };
+      kern-is = λ n. bare-in kernBytes (kern n) refl (λ F s. refl) (λ F right line. refl);
+      restyle-is = λ n. bare-in restyleBytes (restyle n) refl (λ F s. refl) (λ F right line. refl);
+      choice-is = λ d t sc ss m₁ m₂ m₃ m₄ a b c e.
+          choice-in d t sc ss m₄ (omega (arith, a .bytes, b .bytes, c .bytes, e .bytes)) (a .if-list) (b .if-list) (c .if-list) (e .if-list);
+      nil-is = record { bytes = refl; missing = λ F s place q. none-some q; few = λ F beyond line. omega arith };
       cons-is = cons-in;
     }
 
@@ -215,7 +273,7 @@ module _ (F : Font) (s : Style) where
   tree-small n l short h = present (missingItems F s l) refl
     where
       fits : (t : Bool) → FoundSmall (ifFits t (setList F s l))
-      fits true = omega (arith, h .few F s none start)
+      fits true = omega (arith, h .few F none (start s))
       fits false = omega arith
 
       present : (o : Option ℕ) → missingItems F s l ≡ o → FoundSmall (ifPresent F s l o)

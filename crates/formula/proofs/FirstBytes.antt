@@ -3,7 +3,7 @@
 --     short-one ..         a function that says the same of every shorter list
 --     past, up, last       numbers that stand in a list of values, or past it
 --     kern-said .. kern-under     a kern: of its bytes, and in its range or on either side of it
---     kind-empty ..        a field, by its kind byte
+--     kind-empty ..        a field, by its kind byte; list-said, empty-said    that it is a list, or empty
 --     list-in, list-cut    a list field, by its length
 -- Assumes nothing.
 use mathlib.Core.Path.{ap, _∙_, sym, _≡_, refl}
@@ -14,16 +14,16 @@ use Prim.Native.Nat.{_*_, ℕ, zero, suc, _+_, _-_, _≤_, _<_}
 use native.Mathlib.Omega.{arith}
 use lib.IntN.{ℤ, pos, negsuc}
 use lib.ListN.{length, take, drop, getD, getElem?, length-drop}
-use lib.Dec.{leb}
+use lib.Dec.{leb, eqb}
 use borrow.Author.Tests.{le-leb, lt-leb, ne-eqb}
 use Rattle.scaled.specs.Signed.{above, below}
 use Rattle.words.specs.Words.{littleEndian, signedWord}
 use Rattle.formula.specs.declared.Class.{Class}
 use Rattle.formula.specs.declared.Opening.the-variants.{NoItem, Kern}
 use Rattle.formula.specs.declared.FieldHead.{FieldHead}
-use Rattle.formula.specs.declared.FieldHead.the-variants.{NoField, Empty, Sublist, CutSublist}
+use Rattle.formula.specs.declared.FieldHead.the-variants.{NoField, Empty, Symbol, Sublist, CutSublist}
 use Rattle.formula.specs.Tree.{listOpeningBytes}
-use Rattle.formula.specs.Heads.{atomOf, greatestKern, kernWithin, kernOpening, symbolHead, listHead, fieldHead}
+use Rattle.formula.specs.Heads.{atomOf, greatestKern, kernWithin, kernOpening, greatestFamily, symbolHead, listHead, fieldHead, isEmpty, isList}
 use Rattle.formula.specs.Slices.{tail-part}
 
 pub one : (s : List ℕ) → 1 ≤ length s → s ≡ getD s 0 0 ∷ drop 1 s
@@ -100,6 +100,50 @@ kern-under (negsuc m) h = simp (kernWithin, lt-leb (suc m) greatestKern (omega a
 
 -- ---- a field
 
+-- what a test says of every field of a kind
+module _ (test : FieldHead → Bool) (answer : Bool) where
+  symbols-alike : test NoField ≡ answer → ((family code : ℕ) → test (Symbol family code) ≡ answer) → (s : List ℕ) →
+      test (symbolHead s) ≡ answer
+  unfolding symbolHead
+  symbols-alike none-there is [] = none-there
+  symbols-alike none-there is (family ∷ []) = none-there
+  symbols-alike none-there is (family ∷ code ∷ s) = go (leb family greatestFamily)
+    where
+      go : (t : Bool) → test (elim t [ true ↦ Symbol family code | false ↦ NoField ]) ≡ answer
+      go true = is family code
+      go false = none-there
+
+  lists-alike : test CutSublist ≡ answer → ((opening n : ℕ) → test (Sublist opening n) ≡ answer) → (s : List ℕ) →
+      test (listHead s) ≡ answer
+  unfolding listHead
+  lists-alike cut is [] = cut
+  lists-alike cut is (low ∷ []) = cut
+  lists-alike cut is (low ∷ high ∷ s) = let n = littleEndian 2 (low ∷ high ∷ []) in go n (leb n (length s))
+    where
+      go : (n : ℕ) (t : Bool) → test (elim t [ true ↦ Sublist listOpeningBytes n | false ↦ CutSublist ]) ≡ answer
+      go n true = is listOpeningBytes n
+      go n false = cut
+
+other-kind : (n : ℕ) (s : List ℕ) → 2 < n → fieldHead (n ∷ s) ≡ NoField
+unfolding fieldHead
+other-kind n s h = simp (fieldHead, ne-eqb n 0 (λ e. omega arith), ne-eqb n 1 (λ e. omega arith), ne-eqb n 2 (λ e. omega arith))
+
+list-by-kind : (kind : ℕ) (s : List ℕ) → isList (fieldHead (kind ∷ s)) ≡ eqb kind 2
+unfolding fieldHead
+list-by-kind zero s = refl
+list-by-kind (suc zero) s = symbols-alike isList false refl (λ f c. refl) s
+list-by-kind (suc (suc zero)) s = lists-alike isList true refl (λ o n. refl) s
+list-by-kind (suc (suc (suc k))) s =
+    let n = suc (suc (suc k)) in ap isList (other-kind n s (omega arith)) ∙ sym (ne-eqb n 2 (λ e. omega arith))
+
+empty-by-kind : (kind : ℕ) (s : List ℕ) → isEmpty (fieldHead (kind ∷ s)) ≡ eqb kind 0
+unfolding fieldHead
+empty-by-kind zero s = refl
+empty-by-kind (suc zero) s = symbols-alike isEmpty false refl (λ f c. refl) s
+empty-by-kind (suc (suc zero)) s = lists-alike isEmpty false refl (λ o n. refl) s
+empty-by-kind (suc (suc (suc k))) s =
+    let n = suc (suc (suc k)) in ap isEmpty (other-kind n s (omega arith)) ∙ sym (ne-eqb n 0 (λ e. omega arith))
+
 module _ (s : List ℕ) (some : 0 < length s) where
   kind-is : (kind : ℕ) → getD s 0 0 ≡ kind → fieldHead s ≡ fieldHead (kind ∷ drop 1 s)
   kind-is kind e = ap fieldHead (one s some) ∙ ap (λ (k : ℕ). fieldHead (k ∷ drop 1 s)) e
@@ -119,6 +163,12 @@ module _ (s : List ℕ) (some : 0 < length s) where
   pub kind-none : (getD s 0 0 ≡ 0 → ⊥) → (getD s 0 0 ≡ 1 → ⊥) → (getD s 0 0 ≡ 2 → ⊥) → fieldHead s ≡ NoField
   unfolding fieldHead
   kind-none a b c = ap fieldHead (one s some) ∙ simp (fieldHead, ne-eqb _ _ a, ne-eqb _ _ b, ne-eqb _ _ c)
+
+  pub list-said : isList (fieldHead s) ≡ eqb (getD s 0 0) 2
+  list-said = ap (λ (s : List ℕ). isList (fieldHead s)) (one s some) ∙ list-by-kind (getD s 0 0) (drop 1 s)
+
+  pub empty-said : isEmpty (fieldHead s) ≡ eqb (getD s 0 0) 0
+  empty-said = ap (λ (s : List ℕ). isEmpty (fieldHead s)) (one s some) ∙ empty-by-kind (getD s 0 0) (drop 1 s)
 
 module _ (s : List ℕ) (n : ℕ) (long : 2 ≤ length s) (is : n ≡ getD s 0 0 + 256 * getD s 1 0) where
   list-by : (t : Bool) → leb n (length s - 2) ≡ t → listHead s ≡ elim t [ true ↦ Sublist listOpeningBytes n | false ↦ CutSublist ]

@@ -1,3 +1,4 @@
--- What the proofs of several functions use. Assumes nothing.
+-- What the proofs of several functions use, and worked examples. Assumes nothing.
 mod FirstBytes
 mod VerdictLaws
+mod Examples

@@ -1,11 +1,12 @@
 -- What the reader says of a reading, by the reading's own steps.
 --     later, verdict-step     a list: what its first item says, and then what the rest says
 --     fault-in, next-in       a fault's place lies in the list, and a part that is read ends in it, behind its start (`ReadIn`)
---     field-step ..           a field, by its head; `noad-stop` .. an item, by its fields
+--     field-step ..           a field, by its head; `noad-first` .. an item, by its fields
+--     choice-said, inTurn     a choice says what its lists say in turn; list-yes, list-no    what a field that must be a list says
 --     list-next ..            a turn of the loop over a list's items
 -- Assumes nothing.
 use mathlib.Core.Path.{_≡_, refl, sym, subst, ap, _∙_}
-use mathlib.Core.Bool.{true, false}
+use mathlib.Core.Bool.{Bool, true, false}
 use mathlib.Core.List.{List}
 use Prim.Native.Nat.{ℕ, zero, suc, _+_, _-_, _≤_, _<_}
 use native.Mathlib.Omega.{arith}
@@ -15,18 +16,18 @@ use Rattle.formula.specs.declared.Kind.{Kind}
 use Rattle.formula.specs.declared.Kind.the-variants.{Scripted, Fraction}
 use Rattle.formula.specs.declared.Opening.{Opening}
 use Rattle.formula.specs.declared.FieldHead.{FieldHead}
-use Rattle.formula.specs.declared.FieldHead.the-variants.{Sublist, CutSublist}
+use Rattle.formula.specs.declared.FieldHead.the-variants.{NoField, Empty, Symbol, Sublist, CutSublist}
 use Rattle.formula.specs.declared.Fault.{Fault}
 use Rattle.formula.specs.declared.Fault.the-variants.{Unreadable, TooDeep}
 use Rattle.formula.specs.declared.Verdict.{Verdict}
 use Rattle.formula.specs.declared.Verdict.the-variants.{Good, Faulty}
 use Rattle.formula.specs.declared.PartRead.{PartRead}
 use Rattle.formula.specs.declared.PartRead.the-variants.{Next, Stop}
-use Rattle.formula.specs.Tree.{Item, noad, openingBytes}
-use Rattle.formula.specs.Heads.{openingOf, fieldHead}
-use Rattle.formula.specs.Reading.{Read, good, fault, Got, got, stopped, _thenAt_, listGot, fieldBy, fieldAt, thirdAt, noadAt, openedBy, itemBy, before, restBy, read}
+use Rattle.formula.specs.Tree.{Item, noad, openingBytes, choiceOpeningBytes}
+use Rattle.formula.specs.Heads.{openingOf, fieldHead, isList}
+use Rattle.formula.specs.Reading.{Read, good, fault, Got, got, stopped, _thenAt_, listGot, fieldBy, onlyList, fieldAt, thirdAt, noadAt, listAt, choiceAt, openedBy, itemBy, before, restBy, read}
 use Rattle.formula.specs.Values.{told, partReadOf}
-use Rattle.formula.specs.Places.{headBytes, contents, hasThird}
+use Rattle.formula.specs.Places.{headBytes, contents, choiceLists, hasThird}
 use Rattle.formula.specs.Slices.{tail-part, field-part}
 use Rattle.formula.specs.HeadLaws.{head-fits}
 use Rattle.formula.specs.ReadIn.{Parts, Closed, ReadIn, GotIn, read-in, field-in, item-in}
@@ -83,6 +84,8 @@ ends-so =
       no-third = λ bar at. omega arith;
       noad-is = λ kind x y z m₁ m₂ m₃ a b c. omega arith;
       kern-is = λ n. omega arith;
+      restyle-is = λ n. omega arith;
+      choice-is = λ d t sc ss m₁ m₂ m₃ m₄ a b c e. omega arith;
       nil-is = tt;
       cons-is = λ size n i l a b. tt;
     }
@@ -167,63 +170,126 @@ module _ (levels at : ℕ) (s : List ℕ) where
           let e : suc d - 1 ≡ d = omega arith in
           told-inside at opening n (read d (contents opening n (drop at s))) ∙ ap (inside (at + opening) n) (rw e at h)
 
+  -- ---- a field that must be a list
+
+  pub list-yes : isList (fieldHead rest) ≡ true → partReadOf (listAt read levels s at) ≡ partReadOf (fieldAt read levels s at)
+  unfolding listAt fieldAt fieldBy listGot onlyList partReadOf
+  list-yes e = go levels (fieldHead (drop at s)) (rw tail-part at e)
+    where
+      read-so : (opening n : ℕ) (x : Read) → partReadOf (listGot at opening n x thenAt onlyList) ≡ partReadOf (listGot at opening n x)
+      read-so opening n (good l) = refl
+      read-so opening n (fault why place) = refl
+
+      go : (d : ℕ) (h : FieldHead) → isList h ≡ true →
+          partReadOf (fieldBy read d at (drop at s) h thenAt onlyList) ≡ partReadOf (fieldBy read d at (drop at s) h)
+      go d NoField e = let z : _≡_ {A = ℕ} 0 1 = cc in absurd (omega arith)
+      go d Empty e = let z : _≡_ {A = ℕ} 0 1 = cc in absurd (omega arith)
+      go d (Symbol family code) e = let z : _≡_ {A = ℕ} 0 1 = cc in absurd (omega arith)
+      go zero (Sublist opening n) e = refl
+      go (suc d) (Sublist opening n) e = read-so opening n (read d (contents opening n (drop at s)))
+      go zero CutSublist e = refl
+      go (suc d) CutSublist e = refl
+
+  pub list-no : isList (fieldHead rest) ≡ false → partReadOf (listAt read levels s at) ≡ Stop Unreadable 0
+  unfolding listAt fieldAt fieldBy onlyList partReadOf
+  list-no e = go (fieldHead (drop at s)) (rw tail-part at e)
+    where
+      go : (h : FieldHead) → isList h ≡ false → partReadOf (fieldBy read levels at (drop at s) h thenAt onlyList) ≡ Stop Unreadable 0
+      go NoField e = refl
+      go Empty e = refl
+      go (Symbol family code) e = refl
+      go (Sublist opening n) e = let z : _≡_ {A = ℕ} 0 1 = cc in absurd (omega arith)
+      go CutSublist e = let z : _≡_ {A = ℕ} 0 1 = cc in absurd (omega arith)
+
 -- ---- an item, by its fields
 
-then-stop : {A B : Type 0} (g : Got A) (k : A → ℕ → Got B) (why : Fault) (place : ℕ) → partReadOf g ≡ Stop why place →
-    partReadOf (g thenAt k) ≡ Stop why place
-unfolding partReadOf
-then-stop (got a m) k why place e = let z : _≡_ {A = ℕ} 0 1 = cc in absurd (omega arith)
-then-stop (stopped n p) k why place e = e
+abbrev onFrom : PartRead → (ℕ → PartRead) → PartRead
+onFrom (Next m) k = k m
+onFrom (Stop why place) k = Stop why place
 
-then-next : {A B : Type 0} (g : Got A) (k : A → ℕ → Got B) (m : ℕ) (x : PartRead) → partReadOf g ≡ Next m →
-    ((a : A) → partReadOf (k a m) ≡ x) → partReadOf (g thenAt k) ≡ x
+then-said : {A B : Type 0} (g : Got A) (k : A → ℕ → Got B) (k′ : ℕ → PartRead) → ((a : A) (m : ℕ) → partReadOf (k a m) ≡ k′ m) →
+    partReadOf (g thenAt k) ≡ onFrom (partReadOf g) k′
 unfolding partReadOf
-then-next (got a n) k m x e h = let z : n ≡ m = cc in rw z (h a)
-then-next (stopped n p) k m x e h = let z : _≡_ {A = ℕ} 0 1 = cc in absurd (omega arith)
+then-said (got a m) k k′ h = h a m
+then-said (stopped why place) k k′ h = refl
 
 then-last : {A B : Type 0} (g : Got A) (k : A → B) → partReadOf (g thenAt λ a m. got (k a) m) ≡ partReadOf g
 unfolding partReadOf
 then-last (got a m) k = refl
 then-last (stopped why place) k = refl
 
-module _ (levels : ℕ) (s : List ℕ) (kind : Kind) where
-  pub noad-first : (why : Fault) (place : ℕ) → partReadOf (fieldAt read levels s (openingBytes kind)) ≡ Stop why place →
-      partReadOf (noadAt read levels s kind) ≡ Stop why place
-  unfolding noadAt
-  noad-first why place e = then-stop (fieldAt read levels s (openingBytes kind)) _ why place e
+module _ (levels : ℕ) (s : List ℕ) where
+  abbrev fieldSays : ℕ → PartRead
+  fieldSays at = partReadOf (fieldAt read levels s at)
 
-  module _ (m : ℕ) (first : partReadOf (fieldAt read levels s (openingBytes kind)) ≡ Next m) where
-    pub noad-second : (why : Fault) (place : ℕ) → partReadOf (fieldAt read levels s m) ≡ Stop why place →
+  -- behind the second field: what the third says, if there is one
+  abbrev pub lastSays : Bool → ℕ → PartRead
+  lastSays true at = fieldSays at
+  lastSays false at = Next at
+
+  third-said : (kind : Kind) (at : ℕ) → partReadOf (thirdAt read levels s kind at) ≡ lastSays (hasThird kind) at
+  unfolding thirdAt partReadOf
+  third-said (Scripted base) at = refl
+  third-said (Fraction bar) at = refl
+
+  module _ (kind : Kind) where
+    noad-said : partReadOf (noadAt read levels s kind) ≡
+        onFrom (fieldSays (openingBytes kind)) (λ m. onFrom (fieldSays m) (lastSays (hasThird kind)))
+    unfolding noadAt
+    noad-said =
+        then-said (fieldAt read levels s (openingBytes kind)) _ _ (λ a m₁.
+        then-said (fieldAt read levels s m₁) _ _ (λ b m₂.
+        then-last (thirdAt read levels s kind m₂) (noad kind a b) ∙ third-said kind m₂))
+
+    pub noad-first : (why : Fault) (place : ℕ) → fieldSays (openingBytes kind) ≡ Stop why place →
         partReadOf (noadAt read levels s kind) ≡ Stop why place
-    unfolding noadAt
-    noad-second why place e =
-        then-next (fieldAt read levels s (openingBytes kind)) _ m _ first (λ a.
-        then-stop (fieldAt read levels s m) _ why place e)
+    noad-first why place first = noad-said ∙ rw first
 
-    noad-third : (e : ℕ) → partReadOf (fieldAt read levels s m) ≡ Next e →
-        partReadOf (noadAt read levels s kind) ≡ partReadOf (thirdAt read levels s kind e)
-    unfolding noadAt
-    noad-third e second =
-        then-next (fieldAt read levels s (openingBytes kind)) _ m _ first (λ a.
-        then-next (fieldAt read levels s m) _ e _ second (λ b. then-last (thirdAt read levels s kind e) (noad kind a b)))
+    module _ (m : ℕ) (first : fieldSays (openingBytes kind) ≡ Next m) where
+      pub noad-second : (why : Fault) (place : ℕ) → fieldSays m ≡ Stop why place →
+          partReadOf (noadAt read levels s kind) ≡ Stop why place
+      noad-second why place second = noad-said ∙ rw (first, second)
 
-    pub noad-three : (e : ℕ) → partReadOf (fieldAt read levels s m) ≡ Next e → hasThird kind ≡ true →
-        partReadOf (noadAt read levels s kind) ≡ partReadOf (fieldAt read levels s e)
-    unfolding thirdAt partReadOf
-    noad-three e second h = noad-third e second ∙ go kind h
-      where
-        go : (kind : Kind) → hasThird kind ≡ true → partReadOf (thirdAt read levels s kind e) ≡ partReadOf (fieldAt read levels s e)
-        go (Scripted base) h = refl
-        go (Fraction bar) h = let z : _≡_ {A = ℕ} 0 1 = cc in absurd (omega arith)
+      pub noad-third : (e : ℕ) (has : Bool) → fieldSays m ≡ Next e → hasThird kind ≡ has →
+          partReadOf (noadAt read levels s kind) ≡ lastSays has e
+      noad-third e has second h = noad-said ∙ rw (first, second, h)
 
-    pub noad-two : (e : ℕ) → partReadOf (fieldAt read levels s m) ≡ Next e → hasThird kind ≡ false →
-        partReadOf (noadAt read levels s kind) ≡ Next e
-    unfolding thirdAt partReadOf
-    noad-two e second h = noad-third e second ∙ go kind h
-      where
-        go : (kind : Kind) → hasThird kind ≡ false → partReadOf (thirdAt read levels s kind e) ≡ Next e
-        go (Scripted base) h = let z : _≡_ {A = ℕ} 0 1 = cc in absurd (omega arith)
-        go (Fraction bar) h = refl
+-- ---- a choice, by its lists
+
+-- what n parts say, one behind the other from a place on, where the part at each place says this
+unfoldable pub inTurn : (ℕ → PartRead) → ℕ → ℕ → PartRead
+inTurn says zero at = Next at
+inTurn says (suc n) at = onFrom (says at) (inTurn says n)
+
+module _ (levels : ℕ) (s : List ℕ) where
+  abbrev pub listSays : ℕ → PartRead
+  listSays at = partReadOf (listAt read levels s at)
+
+  pub choice-said : partReadOf (choiceAt read levels s) ≡ inTurn listSays choiceLists choiceOpeningBytes
+  unfolding choiceAt inTurn partReadOf
+  choice-said =
+      then-said (listAt read levels s choiceOpeningBytes) _ _ (λ d m₁.
+      then-said (listAt read levels s m₁) _ _ (λ t m₂.
+      then-said (listAt read levels s m₂) _ _ (λ sc m₃.
+      then-said (listAt read levels s m₃) _ _ (λ ss m₄. refl))))
+
+module _ (says : ℕ → PartRead) (at : ℕ) where
+  pub turn-next : (n m : ℕ) → 0 < n → says at ≡ Next m → inTurn says n at ≡ inTurn says (n - 1) m
+  unfolding inTurn
+  turn-next zero m pos e = absurd (omega arith)
+  turn-next (suc n) m pos e =
+      let one : suc n - 1 ≡ n = omega arith in
+      ap (λ (x : PartRead). onFrom x (inTurn says n)) e ∙ ap (λ (k : ℕ). inTurn says k m) (sym one)
+
+  pub turn-stop : (n : ℕ) (why : Fault) (place : ℕ) → 0 < n → says at ≡ Stop why place → inTurn says n at ≡ Stop why place
+  unfolding inTurn
+  turn-stop zero why place pos e = absurd (omega arith)
+  turn-stop (suc n) why place pos e = ap (λ (x : PartRead). onFrom x (inTurn says n)) e
+
+  pub turn-done : (n : ℕ) → n ≡ 0 → inTurn says n at ≡ Next at
+  unfolding inTurn
+  turn-done zero e = refl
+  turn-done (suc n) e = absurd (omega arith)
 
 pub item-step : (levels : ℕ) (s : List ℕ) (o : Opening) → openingOf s ≡ o →
     partReadOf (itemBy read levels s) ≡ partReadOf (openedBy read levels s o)

@@ -3,7 +3,7 @@
 --     list-opening         a list field opens with its kind byte and its length
 --     contents-shorter     the items of a list field have as many bytes as it says, and fewer than what holds it
 --     opening-fits         the bytes of an item before its fields
---     kern-small           a kern is within its bound
+--     kern-small, style-small     a kern and a style's number are within their bounds
 -- Each goes by the cases of the definition, whose tests `either` takes apart.
 -- Assumes nothing.
 use mathlib.Core.Path.{_≡_, refl, subst}
@@ -23,14 +23,14 @@ use Rattle.formula.specs.declared.Class.{Class}
 use Rattle.formula.specs.declared.Limits.{Limits}
 use Rattle.formula.specs.declared.Bar.{Bar}
 use Rattle.formula.specs.declared.Mark.{Mark}
-use Rattle.formula.specs.declared.Mark.the-variants.{AT, OV, UN, FR, KN, Unknown}
+use Rattle.formula.specs.declared.Mark.the-variants.{AT, OV, UN, FR, KN, ST, C4, Unknown}
 use Rattle.formula.specs.declared.Opening.{Opening}
-use Rattle.formula.specs.declared.Opening.the-variants.{NoItem, Fields, Kern}
+use Rattle.formula.specs.declared.Opening.the-variants.{NoItem, Fields, Kern, Restyle, Choice}
 use Rattle.formula.specs.declared.FieldHead.{FieldHead}
 use Rattle.formula.specs.declared.FieldHead.the-variants.{NoField, Empty, Symbol, Sublist, CutSublist}
-use Rattle.formula.specs.Tree.{kernBytes, listOpeningBytes}
+use Rattle.formula.specs.Tree.{kernBytes, restyleBytes, listOpeningBytes}
 use Rattle.formula.specs.Marks.{markOf}
-use Rattle.formula.specs.Heads.{classes, limitKinds, bars, isOp, isDisplayOnly, atomOf, atomOpening, fractionOf, fractionOpening, greatestKern, kernWithin, kernOpening, opens, openingOf, greatestFamily, symbolHead, listHead, fieldHead}
+use Rattle.formula.specs.Heads.{classes, limitKinds, bars, isOp, isDisplayOnly, atomOf, atomOpening, fractionOf, fractionOpening, greatestKern, kernWithin, kernOpening, greatestStyle, styleOpening, opens, openingOf, greatestFamily, symbolHead, listHead, fieldHead}
 use Rattle.formula.specs.Places.{headBytes, contents, openedBytes}
 
 -- a choice by a test
@@ -93,28 +93,30 @@ contents-shorter s opening n e =
 
 -- ---- an item
 
-KernIn : Opening → Type 0
-KernIn NoItem = Unit {0}
-KernIn (Fields kind) = Unit {0}
-KernIn (Kern n) = Within greatestKern (n .0)
+NumberIn : Opening → Type 0
+NumberIn NoItem = Unit {0}
+NumberIn (Fields kind) = Unit {0}
+NumberIn (Kern n) = Within greatestKern (n .0)
+NumberIn (Restyle n) = n ≤ greatestStyle
+NumberIn Choice = Unit {0}
 
 OpeningIn : List ℕ → Opening → Type 0
-OpeningIn s o = (openedBytes o ≤ length s) × KernIn o
+OpeningIn s o = (openedBytes o ≤ length s) × NumberIn o
 
 atom-in : (s : List ℕ) (class : Option Class) (limits : Option Limits) → 4 ≤ length s → OpeningIn s (atomOf class limits)
-unfolding atomOf OpeningIn KernIn
+unfolding atomOf OpeningIn NumberIn
 atom-in s none limits h = (omega arith, tt)
 atom-in s (some class) none h = (omega arith, tt)
 atom-in s (some class) (some limits) h =
     either (OpeningIn s) (isOp class || isDisplayOnly limits) (λ e. (h, tt)) (λ e. (omega arith, tt))
 
 fraction-in : (s : List ℕ) (bar : Option Bar) → 3 ≤ length s → OpeningIn s (fractionOf bar)
-unfolding fractionOf OpeningIn KernIn
+unfolding fractionOf OpeningIn NumberIn
 fraction-in s none h = (omega arith, tt)
 fraction-in s (some bar) h = (h, tt)
 
 kern-in : (s : List ℕ) (n : ℤ) → kernBytes ≤ length s → OpeningIn s (kernWithin n)
-unfolding kernWithin OpeningIn KernIn
+unfolding kernWithin OpeningIn NumberIn
 kern-in s n h =
     either (OpeningIn s) (leb (natAbs n) greatestKern) (λ e. (h, small n (leb-true (natAbs n) greatestKern e))) (λ e. (omega arith, tt))
   where
@@ -122,8 +124,14 @@ kern-in s n h =
     small (pos m) l = omega arith
     small (negsuc m) l = omega arith
 
+style-in : (s : List ℕ) (n : ℕ) → restyleBytes ≤ length s →
+    OpeningIn s (elim (leb n greatestStyle) [ true ↦ Restyle n | false ↦ NoItem ])
+unfolding OpeningIn NumberIn
+style-in s n h =
+    either (OpeningIn s) (leb n greatestStyle) (λ e. (h, leb-true n greatestStyle e)) (λ e. (omega arith, tt))
+
 opens-in : (a b : ℕ) (m : Mark) (s : List ℕ) → OpeningIn (a ∷ b ∷ s) (opens m s)
-unfolding opens atomOpening fractionOpening kernOpening OpeningIn KernIn
+unfolding opens atomOpening fractionOpening kernOpening styleOpening OpeningIn NumberIn
 opens-in a b AT [] = (omega arith, tt)
 opens-in a b AT (c ∷ []) = (omega arith, tt)
 opens-in a b AT (c ∷ d ∷ s) =
@@ -138,10 +146,13 @@ opens-in a b KN (c ∷ d ∷ []) = (omega arith, tt)
 opens-in a b KN (c ∷ d ∷ e ∷ []) = (omega arith, tt)
 opens-in a b KN (c ∷ d ∷ e ∷ f ∷ s) =
     kern-in (a ∷ b ∷ c ∷ d ∷ e ∷ f ∷ s) (signedWord (littleEndian 4 (c ∷ d ∷ e ∷ f ∷ s))) (omega arith)
+opens-in a b ST [] = (omega arith, tt)
+opens-in a b ST (c ∷ s) = style-in (a ∷ b ∷ c ∷ s) c (omega arith)
+opens-in a b C4 s = (omega arith, tt)
 opens-in a b Unknown s = (omega arith, tt)
 
 opening-in : (s : List ℕ) → OpeningIn s (openingOf s)
-unfolding openingOf OpeningIn KernIn
+unfolding openingOf OpeningIn NumberIn
 opening-in [] = (omega arith, tt)
 opening-in (a ∷ []) = (omega arith, tt)
 opening-in (a ∷ b ∷ s) = opens-in a b (markOf a b) s
@@ -151,5 +162,9 @@ unfolding OpeningIn
 opening-fits s o e = subst (OpeningIn s) e (opening-in s) .0
 
 pub kern-small : (s : List ℕ) (n : Sp) → openingOf s ≡ Kern n → Within greatestKern (n .0)
-unfolding OpeningIn KernIn
+unfolding OpeningIn NumberIn
 kern-small s n e = subst (OpeningIn s) e (opening-in s) .1
+
+pub style-small : (s : List ℕ) (n : ℕ) → openingOf s ≡ Restyle n → n ≤ greatestStyle
+unfolding OpeningIn NumberIn
+style-small s n e = subst (OpeningIn s) e (opening-in s) .1

@@ -1,6 +1,6 @@
 -- What stands at the head of an item and of a field (document 01, "Bytes of a formula"), with nothing within a list looked at.
---     openingOf    what an item says before its fields: its kind, or its kern
---     fieldHead    what a field says at its kind byte
+--     openingOf    what an item says before its fields: its kind, its kern, its style, or that it is a choice
+--     fieldHead    what a field says at its kind byte; isEmpty, isList    that it is empty, or a list, cut or not
 -- Both are total: bytes that can be neither are `NoItem` and `NoField`.
 -- Assumes nothing.
 use mathlib.Core.Bool.{Bool, true, false, _||_}
@@ -20,11 +20,11 @@ use Rattle.formula.specs.declared.Bar.the-variants.{Default, Without}
 use Rattle.formula.specs.declared.Base.the-variants.{Atom, Over, Under}
 use Rattle.formula.specs.declared.Kind.the-variants.{Scripted, Fraction}
 use Rattle.formula.specs.declared.Mark.{Mark}
-use Rattle.formula.specs.declared.Mark.the-variants.{AT, OV, UN, FR, KN, Unknown}
+use Rattle.formula.specs.declared.Mark.the-variants.{AT, OV, UN, FR, KN, ST, C4, Unknown}
 use Rattle.formula.specs.declared.FieldHead.{FieldHead}
 use Rattle.formula.specs.declared.FieldHead.the-variants.{NoField, Empty, Symbol, Sublist, CutSublist}
 use Rattle.formula.specs.declared.Opening.{Opening}
-use Rattle.formula.specs.declared.Opening.the-variants.{NoItem, Fields, Kern}
+use Rattle.formula.specs.declared.Opening.the-variants.{NoItem, Fields, Kern, Restyle, Choice}
 use Rattle.formula.specs.Tree.{listOpeningBytes}
 use Rattle.formula.specs.Marks.{markOf}
 
@@ -88,6 +88,14 @@ kernOpening (a ∷ b ∷ []) = NoItem
 kernOpening (a ∷ b ∷ c ∷ []) = NoItem
 kernOpening (a ∷ b ∷ c ∷ d ∷ s) = kernWithin (signedWord (littleEndian 4 (a ∷ b ∷ c ∷ d ∷ s)))
 
+-- D, D', T, T', S, S', SS, SS' are 0 to 7
+abbrev pub greatestStyle : ℕ
+greatestStyle = 7
+
+unfoldable pub styleOpening : List ℕ → Opening
+styleOpening [] = NoItem
+styleOpening (style ∷ s) = elim (leb style greatestStyle) [ true ↦ Restyle style | false ↦ NoItem ]
+
 -- what opens behind a mark, from the bytes behind the mark
 unfoldable pub opens : Mark → List ℕ → Opening
 opens AT s = atomOpening s
@@ -95,6 +103,8 @@ opens OV s = Fields (Scripted Over)
 opens UN s = Fields (Scripted Under)
 opens FR s = fractionOpening s
 opens KN s = kernOpening s
+opens ST s = styleOpening s
+opens C4 s = Choice
 opens Unknown s = NoItem
 
 unfoldable pub openingOf : List ℕ → Opening
@@ -133,3 +143,17 @@ fieldHead (kind ∷ s) =
                 elim (eqb kind 2) [ true ↦ listHead s | false ↦ NoField ]
           ]
     ]
+
+abbrev pub isEmpty : FieldHead → Bool
+isEmpty NoField = false
+isEmpty Empty = true
+isEmpty (Symbol family code) = false
+isEmpty (Sublist opening n) = false
+isEmpty CutSublist = false
+
+abbrev pub isList : FieldHead → Bool
+isList NoField = false
+isList Empty = false
+isList (Symbol family code) = false
+isList (Sublist opening n) = true
+isList CutSublist = true

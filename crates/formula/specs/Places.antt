@@ -3,22 +3,23 @@
 --     Readable, treeOf     of a list, with no number of levels: a list nests less deep than it is long
 --     headBytes            the bytes of a field, by its head
 --     fieldOf, GoodField   a field, from its kind byte on
---     second, third, end   the places of an item's fields, and the place behind it
+--     listOf, GoodList     a field that must be a list
+--     second, third, end   the places of an item's fields, and the place behind it; listPlace those of a choice's lists
 --     itemSize, itemOf, GoodItem     an item, by its opening
 -- That they say what `read` says is shown in `PlacesLaws`.
 -- Assumes nothing.
 use mathlib.Core.Bool.{Bool, true, false}
 use mathlib.Core.List.{List}
-use Prim.Native.Nat.{ℕ, _+_}
+use Prim.Native.Nat.{ℕ, zero, suc, _+_, _<_}
 use lib.IntN.{pos}
 use lib.ListN.{length, take, drop}
 use Rattle.formula.specs.declared.Kind.{Kind}
 use Rattle.formula.specs.declared.Kind.the-variants.{Scripted, Fraction}
 use Rattle.formula.specs.declared.Opening.{Opening}
-use Rattle.formula.specs.declared.Opening.the-variants.{NoItem, Fields, Kern}
+use Rattle.formula.specs.declared.Opening.the-variants.{NoItem, Fields, Kern, Restyle, Choice}
 use Rattle.formula.specs.declared.FieldHead.{FieldHead}
 use Rattle.formula.specs.declared.FieldHead.the-variants.{NoField, Empty, Symbol, Sublist, CutSublist}
-use Rattle.formula.specs.Tree.{Items, Item, Field, nil, noad, kern, empty, symbol, list, openingBytes, kernBytes, symbolBytes}
+use Rattle.formula.specs.Tree.{Items, Item, Field, nil, noad, kern, restyle, choice, empty, symbol, list, openingBytes, kernBytes, restyleBytes, choiceOpeningBytes, symbolBytes}
 use Rattle.formula.specs.Heads.{fieldHead}
 use Rattle.formula.specs.Reading.{Read, good, fault, read}
 
@@ -65,7 +66,26 @@ GoodField s (Symbol family code) = Unit {0}
 GoodField s (Sublist opening n) = Readable (contents opening n s)
 GoodField s CutSublist = ⊥
 
+-- a field that must be a list
+abbrev pub listOf : List ℕ → FieldHead → Items
+listOf s NoField = nil
+listOf s Empty = nil
+listOf s (Symbol family code) = nil
+listOf s (Sublist opening n) = treeOf (contents opening n s)
+listOf s CutSublist = nil
+
+abbrev pub GoodList : List ℕ → FieldHead → Type 0
+GoodList s NoField = ⊥
+GoodList s Empty = ⊥
+GoodList s (Symbol family code) = ⊥
+GoodList s (Sublist opening n) = Readable (contents opening n s)
+GoodList s CutSublist = ⊥
+
 -- ---- an item
+
+-- a choice has a list for each of D, T, S, SS
+abbrev pub choiceLists : ℕ
+choiceLists = 4
 
 -- a fraction has two fields, a base with scripts three
 abbrev pub hasThird : Kind → Bool
@@ -77,6 +97,8 @@ abbrev pub openedBytes : Opening → ℕ
 openedBytes NoItem = 0
 openedBytes (Fields kind) = openingBytes kind
 openedBytes (Kern n) = kernBytes
+openedBytes (Restyle n) = restyleBytes
+openedBytes Choice = choiceOpeningBytes
 
 module _ (s : List ℕ) where
   abbrev pub headAt : ℕ → FieldHead
@@ -100,10 +122,17 @@ module _ (s : List ℕ) where
   abbrev pub end : Kind → ℕ
   end kind = thirdEnd (hasThird kind) (third kind)
 
+  -- the place of a choice's list with so many before it; with all four before it, the place behind the choice
+  abbrev pub listPlace : ℕ → ℕ
+  listPlace zero = choiceOpeningBytes
+  listPlace (suc n) = fieldEnd (listPlace n)
+
   abbrev pub itemSize : Opening → ℕ
   itemSize NoItem = 0
   itemSize (Fields kind) = end kind
   itemSize (Kern n) = kernBytes
+  itemSize (Restyle n) = restyleBytes
+  itemSize Choice = listPlace choiceLists
 
   abbrev pub fieldIn : ℕ → Field
   fieldIn at = fieldOf (drop at s) (headAt at)
@@ -112,11 +141,17 @@ module _ (s : List ℕ) where
   thirdIn true at = fieldIn at
   thirdIn false at = empty
 
+  -- the list of a choice with so many before it
+  abbrev pub listIn : ℕ → Items
+  listIn n = listOf (drop (listPlace n) s) (headAt (listPlace n))
+
   abbrev pub itemOf : Opening → Item
   itemOf NoItem = kern (pos 0)
   itemOf (Fields kind) =
       noad kind (fieldIn (openingBytes kind)) (fieldIn (second kind)) (thirdIn (hasThird kind) (third kind))
   itemOf (Kern n) = kern (n .0)
+  itemOf (Restyle n) = restyle n
+  itemOf Choice = choice (listIn 0) (listIn 1) (listIn 2) (listIn 3)
 
   abbrev pub GoodFieldAt : ℕ → Type 0
   GoodFieldAt at = GoodField (drop at s) (headAt at)
@@ -125,8 +160,13 @@ module _ (s : List ℕ) where
   GoodThird true at = GoodFieldAt at
   GoodThird false at = Unit {0}
 
+  abbrev pub GoodListAt : ℕ → Type 0
+  GoodListAt at = GoodList (drop at s) (headAt at)
+
   abbrev pub GoodItem : Opening → Type 0
   GoodItem NoItem = ⊥
   GoodItem (Fields kind) =
       GoodFieldAt (openingBytes kind) × GoodFieldAt (second kind) × GoodThird (hasThird kind) (third kind)
   GoodItem (Kern n) = Unit {0}
+  GoodItem (Restyle n) = Unit {0}
+  GoodItem Choice = (n : ℕ) → n < choiceLists → GoodListAt (listPlace n)

@@ -2,14 +2,15 @@
 --     known, readable-of, tree-is     `Readable` and `treeOf` say what `read` says, with whatever number of levels it reads
 --     step                 a list that is not empty is its first item, given by its opening, and a readable rest.
 --                          A list field of that item is `Readable` by itself, and the field is the list of its tree
---     Noad, noad-at        where the fields of a first item with fields stand
---     items-bytes, item-bytes, field-bytes     a list, an item and a field are as long as their tree is written
+--     Noad, noad-at        where the fields of a first item with fields stand; Chosen, choice-at    where the lists of a choice stand
+--     items-bytes, item-bytes, field-bytes, list-bytes     a list, an item, a field and a list of a choice are as long as their
+--                          tree is written
 --     formula-good, formula-fault     what the verdict of a formula says of its reading
 -- Assumes nothing.
 use mathlib.Core.Path.{_≡_, refl, sym, subst, ap, ap₂, _∙_}
 use mathlib.Core.Bool.{Bool, true, false}
 use mathlib.Core.List.{List}
-use Prim.Native.Nat.{ℕ, zero, suc, _-_, _≤_, _<_}
+use Prim.Native.Nat.{ℕ, zero, suc, _+_, _-_, _≤_, _<_}
 use native.Mathlib.Omega.{arith}
 use lib.Dec.{ltb}
 use lib.ListN.{length, drop, length-drop}
@@ -18,19 +19,19 @@ use Rattle.formula.specs.declared.Base.the-variants.{Atom, Over, Under}
 use Rattle.formula.specs.declared.Kind.{Kind}
 use Rattle.formula.specs.declared.Kind.the-variants.{Scripted, Fraction}
 use Rattle.formula.specs.declared.Opening.{Opening}
-use Rattle.formula.specs.declared.Opening.the-variants.{NoItem, Fields, Kern}
+use Rattle.formula.specs.declared.Opening.the-variants.{NoItem, Fields, Kern, Restyle, Choice}
 use Rattle.formula.specs.declared.FieldHead.{FieldHead}
 use Rattle.formula.specs.declared.FieldHead.the-variants.{NoField, Empty, Symbol, Sublist, CutSublist}
 use Rattle.formula.specs.declared.Fault.{Fault}
 use Rattle.formula.specs.declared.Fault.the-variants.{Unreadable}
 use Rattle.formula.specs.declared.Verdict.the-variants.{Good, Faulty}
-use Rattle.formula.specs.Tree.{Items, Item, Field, nil, cons, list, openingBytes, itemsBytes, itemBytes, fieldBytes}
+use Rattle.formula.specs.Tree.{Items, Item, Field, nil, cons, list, openingBytes, listOpeningBytes, sublistBytes, itemsBytes, itemBytes, fieldBytes}
 use Rattle.formula.specs.Heads.{openingOf, fieldHead}
 use Rattle.formula.specs.Reading.{formulaLimit, depthLimit, Read, good, fault, read, readFormula}
 use Rattle.formula.specs.Values.{told}
-use Rattle.formula.specs.Places.{treeIn, IsGood, Readable, treeOf, headBytes, contents, fieldOf, GoodField, hasThird, headAt, second, third, thirdEnd, end, itemSize, fieldIn, thirdIn, itemOf, GoodFieldAt, GoodThird, GoodItem}
+use Rattle.formula.specs.Places.{treeIn, IsGood, Readable, treeOf, headBytes, contents, fieldOf, GoodField, listOf, GoodList, choiceLists, hasThird, headAt, second, third, thirdEnd, end, listPlace, itemSize, fieldIn, thirdIn, listIn, itemOf, GoodFieldAt, GoodThird, GoodListAt, GoodItem}
 use Rattle.formula.specs.HeadLaws.{list-opening, contents-shorter, opening-fits}
-use Rattle.formula.specs.ReadingLaws.{by-length, FieldIs, ThirdIs, ItemIs, item-map, size-fits, size-some, Below, read-none, list-good, agree}
+use Rattle.formula.specs.ReadingLaws.{by-length, FieldIs, ThirdIs, ItemIs, item-map, list-place-in, size-fits, size-some, Below, read-none, list-good, agree}
 
 -- ---- a readable list
 
@@ -67,6 +68,14 @@ field-known s (Symbol family code) f i = (tt, i)
 field-known s (Sublist opening n) f i = (i .1 .0, i .2 ∙ ap list (sym (i .1 .1)))
 field-known s CutSublist f i = absurd i
 
+list-known : (s : List ℕ) (h : FieldHead) (l : Items) → FieldIs Known s h (list l) → GoodList s h × (l ≡ listOf s h)
+unfolding Known
+list-known s NoField l i = absurd i
+list-known s Empty l i = let z : _≡_ {A = ℕ} 0 1 = cc in absurd (omega arith)
+list-known s (Symbol family code) l i = let z : _≡_ {A = ℕ} 0 1 = cc in absurd (omega arith)
+list-known s (Sublist opening n) l i = (i .1 .0, (cc))
+list-known s CutSublist l i = absurd i
+
 third-known : (s : List ℕ) (has : Bool) (at : ℕ) (f : Field) → ThirdIs Known s has at f →
     GoodThird s has at × (f ≡ thirdIn s has at)
 third-known s true at f i = field-known (drop at s) (headAt s at) f i
@@ -81,6 +90,15 @@ item-known s (Fields kind) i h =
     let c = third-known s (hasThird kind) (third s kind) (h .c) (h .c-is) in
     ((a .0, b .0, c .0), (cc))
 item-known s (Kern n) i h = (tt, h)
+item-known s (Restyle n) i h = (tt, h)
+item-known s Choice i h =
+    let each : (n : ℕ) → n < choiceLists → GoodListAt s (listPlace s n) × (h .lists n ≡ listIn s n) =
+    λ n l. list-known (drop (listPlace s n) s) (headAt s (listPlace s n)) (h .lists n) (h .are n l) in
+    let a = each 0 (omega arith) .1 in
+    let b = each 1 (omega arith) .1 in
+    let c = each 2 (omega arith) .1 in
+    let d = each 3 (omega arith) .1 in
+    (λ n l. each n l .0, (cc))
 
 below-known : (d : ℕ) (r : List ℕ) (l : Items) → Below read d r l → Known r l
 unfolding Known
@@ -178,6 +196,41 @@ noad-at s kind e readable =
     five (Scripted base) a b g = omega (arith, opened (Scripted base), some (third s (Scripted base)) g)
     five (Fraction bar) a b g = omega arith
 
+-- ---- a choice
+
+-- a field that is a list that reads, as a field
+list-good-field : (s : List ℕ) (h : FieldHead) → GoodList s h → GoodField s h × (fieldOf s h ≡ list (listOf s h))
+list-good-field s NoField g = absurd g
+list-good-field s Empty g = absurd g
+list-good-field s (Symbol family code) g = absurd g
+list-good-field s (Sublist opening n) g = (g, refl)
+list-good-field s CutSublist g = absurd g
+
+list-long : (s : List ℕ) (h : FieldHead) → fieldHead s ≡ h → GoodList s h → listOpeningBytes ≤ headBytes h
+list-long s NoField e g = absurd g
+list-long s Empty e g = absurd g
+list-long s (Symbol family code) e g = absurd g
+list-long s (Sublist opening n) e g = omega (arith, list-opening s opening n e)
+list-long s CutSublist e g = absurd g
+
+-- its lists and what stands behind it are good, and they stand one behind the other
+pub record Chosen (s : List ℕ) : Type 0 where
+  pub lists : (n : ℕ) → n < choiceLists → GoodListAt s (listPlace s n)
+  pub rest : Readable (drop (listPlace s choiceLists) s)
+  pub in-order : (n : ℕ) → n < choiceLists → listPlace s n + listOpeningBytes ≤ listPlace s (suc n)
+  pub places-in : (n : ℕ) → listPlace s n ≤ length s
+
+pub choice-at : (s : List ℕ) → openingOf s ≡ Choice → Readable s → Chosen s
+choice-at s e readable =
+    let opened = opening-fits s Choice e in
+    let p = step s Choice e readable (omega arith) in
+    record {
+      lists = p .item;
+      rest = p .rest;
+      in-order = λ n l. omega (arith, list-long (drop (listPlace s n) s) (headAt s (listPlace s n)) refl (p .item n l));
+      places-in = λ n. list-place-in s n opened;
+    }
+
 -- ---- the bytes that a tree is written in
 
 module _ (s : List ℕ) (ih : (r : List ℕ) → length r < length s → Readable r → itemsBytes (treeOf r) ≡ length r) where
@@ -195,6 +248,13 @@ module _ (s : List ℕ) (ih : (r : List ℕ) → length r < length s → Readabl
           omega (arith, ih (contents opening n (drop at s)) (omega (arith, length-drop at s)) g)
       go CutSublist e g = absurd g
 
+  list-by-bytes : (n : ℕ) → GoodListAt s (listPlace s n) →
+      sublistBytes (itemsBytes (listIn s n)) ≡ headBytes (headAt s (listPlace s n))
+  unfolding fieldBytes
+  list-by-bytes n g =
+      let is = list-good-field (drop (listPlace s n) s) (headAt s (listPlace s n)) g in
+      ap fieldBytes (sym (is .1)) ∙ field-by-bytes (listPlace s n) (is .0)
+
   item-by-bytes : (o : Opening) → GoodItem s o → itemBytes (itemOf s o) ≡ itemSize s o
   unfolding itemBytes fieldBytes
   item-by-bytes NoItem g = absurd g
@@ -209,6 +269,11 @@ module _ (s : List ℕ) (ih : (r : List ℕ) → length r < length s → Readabl
       go (Scripted base) a b g = omega (arith, field-by-bytes (third s (Scripted base)) g)
       go (Fraction bar) a b g = omega arith
   item-by-bytes (Kern n) g = refl
+  item-by-bytes (Restyle n) g = refl
+  item-by-bytes Choice g =
+      let each : (n : ℕ) → n < choiceLists → sublistBytes (itemsBytes (listIn s n)) ≡ headBytes (headAt s (listPlace s n)) =
+      λ n l. list-by-bytes n (g n l) in
+      omega (arith, each 0 (omega arith), each 1 (omega arith), each 2 (omega arith), each 3 (omega arith))
 
 Written : List ℕ → Type 0
 Written s = Readable s → itemsBytes (treeOf s) ≡ length s
@@ -236,6 +301,10 @@ item-bytes s = item-by-bytes s (λ r l. items-bytes r)
 
 pub field-bytes : (s : List ℕ) (at : ℕ) → GoodFieldAt s at → fieldBytes (fieldIn s at) ≡ headBytes (headAt s at)
 field-bytes s = field-by-bytes s (λ r l. items-bytes r)
+
+pub list-bytes : (s : List ℕ) (n : ℕ) → GoodListAt s (listPlace s n) →
+    sublistBytes (itemsBytes (listIn s n)) ≡ headBytes (headAt s (listPlace s n))
+list-bytes s = list-by-bytes s (λ r l. items-bytes r)
 
 -- ---- a formula
 

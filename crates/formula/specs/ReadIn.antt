@@ -16,12 +16,12 @@ use Rattle.formula.specs.declared.Bar.{Bar}
 use Rattle.formula.specs.declared.Kind.{Kind}
 use Rattle.formula.specs.declared.Kind.the-variants.{Scripted, Fraction}
 use Rattle.formula.specs.declared.Opening.{Opening}
-use Rattle.formula.specs.declared.Opening.the-variants.{NoItem, Fields, Kern}
+use Rattle.formula.specs.declared.Opening.the-variants.{NoItem, Fields, Kern, Restyle, Choice}
 use Rattle.formula.specs.declared.FieldHead.{FieldHead}
 use Rattle.formula.specs.declared.FieldHead.the-variants.{NoField, Empty, Symbol, Sublist, CutSublist}
-use Rattle.formula.specs.Tree.{Items, Item, Field, nil, cons, noad, kern, empty, symbol, list, openingBytes, kernBytes, symbolBytes, listOpeningBytes}
+use Rattle.formula.specs.Tree.{Items, Item, Field, nil, cons, noad, kern, restyle, choice, empty, symbol, list, openingBytes, kernBytes, restyleBytes, choiceOpeningBytes, symbolBytes, listOpeningBytes}
 use Rattle.formula.specs.Heads.{openingOf, fieldHead}
-use Rattle.formula.specs.Reading.{Read, good, fault, Got, got, stopped, _thenAt_, listGot, fieldBy, fieldAt, thirdAt, noadAt, openedBy, itemBy, before, restBy, listBy, readBy, read}
+use Rattle.formula.specs.Reading.{Read, good, fault, Got, got, stopped, _thenAt_, listGot, fieldBy, onlyList, fieldAt, thirdAt, noadAt, listAt, choiceAt, openedBy, itemBy, before, restBy, listBy, readBy, read}
 use Rattle.formula.specs.Places.{contents, openedBytes}
 use Rattle.formula.specs.HeadLaws.{head-fits, list-opening, contents-shorter, opening-fits}
 
@@ -40,6 +40,9 @@ pub record Closed (p : Parts) : Type 0 where
   pub noad-is : (kind : Kind) (x y z : Field) (m₁ m₂ m₃ : ℕ) → p .OfField (openingBytes kind) m₁ x → p .OfField m₁ m₂ y →
       p .OfThird kind m₂ m₃ z → p .OfItem m₃ (noad kind x y z)
   pub kern-is : (n : ℤ) → p .OfItem kernBytes (kern n)
+  pub restyle-is : (n : ℕ) → p .OfItem restyleBytes (restyle n)
+  pub choice-is : (d t sc ss : Items) (m₁ m₂ m₃ m₄ : ℕ) → p .OfField choiceOpeningBytes m₁ (list d) → p .OfField m₁ m₂ (list t) →
+      p .OfField m₂ m₃ (list sc) → p .OfField m₃ m₄ (list ss) → p .OfItem m₄ (choice d t sc ss)
   pub nil-is : p .OfItems 0 nil
   pub cons-is : (size n : ℕ) (i : Item) (l : Items) → p .OfItem size i → p .OfItems n l → p .OfItems (size + n) (cons i l)
 
@@ -59,6 +62,9 @@ then-in P Q hi (stopped why place) k h f = h
 module _ (p : Parts) (rules : Closed p) where
   abbrev pub FieldFrom : ℕ → Field → ℕ → Type 0
   FieldFrom at f end = p .OfField at end f
+
+  abbrev ListFrom : ℕ → Items → ℕ → Type 0
+  ListFrom at l end = p .OfField at end (list l)
 
   abbrev ThirdFrom : Kind → ℕ → Field → ℕ → Type 0
   ThirdFrom kind at f end = p .OfThird kind at end f
@@ -104,10 +110,20 @@ module _ (p : Parts) (rules : Closed p) where
         some (stopped why place) h = h
     third-in s (Fraction bar) at l = (rules .no-third bar at, l)
 
+    list-at-in : (s : List ℕ) (at : ℕ) → at ≤ length s → GotIn (ListFrom at) (length s) (listAt R levels s at)
+    unfolding listAt onlyList
+    list-at-in s at l =
+        then-in (FieldFrom at) (ListFrom at) (length s) (fieldAt R levels s at) onlyList (field-by-in s at l) only
+      where
+        only : (f : Field) (end : ℕ) → FieldFrom at f end → end ≤ length s → GotIn (ListFrom at) (length s) (onlyList f end)
+        only empty end a h = omega arith
+        only (symbol family code) end a h = omega arith
+        only (list l) end a h = (a, h)
+
     -- ---- an item
 
     pub item-by-in : (s : List ℕ) → GotIn ItemTo (length s) (itemBy R levels s)
-    unfolding itemBy openedBy noadAt
+    unfolding itemBy openedBy noadAt choiceAt
     item-by-in s = go (openingOf s) (opening-fits s (openingOf s) refl)
       where
         go : (o : Opening) → openedBytes o ≤ length s → GotIn ItemTo (length s) (openedBy R levels s o)
@@ -120,6 +136,15 @@ module _ (p : Parts) (rules : Closed p) where
             then-in (ThirdFrom kind m₂) ItemTo n (thirdAt R levels s kind m₂) _ (third-in s kind m₂ l₂) (λ z m₃ c l₃.
             (rules .noad-is kind x y z m₁ m₂ m₃ a b c, l₃))))
         go (Kern n) h = (rules .kern-is (n .0), h)
+        go (Restyle n) h = (rules .restyle-is n, h)
+        go Choice h =
+            let n = length s in
+            let list : ℕ → Got Items = listAt R levels s in
+            then-in (ListFrom choiceOpeningBytes) ItemTo n (list choiceOpeningBytes) _ (list-at-in s choiceOpeningBytes h) (λ d m₁ a l₁.
+            then-in (ListFrom m₁) ItemTo n (list m₁) _ (list-at-in s m₁ l₁) (λ t m₂ b l₂.
+            then-in (ListFrom m₂) ItemTo n (list m₂) _ (list-at-in s m₂ l₂) (λ sc m₃ c l₃.
+            then-in (ListFrom m₃) ItemTo n (list m₃) _ (list-at-in s m₃ l₃) (λ ss m₄ e l₄.
+            (rules .choice-is d t sc ss m₁ m₂ m₃ m₄ a b c e, l₄)))))
 
     -- ---- a list
 

@@ -3,7 +3,7 @@
 -- A list is read with the number of levels that may still be entered below it. Places within an item count from its
 -- first byte, and places within a list from the list's first byte. `R` stands for the reading of shorter lists.
 --     fieldBy      a field, by its head
---     itemBy       an item: its opening, then its fields in order
+--     itemBy       an item: its opening, then its fields in order; the fields of a choice must be lists
 --     listBy       a list: its first item, then the rest
 --     read         the whole
 -- Assumes nothing.
@@ -15,12 +15,12 @@ use lib.ListN.{length, take, drop}
 use Rattle.formula.specs.declared.Kind.{Kind}
 use Rattle.formula.specs.declared.Kind.the-variants.{Scripted, Fraction}
 use Rattle.formula.specs.declared.Opening.{Opening}
-use Rattle.formula.specs.declared.Opening.the-variants.{NoItem, Fields, Kern}
+use Rattle.formula.specs.declared.Opening.the-variants.{NoItem, Fields, Kern, Restyle, Choice}
 use Rattle.formula.specs.declared.FieldHead.{FieldHead}
 use Rattle.formula.specs.declared.FieldHead.the-variants.{NoField, Empty, Symbol, Sublist, CutSublist}
 use Rattle.formula.specs.declared.Fault.{Fault}
 use Rattle.formula.specs.declared.Fault.the-variants.{Unreadable, TooDeep}
-use Rattle.formula.specs.Tree.{Items, Item, Field, nil, cons, noad, kern, empty, symbol, list, openingBytes, kernBytes, symbolBytes}
+use Rattle.formula.specs.Tree.{Items, Item, Field, nil, cons, noad, kern, restyle, choice, empty, symbol, list, openingBytes, kernBytes, restyleBytes, choiceOpeningBytes, symbolBytes}
 use Rattle.formula.specs.Heads.{openingOf, fieldHead}
 
 -- ---- the numbers of the format
@@ -69,6 +69,12 @@ fieldBy R (suc levels) at s (Sublist opening n) = listGot at opening n (R levels
 fieldBy R zero at s CutSublist = stopped TooDeep at
 fieldBy R (suc levels) at s CutSublist = unreadable
 
+-- a field that must be a list: its kind comes before its depth, since only a list can be too deep
+unfoldable pub onlyList : Field → ℕ → Got Items
+onlyList empty end = unreadable
+onlyList (symbol family code) end = unreadable
+onlyList (list l) end = got l end
+
 -- ---- an item, from its first byte to the end of its list
 
 module _ (R : ℕ → List ℕ → Read) (levels : ℕ) (s : List ℕ) where
@@ -87,10 +93,23 @@ module _ (R : ℕ → List ℕ → Read) (levels : ℕ) (s : List ℕ) where
       thirdAt kind at₃ thenAt λ c end.
       got (noad kind a b c) end
 
+  unfoldable pub listAt : ℕ → Got Items
+  listAt at = fieldAt at thenAt onlyList
+
+  unfoldable pub choiceAt : Got Item
+  choiceAt =
+      listAt choiceOpeningBytes thenAt λ d at₂.
+      listAt at₂ thenAt λ t at₃.
+      listAt at₃ thenAt λ sc at₄.
+      listAt at₄ thenAt λ ss end.
+      got (choice d t sc ss) end
+
   unfoldable pub openedBy : Opening → Got Item
   openedBy NoItem = unreadable
   openedBy (Fields kind) = noadAt kind
   openedBy (Kern n) = got (kern (n .0)) kernBytes
+  openedBy (Restyle n) = got (restyle n) restyleBytes
+  openedBy Choice = choiceAt
 
   unfoldable pub itemBy : Got Item
   itemBy = openedBy (openingOf s)

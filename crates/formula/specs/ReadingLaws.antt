@@ -17,14 +17,14 @@ use lib.ListN.{length, drop, length-drop}
 use Rattle.formula.specs.declared.Kind.{Kind}
 use Rattle.formula.specs.declared.Kind.the-variants.{Scripted, Fraction}
 use Rattle.formula.specs.declared.Opening.{Opening}
-use Rattle.formula.specs.declared.Opening.the-variants.{NoItem, Fields, Kern}
+use Rattle.formula.specs.declared.Opening.the-variants.{NoItem, Fields, Kern, Restyle, Choice}
 use Rattle.formula.specs.declared.FieldHead.{FieldHead}
 use Rattle.formula.specs.declared.FieldHead.the-variants.{NoField, Empty, Symbol, Sublist, CutSublist}
 use Rattle.formula.specs.declared.Fault.{Fault}
-use Rattle.formula.specs.Tree.{Items, Item, Field, nil, cons, noad, kern, empty, symbol, list, openingBytes}
+use Rattle.formula.specs.Tree.{Items, Item, Field, nil, cons, noad, kern, restyle, choice, empty, symbol, list, openingBytes, choiceOpeningBytes}
 use Rattle.formula.specs.Heads.{openingOf, fieldHead}
-use Rattle.formula.specs.Reading.{Read, good, fault, Got, got, stopped, _thenAt_, listGot, fieldBy, fieldAt, thirdAt, noadAt, openedBy, itemBy, before, restBy, listBy, readBy, read}
-use Rattle.formula.specs.Places.{headBytes, contents, hasThird, openedBytes, headAt, fieldEnd, second, third, thirdEnd, end, itemSize}
+use Rattle.formula.specs.Reading.{Read, good, fault, Got, got, stopped, _thenAt_, listGot, fieldBy, onlyList, fieldAt, thirdAt, noadAt, listAt, choiceAt, openedBy, itemBy, before, restBy, listBy, readBy, read}
+use Rattle.formula.specs.Places.{headBytes, contents, choiceLists, hasThird, openedBytes, headAt, fieldEnd, second, third, thirdEnd, end, listPlace, itemSize}
 use Rattle.formula.specs.HeadLaws.{head-fits, list-opening, contents-shorter, opening-fits}
 
 pub by-length : (P : List ℕ → Type 0) → ((s : List ℕ) → ((r : List ℕ) → length r < length s → P r) → P s) →
@@ -65,10 +65,18 @@ module _ (P : Says) (s : List ℕ) where
     pub c-is : ThirdIs (hasThird kind) (third s kind) c
     pub is : i ≡ noad kind a b c
 
+  -- list number n of a choice is `lists n`
+  pub record ChoiceIs (i : Item) : Type 0 where
+    pub lists : ℕ → Items
+    pub are : (n : ℕ) → n < choiceLists → FieldAtIs (listPlace s n) (list (lists n))
+    pub is : i ≡ choice (lists 0) (lists 1) (lists 2) (lists 3)
+
   abbrev pub ItemIs : Opening → Item → Type 0
   ItemIs NoItem i = ⊥
   ItemIs (Fields kind) i = NoadIs kind i
   ItemIs (Kern n) i = i ≡ kern (n .0)
+  ItemIs (Restyle n) i = i ≡ restyle n
+  ItemIs Choice i = ChoiceIs i
 
 -- a field is at least one byte long
 pub head-some : (P : Says) (s : List ℕ) (h : FieldHead) (f : Field) → fieldHead s ≡ h → FieldIs P s h f → 0 < headBytes h
@@ -109,6 +117,13 @@ module _ (P Q : Says) (s : List ℕ)
         is = h .is;
       }
   item-map (Kern n) i h = h
+  item-map (Restyle n) i h = h
+  item-map Choice i h =
+      record {
+        lists = h .lists;
+        are = λ n l. field-map (listPlace s n) (list (h .lists n)) (h .are n l);
+        is = h .is;
+      }
 
 -- ---- an item lies in its list
 
@@ -119,11 +134,17 @@ third-end-in : (s : List ℕ) (has : Bool) (at : ℕ) → at ≤ length s → th
 third-end-in s true at h = field-end-in s at h
 third-end-in s false at h = h
 
+pub list-place-in : (s : List ℕ) (n : ℕ) → choiceOpeningBytes ≤ length s → listPlace s n ≤ length s
+list-place-in s zero h = h
+list-place-in s (suc n) h = field-end-in s (listPlace s n) (list-place-in s n h)
+
 size-by : (s : List ℕ) (o : Opening) → openedBytes o ≤ length s → itemSize s o ≤ length s
 size-by s NoItem h = h
 size-by s (Fields kind) h =
     third-end-in s (hasThird kind) (third s kind) (field-end-in s (second s kind) (field-end-in s (openingBytes kind) h))
 size-by s (Kern n) h = h
+size-by s (Restyle n) h = h
+size-by s Choice h = list-place-in s choiceLists h
 
 pub size-fits : (s : List ℕ) → itemSize s (openingOf s) ≤ length s
 size-fits s = size-by s (openingOf s) (opening-fits s (openingOf s) refl)
@@ -138,6 +159,8 @@ size-some P s (Fields kind) i h =
     third-end-some s (hasThird kind) (third s kind)
     (omega (arith, head-some P (drop (openingBytes kind) s) (headAt s (openingBytes kind)) (h .a) refl (h .a-is)))
 size-some P s (Kern n) i h = omega arith
+size-some P s (Restyle n) i h = omega arith
+size-some P s Choice i h = omega arith
 
 -- ---- `itemBy` gives an item exactly where `ItemIs` holds
 
@@ -165,6 +188,21 @@ list-got : (at opening n : ℕ) (x : Read) (f : Field) (e : ℕ) → listGot at 
 unfolding listGot
 list-got at opening n (good l) f e q = (l, refl, (cc), (cc))
 list-got at opening n (fault why place) f e q = stopped-got q
+
+-- one of four lists, by its number
+abbrev oneOf : Items → Items → Items → Items → ℕ → Items
+oneOf d t sc ss zero = d
+oneOf d t sc ss (suc zero) = t
+oneOf d t sc ss (suc (suc zero)) = sc
+oneOf d t sc ss (suc (suc (suc n))) = ss
+
+each-of : (P : ℕ → Items → Type 0) (d t sc ss : Items) → P 0 d → P 1 t → P 2 sc → P 3 ss →
+    (n : ℕ) → n < choiceLists → P n (oneOf d t sc ss n)
+each-of P d t sc ss a b c e zero l = a
+each-of P d t sc ss a b c e (suc zero) l = b
+each-of P d t sc ss a b c e (suc (suc zero)) l = c
+each-of P d t sc ss a b c e (suc (suc (suc zero))) l = e
+each-of P d t sc ss a b c e (suc (suc (suc (suc n)))) l = absurd (omega arith)
 
 module _ (R : Reader) where
   field-by-got : (levels at : ℕ) (s : List ℕ) (h : FieldHead) (f : Field) (e : ℕ) → fieldBy R levels at s h ≡ got f e →
@@ -244,6 +282,52 @@ module _ (R : Reader) where
         let c = got-third kind (third s kind) (h .c) (h .c-is) in
         rw (a, b, c, h .is)
 
+    sublist-got : (at : ℕ) (l : Items) (e : ℕ) → listAt R levels s at ≡ got l e →
+        FieldAtIs (Below R levels) s at (list l) × (e ≡ fieldEnd s at)
+    unfolding listAt onlyList
+    sublist-got at l e q =
+        let g = then-got (fieldAt R levels s at) onlyList l e q in
+        only (g .0) (g .1) (g .2) (g .3)
+      where
+        only : (f : Field) (m : ℕ) → fieldAt R levels s at ≡ got f m → onlyList f m ≡ got l e →
+            FieldAtIs (Below R levels) s at (list l) × (e ≡ fieldEnd s at)
+        only empty m a b = stopped-got b
+        only (symbol family code) m a b = stopped-got b
+        only (list k) m a b = let same : k ≡ l = cc in let here : m ≡ e = cc in field-got at (list l) e (cc)
+
+    got-sublist : (at : ℕ) (l : Items) → FieldAtIs (Below R levels) s at (list l) → listAt R levels s at ≡ got l (fieldEnd s at)
+    unfolding listAt onlyList
+    got-sublist at l i = ap (λ (g : Got Field). g thenAt onlyList) (got-field at (list l) i)
+
+    choice-got : (i : Item) (e : ℕ) → choiceAt R levels s ≡ got i e →
+        ChoiceIs (Below R levels) s i × (e ≡ listPlace s choiceLists)
+    unfolding choiceAt
+    choice-got i e q =
+        let lists : ℕ → Got Items = listAt R levels s in
+        let g₁ = then-got (lists (listPlace s 0)) _ i e q in
+        let f₁ = sublist-got (listPlace s 0) (g₁ .0) (g₁ .1) (g₁ .2) in
+        let g₂ = then-got (lists (g₁ .1)) _ i e (g₁ .3) in
+        let f₂ = sublist-got (listPlace s 1) (g₂ .0) (g₂ .1) (ap lists (sym (f₁ .1)) ∙ g₂ .2) in
+        let g₃ = then-got (lists (g₂ .1)) _ i e (g₂ .3) in
+        let f₃ = sublist-got (listPlace s 2) (g₃ .0) (g₃ .1) (ap lists (sym (f₂ .1)) ∙ g₃ .2) in
+        let g₄ = then-got (lists (g₃ .1)) _ i e (g₃ .3) in
+        let f₄ = sublist-got (listPlace s 3) (g₄ .0) (g₄ .1) (ap lists (sym (f₃ .1)) ∙ g₄ .2) in
+        let Is : ℕ → Items → Type 0 = λ n l. FieldAtIs (Below R levels) s (listPlace s n) (list l) in (
+          record {
+            lists = oneOf (g₁ .0) (g₂ .0) (g₃ .0) (g₄ .0);
+            are = each-of Is (g₁ .0) (g₂ .0) (g₃ .0) (g₄ .0) (f₁ .0) (f₂ .0) (f₃ .0) (f₄ .0);
+            is = (cc);
+          },
+          (cc),
+        )
+
+    got-choice : (i : Item) → ChoiceIs (Below R levels) s i → choiceAt R levels s ≡ got i (listPlace s choiceLists)
+    unfolding choiceAt
+    got-choice i h =
+        let each : (n : ℕ) → n < choiceLists → listAt R levels s (listPlace s n) ≡ got (h .lists n) (listPlace s (suc n)) =
+        λ n l. got-sublist (listPlace s n) (h .lists n) (h .are n l) in
+        rw (each 0 (omega arith), each 1 (omega arith), each 2 (omega arith), each 3 (omega arith), h .is)
+
     pub item-got : (i : Item) (e : ℕ) → itemBy R levels s ≡ got i e →
         ItemIs (Below R levels) s (openingOf s) i × (e ≡ itemSize s (openingOf s))
     unfolding itemBy openedBy
@@ -253,6 +337,8 @@ module _ (R : Reader) where
         go NoItem q = stopped-got q
         go (Fields kind) q = noad-got kind i e q
         go (Kern n) q = ((cc), (cc))
+        go (Restyle n) q = ((cc), (cc))
+        go Choice q = choice-got i e q
 
     pub got-item : (i : Item) → ItemIs (Below R levels) s (openingOf s) i →
         itemBy R levels s ≡ got i (itemSize s (openingOf s))
@@ -263,6 +349,8 @@ module _ (R : Reader) where
         go NoItem h = absurd h
         go (Fields kind) h = got-noad kind i h
         go (Kern n) h = rw h
+        go (Restyle n) h = rw h
+        go Choice h = got-choice i h
 
 -- ---- one answer, whatever the number of steps
 
@@ -305,6 +393,18 @@ module _ (R R′ : Reader) (levels : ℕ) (s : List ℕ)
       then-same _ _ _ _ (field-same m) (λ b m.
       then-same _ _ _ _ (third-same kind m) (λ c m. refl)))
 
+  list-at-same : (at : ℕ) → listAt R levels s at ≡ listAt R′ levels s at
+  unfolding listAt
+  list-at-same at = then-same _ _ _ _ (field-same at) (λ f m. refl)
+
+  choice-same : choiceAt R levels s ≡ choiceAt R′ levels s
+  unfolding choiceAt
+  choice-same =
+      then-same _ _ _ _ (list-at-same choiceOpeningBytes) (λ d m.
+      then-same _ _ _ _ (list-at-same m) (λ t m.
+      then-same _ _ _ _ (list-at-same m) (λ sc m.
+      then-same _ _ _ _ (list-at-same m) (λ ss m. refl))))
+
   item-same : itemBy R levels s ≡ itemBy R′ levels s
   unfolding itemBy openedBy
   item-same = go (openingOf s)
@@ -313,6 +413,8 @@ module _ (R R′ : Reader) (levels : ℕ) (s : List ℕ)
       go NoItem = refl
       go (Fields kind) = noad-same kind
       go (Kern n) = refl
+      go (Restyle n) = refl
+      go Choice = choice-same
 
   rest-same : (g : Got Item) → itemBy R′ levels s ≡ g → restBy R levels s g ≡ restBy R′ levels s g
   unfolding restBy

@@ -1,7 +1,7 @@
 -- A formula as a tree (document 01, "Bytes of a formula"), and the number of bytes that each part of it is written in.
 -- An item with fields is a noad, TeX's word: it has a kind and three fields, which are nucleus, superscript and
--- subscript, or numerator, denominator and an empty one. A tree holds no places: each part is written in one way, so
--- that a place follows from the bytes of what stands before it.
+-- subscript, or numerator, denominator and an empty one. A style change (ST) has the style's number, a choice (C4) four lists.
+-- A tree holds no places: each part is written in one way, so that a place follows from the bytes of what stands before it.
 -- Assumes nothing.
 use Prim.Native.Nat.{ℕ, _+_}
 use lib.IntN.{ℤ}
@@ -18,6 +18,8 @@ mutual
   pub data Item : Type 0 where
     noad : Kind → Field → Field → Field → Item
     kern : ℤ → Item
+    restyle : ℕ → Item  -- the style's number
+    choice : Items → Items → Items → Items → Item  -- for D, T, S, SS
 
   pub data Field : Type 0 where
     empty : Field
@@ -38,6 +40,14 @@ openingBytes (Fraction bar) = 3
 abbrev pub kernBytes : ℕ
 kernBytes = 6
 
+-- mark and the style's number
+abbrev pub restyleBytes : ℕ
+restyleBytes = 3
+
+-- the mark
+abbrev pub choiceOpeningBytes : ℕ
+choiceOpeningBytes = 2
+
 -- kind byte, family, code
 abbrev pub symbolBytes : ℕ
 symbolBytes = 3
@@ -45,6 +55,10 @@ symbolBytes = 3
 -- kind byte and a two-byte length
 abbrev pub listOpeningBytes : ℕ
 listOpeningBytes = 3
+
+-- of n bytes of items
+abbrev pub sublistBytes : ℕ → ℕ
+sublistBytes n = listOpeningBytes + n
 
 -- a fraction has no third field
 abbrev pub thirdBytes : Kind → ℕ → ℕ
@@ -59,8 +73,11 @@ unfoldable mutual
   pub itemBytes : Item → ℕ
   itemBytes (noad k a b c) = openingBytes k + fieldBytes a + fieldBytes b + thirdBytes k (fieldBytes c)
   itemBytes (kern n) = kernBytes
+  itemBytes (restyle n) = restyleBytes
+  itemBytes (choice d t sc ss) =
+      choiceOpeningBytes + sublistBytes (itemsBytes d) + sublistBytes (itemsBytes t) + sublistBytes (itemsBytes sc) + sublistBytes (itemsBytes ss)
 
   pub fieldBytes : Field → ℕ
   fieldBytes empty = 1
   fieldBytes (symbol family code) = symbolBytes
-  fieldBytes (list l) = listOpeningBytes + itemsBytes l
+  fieldBytes (list l) = sublistBytes (itemsBytes l)

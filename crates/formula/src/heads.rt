@@ -3,13 +3,14 @@
 ghost use mathlib.Core.Path.{_≡_};
 ghost use mathlib.Core.Bool.{_&&_};
 ghost use mathlib.Core.Option.{some};
-ghost use Prim.Native.Nat.{_+_, _*_, _^_, _<_};
+ghost use Prim.Native.Nat.{_+_, _*_, _^_, _<_, _≤_};
 ghost use lib.Dec.{eqb};
-ghost use lib.ListN.{getElem?};
+ghost use lib.ListN.{length, getElem?};
 ghost use Rattle.formula.specs.Tree.{baseBytes, openingBytes};
 ghost use Rattle.formula.specs.Marks.{markOf};
-ghost use Rattle.formula.specs.Heads.{classes, limitKinds, isOp, isDisplayOnly, atomOf, atomOpening, fractionOpening, kernWithin, kernOpening, opens, openingOf, symbolHead, listHead, fieldHead};
-ghost use Rattle.formula.specs.Places.{headBytes, hasThird};
+ghost use Rattle.formula.specs.Heads.{classes, limitKinds, isOp, isDisplayOnly, atomOf, atomOpening, fractionOpening, kernWithin, kernOpening, styleOpening, opens, openingOf, symbolHead, listHead, fieldHead, isEmpty, isList};
+ghost use Rattle.formula.specs.declared.Opening.the-variants.{Fields, Choice};
+ghost use Rattle.formula.specs.Places.{headBytes, hasThird, fieldEnd, end, listPlace};
 use crate::Bar;
 use crate::Base;
 use crate::Class;
@@ -23,25 +24,52 @@ use scaled::Sp;
 // A kern's mark and its four bytes.
 pub const KERN_BYTES: usize = 6;
 
+// A style's mark and its number.
+pub const RESTYLE_BYTES: usize = 3;
+
+// A choice's mark, and how many lists follow it.
+pub const CHOICE_OPENING_BYTES: usize = 2;
+
+pub const CHOICE_LISTS: usize = 4;
+
 const LEAST_KERN: i64 = -8_388_607;
 
 const GREATEST_KERN: i64 = 8_388_607;
 
+const GREATEST_STYLE: u8 = 7;
+
 const GREATEST_FAMILY: u8 = 15;
+
+// The kind bytes of fields.
+const EMPTY_KIND: u8 = 0;
+
+const SYMBOL_KIND: u8 = 1;
+
+const LIST_KIND: u8 = 2;
 
 // A list's kind byte and its length.
 const LIST_OPENING_BYTES: usize = 3;
 
 // The letters of the marks, and the marks in the same order; most items are atoms.
-const LETTERS: [[u8; 2]; 5] = [
+const LETTERS: [[u8; 2]; 7] = [
     [b'A', b'T'],
     [b'O', b'V'],
     [b'U', b'N'],
     [b'F', b'R'],
     [b'K', b'N'],
+    [b'S', b'T'],
+    [b'C', b'4'],
 ];
 
-const MARKS: [Mark; 5] = [Mark::AT, Mark::OV, Mark::UN, Mark::FR, Mark::KN];
+const MARKS: [Mark; 7] = [
+    Mark::AT,
+    Mark::OV,
+    Mark::UN,
+    Mark::FR,
+    Mark::KN,
+    Mark::ST,
+    Mark::C4,
+];
 
 // What opens with the first byte of s.
 pub fn opening(s: &[u8]) -> Opening
@@ -63,6 +91,8 @@ fn opened(mark: Mark, s: &[u8]) -> Opening
         Mark::UN => Opening::Fields(Kind::Scripted(Base::Under)),
         Mark::FR => fraction_opening(s),
         Mark::KN => kern_opening(s),
+        Mark::ST => style_opening(s),
+        Mark::C4 => Opening::Choice,
         Mark::Unknown => Opening::NoItem,
     }
 }
@@ -236,6 +266,19 @@ fn kern(n: Sp) -> Opening
     Opening::Kern(n)
 }
 
+fn style_opening(s: &[u8]) -> Opening
+    ensures { λ r. ⌜ r ≡ styleOpening (now (s .entry)) ⌝ }
+{
+    if s.len() == 0 {
+        return Opening::NoItem;
+    }
+    let style = s[0];
+    if style > GREATEST_STYLE {
+        return Opening::NoItem;
+    }
+    Opening::Restyle(style)
+}
+
 // The number that two bytes make, the least significant first.
 fn short(a: u8, b: u8) -> usize
     ensures { λ r. ⌜ r ≡ a + 256 * b ⌝ }
@@ -252,16 +295,36 @@ pub fn field_head(s: &[u8]) -> FieldHead
     }
     let kind = s[0];
     let rest = &s[1..];
-    if kind == 0 {
+    if kind == EMPTY_KIND {
         return FieldHead::Empty;
     }
-    if kind == 1 {
+    if kind == SYMBOL_KIND {
         return symbol_head(rest);
     }
-    if kind == 2 {
+    if kind == LIST_KIND {
         return list_head(rest);
     }
     FieldHead::NoField
+}
+
+// Whether the field whose kind byte is the first of s says that it is empty.
+pub fn is_empty(s: &[u8]) -> bool
+    ensures { λ r. ⌜ r ≡ isEmpty (fieldHead (now (s .entry))) ⌝ }
+{
+    if s.len() == 0 {
+        return false;
+    }
+    s[0] == EMPTY_KIND
+}
+
+// Whether the field whose kind byte is the first of s says that it is a list.
+pub fn is_list(s: &[u8]) -> bool
+    ensures { λ r. ⌜ r ≡ isList (fieldHead (now (s .entry))) ⌝ }
+{
+    if s.len() == 0 {
+        return false;
+    }
+    s[0] == LIST_KIND
 }
 
 // How many bytes a field has, by its head.
@@ -276,6 +339,41 @@ pub fn field_bytes(head: FieldHead) -> usize
         FieldHead::Sublist(opening, n) => opening + n,
         FieldHead::CutSublist => 0,
     }
+}
+
+// Where the field ends whose kind byte stands at a place of s.
+fn field_end(s: &[u8], at: usize) -> usize
+    requires { ⌜ at ≤ length (now s) ⌝ }
+    ensures { λ r. ⌜ (r ≡ fieldEnd (now (s .entry)) at) × (r ≤ length (now (s .entry))) ⌝ }
+{
+    at + field_bytes(field_head(&s[at..]))
+}
+
+// Where the item ends that opens with the first byte of s and has fields.
+pub fn fields_end(s: &[u8], kind: Kind) -> usize
+    requires { ⌜ openingOf (now s) ≡ Fields kind ⌝ }
+    ensures { λ r. ⌜ r ≡ end (now (s .entry)) kind ⌝ }
+{
+    let second = field_end(s, opening_bytes(kind));
+    let third = field_end(s, second);
+    if has_third(kind) {
+        return field_end(s, third);
+    }
+    third
+}
+
+// Where the list of a choice stands that has n before it; with all four before it, where the choice ends.
+pub fn list_place(s: &[u8], n: usize) -> usize
+    requires { ⌜ openingOf (now s) ≡ Choice ⌝ }
+    ensures { λ r. ⌜ r ≡ listPlace (now (s .entry)) n ⌝ }
+{
+    let mut at = CHOICE_OPENING_BYTES;
+    let mut passed: usize = 0;
+    while passed < n {
+        at = field_end(s, at);
+        passed += 1;
+    }
+    at
 }
 
 fn symbol_head(s: &[u8]) -> FieldHead

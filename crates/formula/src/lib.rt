@@ -51,14 +51,18 @@ pub enum Mark {
     UN,
     FR,
     KN,
+    ST,
+    C4,
     Unknown,
 }
 
-// What an item says before its fields.
+// What an item says before its fields. A choice has four fields, each a list.
 pub enum Opening {
     NoItem,
     Fields(Kind),
     Kern(Sp),
+    Restyle(u8),
+    Choice,
 }
 
 // What a field says at its kind byte. A list has the number of bytes before its items and that of its items, or its

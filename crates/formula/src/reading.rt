@@ -3,9 +3,9 @@
 ghost use mathlib.Core.Path.{_≡_};
 ghost use Prim.Native.Nat.{_≤_};
 ghost use lib.ListN.{length};
-ghost use Rattle.formula.specs.declared.Opening.the-variants.{Fields};
+ghost use Rattle.formula.specs.declared.Opening.the-variants.{Fields, Choice};
 ghost use Rattle.formula.specs.Heads.{openingOf};
-ghost use Rattle.formula.specs.Reading.{fieldAt, noadAt, itemBy, read, readFormula};
+ghost use Rattle.formula.specs.Reading.{fieldAt, noadAt, choiceAt, itemBy, read, readFormula};
 ghost use Rattle.formula.specs.Values.{told, partReadOf};
 use crate::Fault;
 use crate::FieldHead;
@@ -13,9 +13,13 @@ use crate::Kind;
 use crate::Opening;
 use crate::PartRead;
 use crate::Verdict;
+use crate::heads::CHOICE_LISTS;
+use crate::heads::CHOICE_OPENING_BYTES;
 use crate::heads::KERN_BYTES;
+use crate::heads::RESTYLE_BYTES;
 use crate::heads::field_head;
 use crate::heads::has_third;
+use crate::heads::is_list;
 use crate::heads::opening;
 use crate::heads::opening_bytes;
 
@@ -61,6 +65,8 @@ fn read_item(s: &[u8], levels: usize) -> PartRead
         Opening::NoItem => PartRead::Stop(Fault::Unreadable, 0),
         Opening::Fields(kind) => read_noad(s, kind, levels),
         Opening::Kern(_) => PartRead::Next(KERN_BYTES),
+        Opening::Restyle(_) => PartRead::Next(RESTYLE_BYTES),
+        Opening::Choice => read_choice(s, levels),
     }
 }
 
@@ -81,6 +87,27 @@ fn read_noad(s: &[u8], kind: Kind, levels: usize) -> PartRead
         return read_field(s, third, levels);
     }
     PartRead::Next(third)
+}
+
+// Reads the lists of a choice, one behind the other. That a field is a list is judged before its depth.
+fn read_choice(s: &[u8], levels: usize) -> PartRead
+    requires { ⌜ openingOf (now s) ≡ Choice ⌝ }
+    ensures { λ r. ⌜ r ≡ partReadOf (choiceAt read levels (now (s .entry))) ⌝ }
+{
+    let mut at = CHOICE_OPENING_BYTES;
+    let mut left = CHOICE_LISTS;
+    while left > 0 {
+        if !is_list(&s[at..]) {
+            return PartRead::Stop(Fault::Unreadable, 0);
+        }
+        let r = read_field(s, at, levels);
+        let PartRead::Next(end) = r else {
+            return r;
+        };
+        at = end;
+        left -= 1;
+    }
+    PartRead::Next(at)
 }
 
 // Reads the field whose kind byte stands at `at` of its item.

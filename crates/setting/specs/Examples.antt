@@ -2,34 +2,51 @@
 --     two-bins      in + + a the first + becomes Ord, and the second, whose left neighbour is Ord then, stays Bin; fields and font
 --                   do not matter
 --     in-a-row      each of three boxes stands behind those before it, not at the first one's place
+-- Of style changes ST and choices C4, in the style T, where a choice takes its second list:
+--     style-behind-choice    an ST in the taken list holds on behind the choice
+--     sees-into-choice       a Bin before a choice sees the Rel in the list that is taken, not the Ord behind the choice
+--     sees-out-of-choice     a Bin at the end of a taken list, and of one in it, sees the Rel behind the choices
+--     space-of-its-style     between Ord and Rel there is none in the style S, though the list starts in T
+--     fits-around-choice     a taken list is no list of answer 6: wider than the bound by itself, it fits with the kern behind the choice
+--     missing-in-taken       a symbol that the font lacks is looked for only in the taken list; the place is that of its kind byte
 -- Assumes nothing.
 use mathlib.Core.Path.{_≡_, refl}
+use mathlib.Core.Bool.{true, false}
 use mathlib.Core.List.{List, [], _∷_}
 use mathlib.Core.Option.{none, some}
-use lib.IntN.{pos}
+use Prim.Native.Nat.{ℕ, zero, suc}
+use lib.IntN.{pos, negsuc}
 use Rattle.font.specs.Font.{Font}
 use Rattle.formula.specs.declared.Base.the-variants.{Atom}
 use Rattle.formula.specs.declared.Class.{Class}
-use Rattle.formula.specs.declared.Class.the-variants.{Ord, Bin}
+use Rattle.formula.specs.declared.Class.the-variants.{Ord, Bin, Rel}
 use Rattle.formula.specs.declared.Kind.the-variants.{Scripted}
 use Rattle.formula.specs.declared.Limits.the-variants.{DisplayOnly}
-use Rattle.formula.specs.Tree.{Items, Item, nil, cons, noad, empty}
+use Rattle.formula.specs.Tree.{Items, Item, nil, cons, noad, kern, restyle, choice, empty, symbol, itemsBytes, itemBytes, fieldBytes}
+use Rattle.boxes.specs.declared.styles.Level.the-variants.{Display, Text, Script}
 use Rattle.boxes.specs.declared.styles.Style.{Style}
+use Rattle.boxes.specs.Styles.{plain, styleOf}
 use Rattle.spacing.specs.Classes.{Neighbour, changedClass}
+use Rattle.spacing.specs.Spacing.{spaceBefore}
 use Rattle.nodes.specs.Nodes.{glyph, moved}
-use Rattle.setting.specs.Setting.{Box, Line, emptyBox, start, beside, placed, nextClass, setItem}
+use Rattle.nodes.specs.Bounds.{nodesFit}
+use Rattle.setting.specs.Setting.{Box, Line, found, enlarged, symbolIn, emptyPart, itemBox, emptyBox, start, beside, placed, styleAfter, styleBehind, nextClass, classAt, setItems, setItem, setField, setList}
+use Rattle.setting.specs.Missing.{later, absentAt, missingItems, missingItem, missingField}
+use Rattle.setting.specs.Fitting.{boxFits, itemsFit, itemFits, listFits}
 
 abbrev atom : Class → Item
 atom class = noad (Scripted (Atom class DisplayOnly)) empty empty empty
 
--- what each atom of a list is for the one behind it
-neighbours : Font → Style → Line → Items → List Neighbour
-neighbours F s line nil = []
-neighbours F s line (cons i r) = let next = setItem F s (nextClass none r) line i in next .left ∷ neighbours F s next r
+-- what the last atom is for what stands behind it, after each item of a list
+neighbours : Font → Line → Items → List Neighbour
+neighbours F line nil = []
+neighbours F line (cons i r) =
+    let next = setItem F (nextClass (styleBehind (line .style) i) none r) line i in
+    next .left ∷ neighbours F next r
 
 two-bins : (F : Font) (s : Style) →
-    neighbours F s start (cons (atom Bin) (cons (atom Bin) (cons (atom Ord) nil))) ≡ some Ord ∷ some Bin ∷ some Ord ∷ []
-unfolding neighbours setItem placed nextClass changedClass
+    neighbours F (start s) (cons (atom Bin) (cons (atom Bin) (cons (atom Ord) nil))) ≡ some Ord ∷ some Bin ∷ some Ord ∷ []
+unfolding neighbours setItem placed nextClass classAt changedClass
 two-bins F s = refl
 
 -- a box of one glyph, 500 wide
@@ -41,3 +58,63 @@ in-a-row :
     ≡ glyph (pos 0) (pos 0) 0 1 97 ∷ glyph (pos 720) (pos 0) 0 1 97 ∷ glyph (pos 1_440) (pos 0) 0 1 97 ∷ []
 unfolding moved
 in-a-row = refl
+
+-- ---- style changes and choices
+
+abbrev inText : Items → Item
+inText l = choice nil l nil nil
+
+style-behind-choice : (F : Font) →
+    setItems F none (start (plain Text)) (cons (inText (cons (restyle 0) nil)) (cons (atom Ord) nil)) .style ≡ plain Display
+unfolding setItems setItem placed styleOf
+style-behind-choice F = refl
+
+sees-into-choice : (F : Font) →
+    neighbours F (start (plain Text)) (cons (atom Ord) (cons (atom Bin) (cons (inText (cons (atom Rel) nil)) (cons (atom Ord) nil))))
+    ≡ some Ord ∷ some Ord ∷ some Rel ∷ some Ord ∷ []
+unfolding neighbours setItems setItem placed styleAfter styleBehind nextClass classAt changedClass
+sees-into-choice F = refl
+
+sees-out-of-choice : (F : Font) →
+    neighbours F (start (plain Text)) (cons (atom Ord) (cons (inText (cons (inText (cons (atom Bin) nil)) nil)) (cons (atom Rel) nil)))
+    ≡ some Ord ∷ some Ord ∷ some Rel ∷ []
+unfolding neighbours setItems setItem placed styleAfter styleBehind nextClass classAt changedClass
+sees-out-of-choice F = refl
+
+abbrev atomBox : Font → Style → Class → Box
+atomBox F s class = itemBox F s (Scripted (Atom class DisplayOnly)) emptyPart emptyPart emptyPart
+
+space-of-its-style : (F : Font) →
+    setItems F none (start (plain Text)) (cons (atom Ord) (cons (restyle 4) (cons (atom Rel) nil))) .box
+    ≡ beside (beside emptyBox (spaceBefore (F .parameter) (plain Text) none Ord) (atomBox F (plain Text) Ord))
+    (spaceBefore (F .parameter) (plain Script) (some Ord) Rel) (atomBox F (plain Script) Rel)
+unfolding setItems setItem setField placed changedClass styleOf
+space-of-its-style F = refl
+
+-- without symbols
+abbrev bareFont : Font
+bareFont = record { parameter = λ size number. 0; symbol = λ size family code. none }
+
+abbrev lacking : Items
+lacking = cons (noad (Scripted (Atom Ord DisplayOnly)) (symbol 1 97) empty empty) nil
+
+missing-in-taken :
+    missingItems bareFont (plain Text) (cons (choice lacking nil lacking lacking) nil)
+    ∷ missingItems bareFont (plain Text) (cons (choice nil lacking nil nil) nil)
+    ∷ []
+    ≡ none ∷ some 12 ∷ []
+unfolding missingItems missingItem missingField later absentAt symbolIn enlarged found itemsBytes itemBytes fieldBytes
+missing-in-taken = refl
+
+-- n kerns, each as wide as can be
+wide : ℕ → Items
+wide zero = nil
+wide (suc n) = cons (kern (pos 8_388_607)) (wide n)
+
+fits-around-choice :
+    listFits bareFont (plain Text) (wide 129)
+    ∷ listFits bareFont (plain Text) (cons (inText (wide 129)) (cons (kern (negsuc 8_388_606)) nil))
+    ∷ []
+    ≡ false ∷ true ∷ []
+unfolding wide listFits boxFits itemsFit itemFits setList setItems setItem nodesFit
+fits-around-choice = refl

@@ -1,7 +1,8 @@
 -- What is not refused of the whole is not refused of a list field alone, in the style that the rules give the field.
 --     missing-alone    if the font lacks no symbol of the whole, it lacks none of the field (answer 5)
 --     fits-alone       if the whole fits, the field's list fits (answer 6)
--- Both go down the path, a step at a time: both tests of a list are made of those of its items, and those of the fields.
+-- Both go down the path, a step at a time: both tests of a list are made of those of its items, of a choice's taken list, and those of
+-- the fields.
 -- Assumes nothing.
 use mathlib.Core.Path.{_≡_, refl}
 use mathlib.Core.Bool.{Bool, true, false, _&&_, and-eq-true-iff}
@@ -10,13 +11,16 @@ use Prim.Native.Nat.{ℕ, _+_}
 use native.Mathlib.Omega.{arith}
 use Rattle.font.specs.Font.{Font}
 use Rattle.formula.specs.declared.Kind.{Kind}
-use Rattle.formula.specs.Tree.{Items, Field, nil, cons, noad, list, openingBytes, itemBytes, fieldBytes}
+use Rattle.formula.specs.Tree.{Items, Item, Field, nil, cons, noad, list, openingBytes, itemBytes, fieldBytes}
+use Rattle.boxes.specs.declared.styles.Level.{Level}
+use Rattle.boxes.specs.declared.styles.Level.the-variants.{Display, Text, Script, Scriptscript}
 use Rattle.boxes.specs.declared.styles.Style.{Style}
 use Rattle.arrange.specs.Arrange.{firstStyle, secondStyle, thirdStyle, enlarges}
-use Rattle.setting.specs.Setting.{setList}
+use Rattle.setting.specs.Setting.{styleAfter, styleBehind, setList}
 use Rattle.setting.specs.Missing.{_orElse_, later, missingItems, missingItem, missingField}
 use Rattle.setting.specs.Fitting.{boxFits, itemsFit, itemFits, fieldFits, listFits}
-use Rattle.setting.specs.Paths.{Arm, inFirst, inSecond, inThird, holding, fieldStyle, join, listWith, Path, whole, into, fill, styleAt}
+use Rattle.setting.specs.Paths.{Arm, inFirst, inSecond, inThird, holding, fieldStyle, join, choiceWith, Spot, among, within, put, itemsBefore, holder, listWith, itemStyle, Path, whole, into, fill, styleAt}
+use Rattle.setting.specs.Lines.{styleAfter-join}
 
 -- ---- answer 5
 
@@ -60,22 +64,53 @@ module _ (F : Font) where
   missing-in-item s kind (inThird x y) l e = not-later _ _ (fields-there s kind x y (list l) e .2)
 
   -- past the items before it
-  missing-in-list : (s : Style) (before : Items) (kind : Kind) (g : Arm) (l after : Items) →
-      missingItems F s (join before (cons (holding kind g l) after)) ≡ none → missingItems F (fieldStyle kind g s) l ≡ none
-  unfolding missingItems
-  missing-in-list s nil kind g l after e =
-      let i = holding kind g l in
-      missing-in-item s kind g l (neither-missing (missingItem F s i) (later (itemBytes i) (missingItems F s after)) e .0)
-  missing-in-list s (cons i r) kind g l after e =
-      let rest = missingItems F s (join r (cons (holding kind g l) after)) in
-      missing-in-list s r kind g l after
+  missing-behind : (s : Style) (before r : Items) → missingItems F s (join before r) ≡ none →
+      missingItems F (styleAfter s before) r ≡ none
+  unfolding missingItems styleAfter
+  missing-behind s nil r e = e
+  missing-behind s (cons i b) r e =
+      let rest = missingItems F (styleBehind s i) (join b r) in
+      missing-behind (styleBehind s i) b r
       (not-later (itemBytes i) rest (neither-missing (missingItem F s i) (later (itemBytes i) rest) e .1))
 
+  -- the item at a place of a list
+  missing-there : (s : Style) (before : Items) (i : Item) (after : Items) →
+      missingItems F s (join before (cons i after)) ≡ none → missingItem F (styleAfter s before) i ≡ none
+  unfolding missingItems
+  missing-there s before i after e =
+      let t = styleAfter s before in
+      let rest = later (itemBytes i) (missingItems F (styleBehind t i) after) in
+      neither-missing (missingItem F t i) rest (missing-behind s before (cons i after) e) .0
+
+  missing-in-choice : (s : Style) (l a b c : Items) → missingItem F s (choiceWith (s .level) l a b c) ≡ none →
+      missingItems F s l ≡ none
+  unfolding missingItem
+  missing-in-choice s l a b c = go (s .level) (s .cramped)
+    where
+      go : (level : Level) (cramped : Bool) →
+          let t : Style = record { level = level; cramped = cramped } in
+          missingItem F t (choiceWith level l a b c) ≡ none → missingItems F t l ≡ none
+      go Display cramped e = not-later _ _ e
+      go Text cramped e = not-later _ _ e
+      go Script cramped e = not-later _ _ e
+      go Scriptscript cramped e = not-later _ _ e
+
+  missing-at-spot : (s : Style) (spot : Spot) (i : Item) → missingItems F s (put s spot i) ≡ none →
+      missingItem F (styleAfter s (itemsBefore spot)) i ≡ none
+  missing-at-spot s (among before after) i e = missing-there s before i after e
+  missing-at-spot s (within before a b c spot after) i e =
+      let t = styleAfter s before in
+      let l = put t spot i in
+      rw styleAfter-join (missing-at-spot t spot i
+      (missing-in-choice t l a b c (missing-there s before (choiceWith (t .level) l a b c) after e)))
+
   pub missing-alone : (s : Style) (p : Path) (l : Items) →
-      missingItems F s (fill p l) ≡ none → missingItems F (styleAt s p) l ≡ none
+      missingItems F s (fill s p l) ≡ none → missingItems F (styleAt s p) l ≡ none
   missing-alone s whole l e = e
   missing-alone s (into p t) l e =
-      missing-in-list (styleAt s p) (t .before) (t .kind) (t .arm) l (t .after) (missing-alone s p (listWith t l) e)
+      let u = styleAt s p in
+      missing-in-item (itemStyle u t) (t .kind) (t .arm) l
+      (missing-at-spot u (t .spot) (holder t l) (missing-alone s p (listWith u t l) e))
 
 -- ---- answer 6
 
@@ -101,19 +136,47 @@ module _ (F : Font) where
   fits-in-item s kind (inSecond x z) l e = fields-fit s kind x (list l) z e .1
   fits-in-item s kind (inThird x y) l e = fields-fit s kind x y (list l) e .2
 
-  fits-in-items : (s : Style) (before : Items) (kind : Kind) (g : Arm) (l after : Items) →
-      itemsFit F s (join before (cons (holding kind g l) after)) ≡ true → listFits F (fieldStyle kind g s) l ≡ true
-  unfolding itemsFit
-  fits-in-items s nil kind g l after e =
-      fits-in-item s kind g l (and-eq-true-iff (itemFits F s (holding kind g l)) (itemsFit F s after) .0 e .0)
-  fits-in-items s (cons i r) kind g l after e =
-      let rest = join r (cons (holding kind g l) after) in
-      fits-in-items s r kind g l after (and-eq-true-iff (itemFits F s i) (itemsFit F s rest) .0 e .1)
+  fits-behind : (s : Style) (before r : Items) → itemsFit F s (join before r) ≡ true → itemsFit F (styleAfter s before) r ≡ true
+  unfolding itemsFit styleAfter
+  fits-behind s nil r e = e
+  fits-behind s (cons i b) r e =
+      let t = styleBehind s i in
+      fits-behind t b r (and-eq-true-iff (itemFits F s i) (itemsFit F t (join b r)) .0 e .1)
 
-  pub fits-alone : (s : Style) (p : Path) (l : Items) → listFits F s (fill p l) ≡ true → listFits F (styleAt s p) l ≡ true
+  fits-there : (s : Style) (before : Items) (i : Item) (after : Items) →
+      itemsFit F s (join before (cons i after)) ≡ true → itemFits F (styleAfter s before) i ≡ true
+  unfolding itemsFit
+  fits-there s before i after e =
+      let t = styleAfter s before in
+      and-eq-true-iff (itemFits F t i) (itemsFit F (styleBehind t i) after) .0 (fits-behind s before (cons i after) e) .0
+
+  fits-in-choice : (s : Style) (l a b c : Items) → itemFits F s (choiceWith (s .level) l a b c) ≡ true → itemsFit F s l ≡ true
+  unfolding itemFits
+  fits-in-choice s l a b c = go (s .level) (s .cramped)
+    where
+      go : (level : Level) (cramped : Bool) →
+          let t : Style = record { level = level; cramped = cramped } in
+          itemFits F t (choiceWith level l a b c) ≡ true → itemsFit F t l ≡ true
+      go Display cramped e = e
+      go Text cramped e = e
+      go Script cramped e = e
+      go Scriptscript cramped e = e
+
+  fits-at-spot : (s : Style) (spot : Spot) (i : Item) → itemsFit F s (put s spot i) ≡ true →
+      itemFits F (styleAfter s (itemsBefore spot)) i ≡ true
+  fits-at-spot s (among before after) i e = fits-there s before i after e
+  fits-at-spot s (within before a b c spot after) i e =
+      let t = styleAfter s before in
+      let l = put t spot i in
+      rw styleAfter-join (fits-at-spot t spot i
+      (fits-in-choice t l a b c (fits-there s before (choiceWith (t .level) l a b c) after e)))
+
+  pub fits-alone : (s : Style) (p : Path) (l : Items) →
+      listFits F s (fill s p l) ≡ true → listFits F (styleAt s p) l ≡ true
   unfolding listFits
   fits-alone s whole l e = e
   fits-alone s (into p t) l e =
-      let outer = listWith t l in
-      let h = and-eq-true-iff (boxFits (setList F (styleAt s p) outer)) (itemsFit F (styleAt s p) outer) .0 (fits-alone s p outer e) in
-      fits-in-items (styleAt s p) (t .before) (t .kind) (t .arm) l (t .after) (h .1)
+      let u = styleAt s p in
+      let outer = listWith u t l in
+      let h = and-eq-true-iff (boxFits (setList F u outer)) (itemsFit F u outer) .0 (fits-alone s p outer e) in
+      fits-in-item (itemStyle u t) (t .kind) (t .arm) l (fits-at-spot u (t .spot) (holder t l) (h .1))

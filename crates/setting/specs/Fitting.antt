@@ -1,14 +1,15 @@
 -- Whether a list, and every list in it, keeps within the greatest length (document 01, answer 6): its size, and its nodes
 -- as measured from its own reference point. A node so comes to be measured from the reference point of each list around it.
+-- A choice's lists have no box: within the one taken, its list fields are tested. The style is that current at each item.
 -- Assumes nothing.
 use mathlib.Core.Bool.{Bool, true, _&&_}
 use Rattle.font.specs.Font.{Font}
-use Rattle.formula.specs.Tree.{Items, Item, Field, nil, cons, noad, kern, empty, symbol, list}
+use Rattle.formula.specs.Tree.{Items, Item, Field, nil, cons, noad, kern, restyle, choice, empty, symbol, list}
 use Rattle.boxes.specs.declared.styles.Style.{Style}
 use Rattle.boxes.specs.Boxes.{Size}
 use Rattle.arrange.specs.Arrange.{firstStyle, secondStyle, thirdStyle}
 use Rattle.nodes.specs.Bounds.{within, nodesFit}
-use Rattle.setting.specs.Setting.{Box, setList}
+use Rattle.setting.specs.Setting.{Box, taken, styleBehind, setList}
 
 abbrev pub sizeFits : Size → Bool
 sizeFits z = within (z .width) && within (z .height) && within (z .depth)
@@ -20,12 +21,14 @@ unfoldable mutual
   -- the lists within items
   pub itemsFit : Font → Style → Items → Bool
   itemsFit F s nil = true
-  itemsFit F s (cons i r) = itemFits F s i && itemsFit F s r
+  itemsFit F s (cons i r) = itemFits F s i && itemsFit F (styleBehind s i) r
 
   pub itemFits : Font → Style → Item → Bool
   itemFits F s (noad kind x y z) =
       fieldFits F (firstStyle kind s) x && fieldFits F (secondStyle kind s) y && fieldFits F (thirdStyle s) z
   itemFits F s (kern n) = true
+  itemFits F s (restyle number) = true
+  itemFits F s (choice d t sc ss) = taken s (itemsFit F s d) (itemsFit F s t) (itemsFit F s sc) (itemsFit F s ss)
 
   pub fieldFits : Font → Style → Field → Bool
   fieldFits F s empty = true

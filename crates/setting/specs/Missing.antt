@@ -1,16 +1,17 @@
 -- The first symbol in reading order that the font lacks at the size it is set in (document 01, answer 5).
 -- Its place is its field's kind byte. As in the reading, a place within a list counts from the list's first byte, and a place
--- within an item from the item's. The fields of an item stand behind its opening bytes, one behind the other.
+-- within an item from the item's. The fields of an item stand behind its opening bytes, one behind the other; so do a choice's
+-- lists, of which only the one taken is looked into. The style is that current at each item.
 -- Assumes nothing.
 use mathlib.Core.Bool.{Bool, false}
 use mathlib.Core.Option.{Option, none, some}
 use Prim.Native.Nat.{ℕ, _+_}
 use Rattle.font.specs.Font.{Font}
-use Rattle.formula.specs.Tree.{Items, Item, Field, nil, cons, noad, kern, empty, symbol, list, openingBytes, listOpeningBytes, itemBytes, fieldBytes}
+use Rattle.formula.specs.Tree.{Items, Item, Field, nil, cons, noad, kern, restyle, choice, empty, symbol, list, openingBytes, choiceOpeningBytes, listOpeningBytes, sublistBytes, itemsBytes, itemBytes, fieldBytes}
 use Rattle.boxes.specs.declared.styles.Style.{Style}
 use Rattle.boxes.specs.Styles.{fontSize}
 use Rattle.arrange.specs.Arrange.{firstStyle, secondStyle, thirdStyle, enlarges}
-use Rattle.setting.specs.Setting.{Symbol, symbolIn}
+use Rattle.setting.specs.Setting.{Symbol, symbolIn, taken, styleBehind}
 
 -- the earlier of two places, where the first stands earlier in the formula
 abbrev pub _orElse_ : Option ℕ → Option ℕ → Option ℕ
@@ -30,7 +31,7 @@ absentAt at (some s) = none
 unfoldable mutual
   pub missingItems : Font → Style → Items → Option ℕ
   missingItems F s nil = none
-  missingItems F s (cons i r) = missingItem F s i orElse later (itemBytes i) (missingItems F s r)
+  missingItems F s (cons i r) = missingItem F s i orElse later (itemBytes i) (missingItems F (styleBehind s i) r)
 
   pub missingItem : Font → Style → Item → Option ℕ
   missingItem F s (noad kind x y z) =
@@ -40,6 +41,13 @@ unfoldable mutual
       orElse missingField F (secondStyle kind s) false second y
       orElse missingField F (thirdStyle s) false third z
   missingItem F s (kern n) = none
+  missingItem F s (restyle number) = none
+  missingItem F s (choice d t sc ss) =
+      let second = choiceOpeningBytes + sublistBytes (itemsBytes d) in
+      let third = second + sublistBytes (itemsBytes t) in
+      let fourth = third + sublistBytes (itemsBytes sc) in
+      later (taken s choiceOpeningBytes second third fourth + listOpeningBytes)
+      (taken s (missingItems F s d) (missingItems F s t) (missingItems F s sc) (missingItems F s ss))
 
   -- a field whose kind byte stands at a place of its item
   pub missingField : Font → Style → Bool → ℕ → Field → Option ℕ

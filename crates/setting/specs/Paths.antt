@@ -1,17 +1,22 @@
 -- Where a list field stands in a formula.
 --     Arm      one field of an item, with the other two
---     Step     from a list into a field of one of its items, with the items on either side
+--     Spot     where an item stands in a list: among its items, or at a spot in the list that one of its choices takes
+--     Step     from a list into a field of the item at a spot of it
 --     Path     from the formula to a list within it: no step at all, or one step more from the list at a path
---     fill p l       the formula that has the list l at the path p; every formula with a list field is one in this way
---     styleAt s p    the style that the rules give the list at p, where the formula is in the style s
---     placeOf p      the place of that list's first item in the bytes of the formula
+--     fill s p l     the formula that has the list l at the path p, where the formula is in the style s, by which its choices take
+--                    their lists; every formula with a list field that is set is one in this way
+--     styleAt s p    the style that the rules give the list at p, from the style current at the item that holds it
+--     placeOf s p    the place of that list's first item in the bytes of the formula
 -- An item's kind goes along as it is: no function here looks at it but through the rules' own.
 -- Assumes nothing.
 use Prim.Native.Nat.{ℕ, _+_}
 use Rattle.formula.specs.declared.Kind.{Kind}
-use Rattle.formula.specs.Tree.{Items, Item, Field, nil, cons, noad, list, openingBytes, listOpeningBytes, itemsBytes, fieldBytes}
+use Rattle.formula.specs.Tree.{Items, Item, Field, nil, cons, noad, choice, list, openingBytes, choiceOpeningBytes, listOpeningBytes, sublistBytes, itemsBytes, fieldBytes}
+use Rattle.boxes.specs.declared.styles.Level.{Level}
+use Rattle.boxes.specs.declared.styles.Level.the-variants.{Display, Text, Script, Scriptscript}
 use Rattle.boxes.specs.declared.styles.Style.{Style}
 use Rattle.arrange.specs.Arrange.{firstStyle, secondStyle, thirdStyle}
+use Rattle.setting.specs.Setting.{styleAfter}
 
 -- ---- a field of an item
 
@@ -37,29 +42,76 @@ fieldPlace kind (inFirst y z) = openingBytes kind
 fieldPlace kind (inSecond x z) = openingBytes kind + fieldBytes x
 fieldPlace kind (inThird x y) = openingBytes kind + fieldBytes x + fieldBytes y
 
--- ---- from a list into one of its fields
-
-pub record Step : Type 0 where
-  pub before : Items
-  pub kind : Kind
-  pub arm : Arm
-  pub after : Items
+-- ---- where an item stands in a list
 
 abbrev pub join : Items → Items → Items
 join nil r = r
 join (cons i b) r = cons i (join b r)
 
+-- the choice with a list for a level, and three more for the others in their order
+abbrev pub choiceWith : Level → Items → Items → Items → Items → Item
+choiceWith Display l a b c = choice l a b c
+choiceWith Text l a b c = choice a l b c
+choiceWith Script l a b c = choice a b l c
+choiceWith Scriptscript l a b c = choice a b c l
+
+-- the place of that list's kind byte in the choice
+abbrev pub listPlace : Level → Items → Items → Items → ℕ
+listPlace Display a b c = choiceOpeningBytes
+listPlace Text a b c = choiceOpeningBytes + sublistBytes (itemsBytes a)
+listPlace Script a b c = choiceOpeningBytes + sublistBytes (itemsBytes a) + sublistBytes (itemsBytes b)
+listPlace Scriptscript a b c =
+    choiceOpeningBytes + sublistBytes (itemsBytes a) + sublistBytes (itemsBytes b) + sublistBytes (itemsBytes c)
+
+pub data Spot : Type 0 where
+  among : Items → Items → Spot  -- the items before and after
+  within : Items → Items → Items → Items → Spot → Items → Spot  -- before the choice, its lists not taken, in the taken one, after it
+
+-- the list with an item at the spot, where the list is in the style s
+abbrev pub put : Style → Spot → Item → Items
+put s (among before after) i = join before (cons i after)
+put s (within before a b c spot after) i =
+    let t = styleAfter s before in
+    join before (cons (choiceWith (t .level) (put t spot i) a b c) after)
+
+-- the items on either side, those of a choice as if they stood in its place
+abbrev pub itemsBefore : Spot → Items
+itemsBefore (among before after) = before
+itemsBefore (within before a b c spot after) = join before (itemsBefore spot)
+
+abbrev pub itemsAfter : Spot → Items
+itemsAfter (among before after) = after
+itemsAfter (within before a b c spot after) = join (itemsAfter spot) after
+
+-- the place of the item
+abbrev pub spotPlace : Style → Spot → ℕ
+spotPlace s (among before after) = itemsBytes before
+spotPlace s (within before a b c spot after) =
+    let t = styleAfter s before in
+    itemsBytes before + (listPlace (t .level) a b c + listOpeningBytes) + spotPlace t spot
+
+-- ---- from a list into a field of one of its items
+
+pub record Step : Type 0 where
+  pub spot : Spot
+  pub kind : Kind
+  pub arm : Arm
+
 abbrev pub holder : Step → Items → Item
 holder t l = holding (t .kind) (t .arm) l
 
-abbrev pub listWith : Step → Items → Items
-listWith t l = join (t .before) (cons (holder t l) (t .after))
+abbrev pub listWith : Style → Step → Items → Items
+listWith s t l = put s (t .spot) (holder t l)
 
-abbrev pub stepStyle : Step → Style → Style
-stepStyle t s = fieldStyle (t .kind) (t .arm) s
+-- the style current at the item
+abbrev pub itemStyle : Style → Step → Style
+itemStyle s t = styleAfter s (itemsBefore (t .spot))
 
-abbrev pub stepPlace : Step → ℕ
-stepPlace t = itemsBytes (t .before) + (fieldPlace (t .kind) (t .arm) + listOpeningBytes)
+abbrev pub stepStyle : Style → Step → Style
+stepStyle s t = fieldStyle (t .kind) (t .arm) (itemStyle s t)
+
+abbrev pub stepPlace : Style → Step → ℕ
+stepPlace s t = spotPlace s (t .spot) + (fieldPlace (t .kind) (t .arm) + listOpeningBytes)
 
 -- ---- from a formula to a list within it, at any depth
 
@@ -67,14 +119,14 @@ pub data Path : Type 0 where
   whole : Path
   into : Path → Step → Path
 
-abbrev pub fill : Path → Items → Items
-fill whole l = l
-fill (into p t) l = fill p (listWith t l)
-
 abbrev pub styleAt : Style → Path → Style
 styleAt s whole = s
-styleAt s (into p t) = stepStyle t (styleAt s p)
+styleAt s (into p t) = stepStyle (styleAt s p) t
 
-abbrev pub placeOf : Path → ℕ
-placeOf whole = 0
-placeOf (into p t) = placeOf p + stepPlace t
+abbrev pub fill : Style → Path → Items → Items
+fill s whole l = l
+fill s (into p t) l = fill s p (listWith (styleAt s p) t l)
+
+abbrev pub placeOf : Style → Path → ℕ
+placeOf s whole = 0
+placeOf s (into p t) = placeOf s p + stepPlace (styleAt s p) t

@@ -2,6 +2,8 @@
 --     setField    a field alone, at its own reference point: its shape and its nodes
 --     setItem     an item, placed behind what stands so far
 --     setItems    items, one behind the other; a list starts at `start` with no neighbour on either side
+-- The style is a part of the line (change request 2): a style change ST sets it, and a choice C4 goes on with the line through the
+-- list that its style takes, so that neither is an atom, and a style set in that list holds on behind the choice.
 -- A symbol that the font lacks stands as `nothing` here; such a formula is refused before its box matters (`Missing`).
 -- Assumes nothing.
 use mathlib.Core.Bool.{Bool, true, false}
@@ -13,9 +15,10 @@ use Rattle.scaled.specs.Length.{maxℤ}
 use Rattle.font.specs.Font.{Font, Metrics}
 use Rattle.formula.specs.declared.Class.{Class}
 use Rattle.formula.specs.declared.Kind.{Kind}
-use Rattle.formula.specs.Tree.{Items, Item, Field, nil, cons, noad, kern, empty, symbol, list}
+use Rattle.formula.specs.Tree.{Items, Item, Field, nil, cons, noad, kern, restyle, choice, empty, symbol, list}
+use Rattle.boxes.specs.declared.styles.Level.the-variants.{Display, Text, Script, Scriptscript}
 use Rattle.boxes.specs.declared.styles.Style.{Style}
-use Rattle.boxes.specs.Styles.{fontSize}
+use Rattle.boxes.specs.Styles.{styleOf, fontSize}
 use Rattle.spacing.specs.Classes.{Neighbour, classOf, changedClass}
 use Rattle.spacing.specs.Spacing.{spaceBefore}
 use Rattle.boxes.specs.Boxes.{Size, Shape, nothing, char, box, Offset, Rule, Arranged, zeroSize}
@@ -89,18 +92,54 @@ itemBox F s kind x y z =
     let a = arrange (F .parameter) s kind (x .shape) (y .shape) (z .shape) in
     record { size = a .size; nodes = itemNodes a x y z }
 
+-- ---- the style current at an item
+
+-- ST; a number that is no style does not occur in what reads
+abbrev pub restyled : Style → ℕ → Style
+restyled s number = elim (styleOf number) [ none ↦ s | some new ↦ new ]
+
+-- C4: of four, that of the style, prime aside
+abbrev pub taken : {A : Type 0} → Style → A → A → A → A → A
+taken s d t sc ss = elim (s .level) [ Display ↦ d | Text ↦ t | Script ↦ sc | Scriptscript ↦ ss ]
+
+-- the style behind items, and behind an item, from the style before
+unfoldable mutual
+  pub styleAfter : Style → Items → Style
+  styleAfter s nil = s
+  styleAfter s (cons i r) = styleAfter (styleBehind s i) r
+
+  pub styleBehind : Style → Item → Style
+  styleBehind s (noad kind x y z) = s
+  styleBehind s (kern n) = s
+  styleBehind s (restyle number) = restyled s number
+  styleBehind s (choice d t sc ss) = taken s (styleAfter s d) (styleAfter s t) (styleAfter s sc) (styleAfter s ss)
+
+-- the class of the next atom, in a taken list too; at a list's end the neighbour beyond it
+unfoldable mutual
+  pub nextClass : Style → Neighbour → Items → Neighbour
+  nextClass s beyond nil = beyond
+  nextClass s beyond (cons i r) = classAt s (nextClass (styleBehind s i) beyond r) i
+
+  pub classAt : Style → Neighbour → Item → Neighbour
+  classAt s beyond (noad kind x y z) = some (classOf kind)
+  classAt s beyond (kern n) = beyond
+  classAt s beyond (restyle number) = beyond
+  classAt s beyond (choice d t sc ss) =
+      taken s (nextClass s beyond d) (nextClass s beyond t) (nextClass s beyond sc) (nextClass s beyond ss)
+
 -- ---- a list
 
--- what stands so far: the class of the last atom, and the box. A list can go on from any line (`setItems`)
+-- what stands so far: the class of the last atom, the style, and the box. A list can go on from any line (`setItems`)
 pub record Line : Type 0 where
   pub left : Neighbour
+  pub style : Style
   pub box : Box
 
 abbrev pub emptyBox : Box
 emptyBox = record { size = zeroSize; nodes = [] }
 
-abbrev pub start : Line
-start = record { left = none; box = emptyBox }
+abbrev pub start : Style → Line
+start s = record { left = none; style = s; box = emptyBox }
 
 -- space, and then a box behind it
 abbrev pub beside : Box → ℤ → Box → Box
@@ -123,38 +162,42 @@ kerned b n =
       nodes = b .nodes;
     }
 
--- the class of an atom is changed between its neighbours, and space goes before it
-unfoldable pub placed : Font → Style → Neighbour → Line → Class → Box → Line
-placed F s right l class b =
+-- the class of an atom is changed between its neighbours, and space goes before it, of the style current at it
+unfoldable pub placed : Font → Neighbour → Line → Class → Box → Line
+placed F right l class b =
     let c = changedClass (l .left) class right in
-    record { left = some c; box = beside (l .box) (spaceBefore (F .parameter) s (l .left) c) b }
-
--- the class of the next atom; at a list's end the neighbour beyond it
-unfoldable pub nextClass : Neighbour → Items → Neighbour
-nextClass beyond nil = beyond
-nextClass beyond (cons (noad kind x y z) r) = some (classOf kind)
-nextClass beyond (cons (kern n) r) = nextClass beyond r
+    record {
+      left = some c;
+      style = l .style;
+      box = beside (l .box) (spaceBefore (F .parameter) (l .style) (l .left) c) b;
+    }
 
 unfoldable mutual
-  pub setItems : Font → Style → Neighbour → Line → Items → Line
-  setItems F s beyond l nil = l
-  setItems F s beyond l (cons i r) = setItems F s beyond (setItem F s (nextClass beyond r) l i) r
+  pub setItems : Font → Neighbour → Line → Items → Line
+  setItems F beyond l nil = l
+  setItems F beyond l (cons i r) =
+      setItems F beyond (setItem F (nextClass (styleBehind (l .style) i) beyond r) l i) r
 
-  pub setItem : Font → Style → Neighbour → Line → Item → Line
-  setItem F s right l (noad kind x y z) =
-      placed F s right l (classOf kind)
+  pub setItem : Font → Neighbour → Line → Item → Line
+  setItem F right l (noad kind x y z) =
+      let s = l .style in
+      placed F right l (classOf kind)
       (itemBox F s kind
       (setField F (firstStyle kind s) (enlarges kind s) x)
       (setField F (secondStyle kind s) false y)
       (setField F (thirdStyle s) false z))
-  setItem F s right l (kern n) = record { left = l .left; box = kerned (l .box) n }
+  setItem F right l (kern n) = record { left = l .left; style = l .style; box = kerned (l .box) n }
+  setItem F right l (restyle number) =
+      record { left = l .left; style = restyled (l .style) number; box = l .box }
+  setItem F right l (choice d t sc ss) =
+      taken (l .style) (setItems F right l d) (setItems F right l t) (setItems F right l sc) (setItems F right l ss)
 
   pub setField : Font → Style → Bool → Field → Part
   setField F s enlarge empty = emptyPart
   setField F s enlarge (symbol family code) = symbolPart (fontSize s) family (symbolIn F (fontSize s) enlarge family code)
   setField F s enlarge (list l) =
-      let b = setItems F s none start l .box in
+      let b = setItems F none (start s) l .box in
       record { shape = box (b .size); nodes = b .nodes }
 
 unfoldable pub setList : Font → Style → Items → Box
-setList F s l = setItems F s none start l .box
+setList F s l = setItems F none (start s) l .box

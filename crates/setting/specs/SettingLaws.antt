@@ -1,14 +1,92 @@
 -- Laws of the box of a list.
 --     length-rules     an item's own rules are as many nodes
+--     taken-all        what holds of each of a choice's four lists holds of the taken one
+--     styleBehind-choice, classAt-choice, setItem-choice, missingItem-choice, itemFits-choice
+--                      a choice is asked for what its taken list is
+--     setItem-style, setItems-style     the style of a line behind an item, and behind items, goes by them and the style before
 -- Assumes nothing.
-use mathlib.Core.Path.{_≡_, refl, ap}
+use mathlib.Core.Path.{_≡_, refl, sym, ap, _∙_}
 use mathlib.Core.List.{List, [], _∷_}
-use Prim.Native.Nat.{suc}
+use Prim.Native.Nat.{suc, _+_}
 use lib.ListN.{length}
+use Rattle.font.specs.Font.{Font}
+use Rattle.formula.specs.Tree.{Items, Item, nil, cons, noad, kern, restyle, choice, choiceOpeningBytes, listOpeningBytes, sublistBytes, itemsBytes}
+use Rattle.boxes.specs.declared.styles.Level.{Level}
+use Rattle.boxes.specs.declared.styles.Level.the-variants.{Display, Text, Script, Scriptscript}
+use Rattle.boxes.specs.declared.styles.Style.{Style}
 use Rattle.boxes.specs.Boxes.{Rule}
-use Rattle.setting.specs.Setting.{ruleNodes}
+use Rattle.spacing.specs.Classes.{Neighbour}
+use Rattle.setting.specs.Setting.{ruleNodes, taken, styleAfter, styleBehind, nextClass, classAt, Line, placed, setItems, setItem}
+use Rattle.setting.specs.Missing.{later, missingItems, missingItem}
+use Rattle.setting.specs.Fitting.{itemsFit, itemFits}
 
 pub length-rules : (rs : List Rule) → length (ruleNodes rs) ≡ length rs
 unfolding ruleNodes
 length-rules [] = refl
 length-rules (r ∷ rs) = ap suc (length-rules rs)
+
+module _ {A B : Type 0} (f : A → B) (s : Style) where
+  pub taken-all : {d t sc ss : A} {d′ t′ sc′ ss′ : B} → f d ≡ d′ → f t ≡ t′ → f sc ≡ sc′ → f ss ≡ ss′ →
+      f (taken s d t sc ss) ≡ taken s d′ t′ sc′ ss′
+  taken-all {d} {t} {sc} {ss} {d′} {t′} {sc′} {ss′} p q r u = go (s .level)
+    where
+      go : (level : Level) →
+          f (elim level [ Display ↦ d | Text ↦ t | Script ↦ sc | Scriptscript ↦ ss ])
+          ≡ elim level [ Display ↦ d′ | Text ↦ t′ | Script ↦ sc′ | Scriptscript ↦ ss′ ]
+      go Display = p
+      go Text = q
+      go Script = r
+      go Scriptscript = u
+
+-- ---- a choice is its taken list
+
+module _ (s : Style) (d t sc ss : Items) where
+  pub styleBehind-choice : styleBehind s (choice d t sc ss) ≡ styleAfter s (taken s d t sc ss)
+  unfolding styleBehind
+  styleBehind-choice = sym (taken-all (styleAfter s) s refl refl refl refl)
+
+  pub classAt-choice : (beyond : Neighbour) → classAt s beyond (choice d t sc ss) ≡ nextClass s beyond (taken s d t sc ss)
+  unfolding classAt
+  classAt-choice beyond = sym (taken-all (nextClass s beyond) s refl refl refl refl)
+
+pub setItem-choice : (F : Font) (right : Neighbour) (line : Line) (d t sc ss : Items) →
+    setItem F right line (choice d t sc ss) ≡ setItems F right line (taken (line .style) d t sc ss)
+unfolding setItem
+setItem-choice F right line d t sc ss = sym (taken-all (setItems F right line) (line .style) refl refl refl refl)
+
+pub missingItem-choice : (F : Font) (s : Style) (d t sc ss : Items) →
+    let second = choiceOpeningBytes + sublistBytes (itemsBytes d) in
+    let third = second + sublistBytes (itemsBytes t) in
+    let fourth = third + sublistBytes (itemsBytes sc) in
+    missingItem F s (choice d t sc ss)
+    ≡ later (taken s choiceOpeningBytes second third fourth + listOpeningBytes) (missingItems F s (taken s d t sc ss))
+unfolding missingItem
+missingItem-choice F s d t sc ss = ap (later _) (sym (taken-all (missingItems F s) s refl refl refl refl))
+
+pub itemFits-choice : (F : Font) (s : Style) (d t sc ss : Items) →
+    itemFits F s (choice d t sc ss) ≡ itemsFit F s (taken s d t sc ss)
+unfolding itemFits
+itemFits-choice F s d t sc ss = sym (taken-all (itemsFit F s) s refl refl refl refl)
+
+-- ---- the style of a line
+
+module _ (F : Font) where
+  mutual
+    unfolding setItems setItem placed styleAfter styleBehind
+
+    pub setItems-style : (beyond : Neighbour) (line : Line) (r : Items) →
+        setItems F beyond line r .style ≡ styleAfter (line .style) r
+    setItems-style beyond line nil = refl
+    setItems-style beyond line (cons i r) =
+        let right = nextClass (styleBehind (line .style) i) beyond r in
+        setItems-style beyond (setItem F right line i) r
+        ∙ ap (λ (s : Style). styleAfter s r) (setItem-style right line i)
+
+    pub setItem-style : (right : Neighbour) (line : Line) (i : Item) →
+        setItem F right line i .style ≡ styleBehind (line .style) i
+    setItem-style right line (noad kind x y z) = refl
+    setItem-style right line (kern n) = refl
+    setItem-style right line (restyle number) = refl
+    setItem-style right line (choice d t sc ss) =
+        taken-all (λ (m : Line). m .style) (line .style) (setItems-style right line d) (setItems-style right line t)
+        (setItems-style right line sc) (setItems-style right line ss)

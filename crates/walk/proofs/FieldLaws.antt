@@ -5,7 +5,7 @@
 --     head-whole, head-missing      a list, by what its setter came to
 -- Assumes nothing.
 use mathlib.Core.Path.{_≡_, refl, sym, subst, ap, _∙_}
-use mathlib.Core.Bool.{Bool}
+use mathlib.Core.Bool.{Bool, true}
 use mathlib.Core.List.{List}
 use mathlib.Core.Option.{none}
 use Prim.Native.Nat.{ℕ, _+_, _-_, _≤_, _<_}
@@ -13,9 +13,9 @@ use native.Mathlib.Omega.{arith}
 use lib.ListN.{length, take, drop, length-drop}
 use Rattle.font.specs.Font.{Font}
 use Rattle.formula.specs.declared.FieldHead.{FieldHead}
-use Rattle.formula.specs.declared.FieldHead.the-variants.{Symbol, Sublist}
+use Rattle.formula.specs.declared.FieldHead.the-variants.{NoField, Empty, Symbol, Sublist, CutSublist}
 use Rattle.formula.specs.Tree.{Field, empty, symbol, list, listOpeningBytes}
-use Rattle.formula.specs.Heads.{fieldHead}
+use Rattle.formula.specs.Heads.{fieldHead, isEmpty}
 use Rattle.formula.specs.Places.{treeOf, headBytes, headAt, contents, fieldOf, GoodField}
 use Rattle.formula.specs.Slices.{tail-part, field-part}
 use Rattle.formula.specs.HeadLaws.{head-fits, list-opening, contents-shorter}
@@ -50,6 +50,14 @@ head-at {s = s} {at} {n} {r} {h} given read size is =
       inside = omega (arith, head-fits (drop at s) h here, length-drop at s);
     }
 
+-- as the code's test tells it
+pub empty-is : (h : FieldHead) → isEmpty h ≡ true → Empty ≡ h
+empty-is NoField e = let z : _≡_ {A = ℕ} 0 1 = cc in absurd (omega arith)
+empty-is Empty e = refl
+empty-is (Symbol family code) e = let z : _≡_ {A = ℕ} 0 1 = cc in absurd (omega arith)
+empty-is (Sublist opening n) e = let z : _≡_ {A = ℕ} 0 1 = cc in absurd (omega arith)
+empty-is CutSublist e = let z : _≡_ {A = ℕ} 0 1 = cc in absurd (omega arith)
+
 -- a head has so few bytes that they can be added up
 pub head-short : {t : List ℕ} {p : List (List ℕ)} {s : List ℕ} {at : ℕ} {r : FieldHead} → FieldGiven t p s at →
     r ≡ fieldHead (take (length s - at) (drop at s)) → at + headBytes r ≤ longest
@@ -70,7 +78,7 @@ module _ (F : Font) (st : Style) (enlarge : Bool) (b b′ : List ℕ) {s : List 
   head-symbol o r d = head-done o r d
 
   -- the list of n bytes behind the opening comes to l
-  module _ {opening n : ℕ} (o : Head s at (Sublist opening n) end) {start : lines.Line} (empty-line : StartLine start) where
+  module _ {opening n : ℕ} (o : Head s at (Sublist opening n) end) {start : lines.Line} (empty-line : StartLine st start) where
     inner : take (end - (at + opening)) (drop (at + opening) s) ≡ contents opening n (drop at s)
     inner =
         let e : end ≡ at + opening + n = omega (arith, o .goes) in
@@ -85,17 +93,17 @@ module _ (F : Font) (st : Style) (enlarge : Bool) (b b′ : List ℕ) {s : List 
     -- what its setter came to, as a list of its own
     list-done : (l : ItemsSet) →
         (let part = take (end - (at + opening)) (drop (at + opening) s) in
-        ItemsDone F st none (treeOf part) (length part) start b l b′) →
+        ItemsDone F none (treeOf part) (length part) start b l b′) →
         ListDone F st (treeOf (contents opening n (drop at s))) n b l b′
     list-done l d =
         let part = contents opening n (drop at s) in
-        let here : ItemsDone F st none (treeOf part) (length part) start b l b′ =
-        subst (λ (p : List ℕ). ItemsDone F st none (treeOf p) (length p) start b l b′) inner d in
-        list-of-items F st (treeOf part) n b b′ l empty-line
-        (subst (λ (k : ℕ). ItemsDone F st none (treeOf part) k start b l b′) long here)
+        let here : ItemsDone F none (treeOf part) (length part) start b l b′ =
+        subst (λ (p : List ℕ). ItemsDone F none (treeOf p) (length p) start b l b′) inner d in
+        list-of-items F (treeOf part) n b b′ l empty-line
+        (subst (λ (k : ℕ). ItemsDone F none (treeOf part) k start b l b′) long here)
 
     module _ (l : ItemsSet) (d : let part = take (end - (at + opening)) (drop (at + opening) s) in
-        ItemsDone F st none (treeOf part) (length part) start b l b′) where
+        ItemsDone F none (treeOf part) (length part) start b l b′) where
       pub head-whole : {line : lines.Line} {c : parts.Part} → l ≡ items.Whole line → ListPart end line c →
           HeadDone F st enlarge s at b (Whole c) b′
       head-whole {line} {c} is p =
@@ -126,11 +134,11 @@ module _ (F : Font) (st : Style) (enlarge : Bool) (b : List ℕ) {s : List ℕ} 
       (field-empty F st enlarge at end b c (omega (arith, o .goes)) e))
 
 -- what the setter of a list is given, and that the list is shorter than what holds the item
-pub list-given : {t : List ℕ} {p : List (List ℕ)} {s : List ℕ} {at end opening n : ℕ} {start : lines.Line} → FieldGiven t p s at →
-    Head s at (Sublist opening n) end → StartLine start →
+pub list-given : {t : List ℕ} {p : List (List ℕ)} {s : List ℕ} {at end opening n : ℕ} {st : Style} {start : lines.Line} → FieldGiven t p s at →
+    Head s at (Sublist opening n) end → StartLine st start →
     let part = take (end - (at + opening)) (drop (at + opening) s) in
     ItemsGiven t p part start × (length part < length s)
-list-given {t} {p} {s} {at} {end} {opening} {n} {start} given o empty-line =
+list-given {s = s} {at} {end} {opening} {n} given o empty-line =
     let shorter = contents-shorter (drop at s) opening n (o .is) in
     let rest = length-drop at s in
     let short = given .short in

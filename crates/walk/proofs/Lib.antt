@@ -4,5 +4,6 @@ mod FieldLaws
 mod PlaceLaws
 mod ItemLaws
 mod Laid
-mod NoadLaws
 mod ListLaws
+mod ChoiceLaws
+mod NoadLaws

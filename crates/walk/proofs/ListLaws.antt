@@ -1,17 +1,20 @@
 -- The items of a list, one behind another: what has been set so far and the items that are left make the list.
---     added-none, added-kern     nothing, and a kern, behind a line; `kern-done` is what a kern comes to
+--     added-none, added-kern, added-style     nothing, a kern, and a style, behind a line; `kern-done` and `style-done` are what they
+--                                come to
 --     added-next                 what was set, and then something behind it
---     Along                      the loop's invariant; `along-start`, `along-next`, `along-stop`, `along-done` follow the loop, and
---                                `rest-given` has what each turn gives the item's setter
+--     along-start, along-done    nothing of a list is set, and all of it (`Along`)
+--     along-more, along-lacks, along-stretch, along-halt    what is left is set in part, lacks a symbol, is set up to a choice, or starts
+--                                with one; `along-next`, `along-stop` its first item is set, or lacks a symbol
+--     rest-given                 what is given to the setter of what is left
 -- Assumes nothing.
 use mathlib.Core.Path.{_≡_, refl, sym, subst, ap, ap₂, _∙_}
 use mathlib.Core.Bool.{Bool, true, false, not, _&&_, _||_, or-false, and-true, and-assoc, and-eq-true-iff}
-use mathlib.Core.List.{List, append-nil}
+use mathlib.Core.List.{List, _++_, append-nil}
 use mathlib.Core.Option.{Option, none, some}
 use Prim.Native.Nat.{ℕ, _+_, _-_, _≤_, _<_}
 use native.Mathlib.Omega.{arith}
 use lib.IntN.{ℤ}
-use lib.ListN.{length, take, drop, length-append, length-drop}
+use lib.ListN.{length, take, drop, length-append, length-drop, take-append-drop}
 use lib.Seq.{drop-drop}
 use borrow.Rule.Slice.PartMut.{putMid}
 use Rattle.scaled.specs.declared.Sp.{Sp}
@@ -19,8 +22,8 @@ use Rattle.scaled.specs.Signed.{Within}
 use Rattle.scaled.specs.Linear.{#, _⊕_, within-by}
 use Rattle.font.specs.Font.{Font}
 use Rattle.formula.specs.declared.Opening.{Opening}
-use Rattle.formula.specs.declared.Opening.the-variants.{Kern}
-use Rattle.formula.specs.Tree.{Items, Item, nil, kern, kernBytes}
+use Rattle.formula.specs.declared.Opening.the-variants.{Kern, Restyle}
+use Rattle.formula.specs.Tree.{Items, Item, nil, kern, restyle, kernBytes, restyleBytes}
 use Rattle.formula.specs.Heads.{openingOf, greatestKern}
 use Rattle.formula.specs.Places.{Readable, treeOf, itemSize, itemOf}
 use Rattle.formula.specs.Slices.{tail-part}
@@ -34,22 +37,25 @@ use Rattle.boxes.specs.Values.{sizeAs}
 use Rattle.nodes.specs.Nodes.{Node}
 use Rattle.nodes.specs.Buffer.{roomFor}
 use Rattle.nodes.specs.Drawn.{Drawn, drawn-none}
-use Rattle.nodes.specs.Lent.{drawn-behind}
+use Rattle.nodes.specs.Lent.{rest-lent, rest-back, drawn-behind}
 use Rattle.nodes.specs.Kept.{kept-all, kept-more, kept-next}
 use Rattle.nodes.specs.Hull.{hull, joined}
 use Rattle.nodes.specs.HullLaws.{join-none, join-assoc, hull-append, within-more}
 use Rattle.nodes.specs.Values.{hullOf, isLarge}
-use Rattle.setting.specs.Setting.{Line, nextClass, setItem, setItems}
+use Rattle.setting.specs.Setting.{Line, restyled, styleAfter, styleBehind, nextClass, setItem, setItems}
+use Rattle.setting.specs.SettingLaws.{setItem-style, setItems-style}
 use Rattle.setting.specs.Missing.{_orElse_, later, missingItem, missingItems}
 use Rattle.setting.specs.Fitting.{itemFits, itemsFit}
-use Rattle.setting.specs.FieldInPlace.{afterNodes, sized, setItem-after}
+use Rattle.setting.specs.FieldInPlace.{afterNodes, sized, setItems-after}
 use Rattle.walk.specs.declared.lines.Line as lines
 use Rattle.walk.specs.declared.lists.ItemsSet.the-variants as items
 use Rattle.walk.specs.declared.lists.ItemSet.{ItemSet}
 use Rattle.walk.specs.declared.lists.ItemSet.the-variants as steps
+use Rattle.walk.specs.declared.lists.StretchSet.{StretchSet}
+use Rattle.walk.specs.declared.lists.StretchSet.the-variants as stretches
 use Rattle.walk.specs.Values.{bareLine}
 use Rattle.walk.specs.Bounds.{longest, stride, LineWithin}
-use Rattle.walk.specs.Walked.{KernedLine, Added, ItemsGiven, ItemsDone, ItemSetDone, ItemDone}
+use Rattle.walk.specs.Walked.{KernedLine, StyledLine, Added, Along, ItemsGiven, ItemsDone, classBehind, OpenedDone, ItemDone, StretchDone}
 
 -- ---- what goes behind a line
 
@@ -61,6 +67,7 @@ added-none l b =
       more = omega arith;
       few = omega arith;
       grows = λ k w. let e : k ≡ k + 0 = omega arith in rw (← e) w;
+      style-is = refl;
       left-is = λ h. refl;
       size-is = λ h. refl;
       count-is = λ h. omega arith;
@@ -69,10 +76,10 @@ added-none l b =
       kept = kept-all 0 b;
     }
 
-pub added-kern : (F : Font) (s : Style) (right : Neighbour) (n : ℤ) (l r : lines.Line) (b : List ℕ) → Within greatestKern n →
-    KernedLine l n r → Added (itemFits F s (kern n)) (setItem F s right (bareLine l) (kern n)) kernBytes l b r b
+pub added-kern : (F : Font) (right : Neighbour) (n : ℤ) (l r : lines.Line) (b : List ℕ) → Within greatestKern n →
+    KernedLine l n r → Added (itemFits F (l .style) (kern n)) (setItem F right (bareLine l) (kern n)) kernBytes l b r b
 unfolding itemFits setItem hull
-added-kern F s right n l r b small k =
+added-kern F right n l r b small k =
     let run = k .run-is in
     record {
       large-is = rw run (sym (or-false (isLarge (l .run))));
@@ -88,6 +95,7 @@ added-kern F s right n l r b small k =
             count = rw run (omega (arith, w .count));
             hull = rw run (within-more (stride m) (stride (m + kernBytes)) (hullOf (l .run)) (omega arith) (w .hull));
           };
+      style-is = k .style-is;
       left-is = λ h. ap neighbourAs (k .left-is);
       size-is = λ h. k .size-is;
       count-is = λ h. rw run (omega arith);
@@ -96,14 +104,51 @@ added-kern F s right n l r b small k =
       kept = kept-all kernBytes b;
     }
 
-pub kern-done : (F : Font) (s : Style) (beyond : Neighbour) (bytes : List ℕ) (l r : lines.Line) (b : List ℕ) (n : Sp) →
-    openingOf bytes ≡ Kern n → KernedLine l (n .0) r → ItemDone F s beyond bytes l b (steps.Next kernBytes r) b
-unfolding missingItem
-kern-done F s beyond bytes l r b n opens k =
-    let right = nextClass beyond (treeOf (drop kernBytes bytes)) in
-    subst (λ (o : Opening).
-    ItemSetDone F s (nextClass beyond (treeOf (drop (itemSize bytes o) bytes))) (itemOf bytes o) (itemSize bytes o) l b (steps.Next kernBytes r) b)
-    (sym opens) (refl, refl, added-kern F s right (n .0) l r b (kern-small bytes n opens) k)
+pub added-style : (F : Font) (right : Neighbour) (n : ℕ) (l r : lines.Line) (b : List ℕ) → StyledLine l (restyled (l .style) n) r →
+    Added (itemFits F (l .style) (restyle n)) (setItem F right (bareLine l) (restyle n)) restyleBytes l b r b
+unfolding itemFits setItem hull
+added-style F right n l r b k =
+    let run = k .run-is in
+    record {
+      large-is = rw run (sym (or-false (isLarge (l .run))));
+      more = rw run (omega arith);
+      few = rw run (omega arith);
+      grows = λ m w.
+          let far = w .width in
+          record {
+            width = rw (k .size-is) (omega arith);
+            height = rw (k .size-is) (w .height);
+            depth = rw (k .size-is) (w .depth);
+            count = rw run (omega (arith, w .count));
+            hull = rw run (within-more (stride m) (stride (m + restyleBytes)) (hullOf (l .run)) (omega arith) (w .hull));
+          };
+      style-is = k .style-is;
+      left-is = λ h. ap neighbourAs (k .left-is);
+      size-is = λ h. ap sizeAs (k .size-is);
+      count-is = λ h. rw run (omega arith);
+      hull-is = λ h. rw run (sym (join-none (hullOf (l .run))));
+      drawn = λ h. drawn-none b;
+      kept = kept-all restyleBytes b;
+    }
+
+-- an item by its opening
+pub item-as : (F : Font) (beyond : Neighbour) (bytes : List ℕ) (l : lines.Line) (b b′ : List ℕ) {o : Opening} → openingOf bytes ≡ o →
+    (r : ItemSet) → OpenedDone F beyond bytes o l b r b′ → ItemDone F beyond bytes l b r b′
+item-as F beyond bytes l b b′ opens r d = subst (λ (o : Opening). OpenedDone F beyond bytes o l b r b′) (sym opens) d
+
+module _ (F : Font) (beyond : Neighbour) (bytes : List ℕ) (l r : lines.Line) (b : List ℕ) where
+  pub kern-done : {n : Sp} → openingOf bytes ≡ Kern n → KernedLine l (n .0) r → ItemDone F beyond bytes l b (steps.Next kernBytes r) b
+  unfolding missingItem
+  kern-done {n} opens k =
+      item-as F beyond bytes l b b opens (steps.Next kernBytes r)
+      (refl, refl, added-kern F (classBehind (l .style) beyond bytes (Kern n)) (n .0) l r b (kern-small bytes n opens) k)
+
+  pub style-done : {n : ℕ} → openingOf bytes ≡ Restyle n → StyledLine l (restyled (l .style) n) r →
+      ItemDone F beyond bytes l b (steps.Next restyleBytes r) b
+  unfolding missingItem
+  style-done {n} opens k =
+      item-as F beyond bytes l b b opens (steps.Next restyleBytes r)
+      (refl, refl, added-style F (classBehind (l .style) beyond bytes (Restyle n)) n l r b k)
 
 -- a line behind more bytes
 pub line-more : {j k : ℕ} {l : lines.Line} → j ≤ k → LineWithin j l → LineWithin k l
@@ -118,22 +163,23 @@ line-more {j} {k} {l} more w =
       hull = within-more (stride j) (stride k) (hullOf (l .run)) (omega arith) (w .hull);
     }
 
--- the same by other names
-pub added-like : {f g : Bool} {M N : Line} {k n : ℕ} {l r : lines.Line} {b b′ : List ℕ} → f ≡ g → (f ≡ true → M ≡ N) → k ≡ n →
-    Added f M k l b r b′ → Added g N n l b r b′
-added-like {f} {g} {M} {N} {k} {n} {l} {r} {b} {b′} e same size a =
+-- the same by other names, of no fewer bytes
+pub added-like : {f g : Bool} {M N : Line} {k n : ℕ} {l r : lines.Line} {b b′ : List ℕ} → f ≡ g → M .style ≡ N .style →
+    (f ≡ true → M ≡ N) → k ≤ n → Added f M k l b r b′ → Added g N n l b r b′
+added-like {f} {g} {M} {N} {k} {n} {l} {r} {b} {b′} e style same size a =
     let was : g ≡ true → f ≡ true = λ h. e ∙ h in
     record {
       large-is = a .large-is ∙ rw e;
       more = a .more;
-      few = rw (← size) (a .few);
-      grows = λ i w. rw (← size) (a .grows i w);
+      few = omega (arith, a .few);
+      grows = λ i w. line-more (omega arith) (a .grows i w);
+      style-is = a .style-is ∙ style;
       left-is = λ h. a .left-is (was h) ∙ ap (λ (m : Line). m .left) (same (was h));
       size-is = λ h. a .size-is (was h) ∙ ap (λ (m : Line). m .box .size) (same (was h));
       count-is = λ h. a .count-is (was h) ∙ ap (λ (m : Line). l .run .count + length (m .box .nodes)) (same (was h));
       hull-is = λ h. a .hull-is (was h) ∙ ap (λ (m : Line). joined (hullOf (l .run)) (hull (m .box .nodes))) (same (was h));
       drawn = λ h. subst (λ (m : Line). Drawn (m .box .nodes) b b′) (same (was h)) (a .drawn (was h));
-      kept = rw (← size) (a .kept);
+      kept = kept-more size (a .kept);
     }
 
 -- what was large before, or is so now
@@ -155,6 +201,7 @@ added-next {f} {g} {M} {N} {k} {n} {j} {l₀} {l} {r} {b₀} {b} {v} a at d =
       more = omega (arith, a .more, d .more);
       few = omega (arith, a .few, d .few);
       grows = λ i w. let e : i + k + n ≡ i + (k + n) = omega arith in rw (← e) (d .grows (i + k) (a .grows i w));
+      style-is = d .style-is;
       left-is = λ h. d .left-is (each h .1);
       size-is = λ h. d .size-is (each h .1);
       count-is = λ h. omega (arith, a .count-is (each h .0), d .count-is (each h .1));
@@ -169,17 +216,7 @@ added-next {f} {g} {M} {N} {k} {n} {j} {l₀} {l} {r} {b₀} {b} {v} a at d =
       kept = kept-next {i = l .run .count - l₀ .run .count} (omega (arith, a .few)) (a .kept) at (d .kept);
     }
 
--- ---- the loop
-
-pub record Along (F : Font) (st : Style) (beyond : Neighbour) (s : List ℕ) (l₀ : lines.Line) (b₀ : List ℕ) (at : ℕ) (l : lines.Line) (b : List ℕ) : Type 0 where
-  pub fits : Bool
-  pub line : Line
-  pub low : at ≤ length s
-  pub rest : Readable (drop at s)
-  pub lacks : missingItems F st (treeOf s) ≡ later at (missingItems F st (treeOf (drop at s)))
-  pub all-fit : itemsFit F st (treeOf s) ≡ (fits && itemsFit F st (treeOf (drop at s)))
-  pub sets : fits ≡ true → setItems F st beyond (bareLine l₀) (treeOf s) ≡ setItems F st beyond line (treeOf (drop at s))
-  pub added : Added fits line at l₀ b₀ l b
+-- ---- what has been set of a list, and what is left
 
 later-nowhere : (m : Option ℕ) → m ≡ later 0 m
 unfolding later
@@ -191,122 +228,190 @@ unfolding later
 later-again a b none = refl
 later-again a b (some place) = ap some (omega arith)
 
-later-else : (at : ℕ) (m n : Option ℕ) → later at (m orElse n) ≡ (later at m orElse later at n)
-unfolding later
-later-else at none n = refl
-later-else at (some place) n = refl
+-- behind so many bytes
+abbrev pub shifted : ℕ → StretchSet → StretchSet
+shifted at (stretches.UpTo n l) = stretches.UpTo (at + n) l
+shifted at (stretches.Missing place) = stretches.Missing (at + place)
 
-module _ (F : Font) (st : Style) (beyond : Neighbour) (s : List ℕ) (l₀ : lines.Line) (b₀ : List ℕ) where
-  pub along-start : Readable s → Along F st beyond s l₀ b₀ 0 l₀ b₀
-  along-start readable =
+module _ (F : Font) (beyond : Neighbour) where
+  pub along-start : (s : List ℕ) (l₀ : lines.Line) (b₀ : List ℕ) → Readable s → Along F beyond s l₀ b₀ 0 l₀ b₀
+  along-start s l₀ b₀ readable =
       record {
         fits = true;
         line = bareLine l₀;
         low = omega arith;
         rest = readable;
-        lacks = later-nowhere (missingItems F st (treeOf s));
+        lacks = later-nowhere (missingItems F (l₀ .style) (treeOf s));
         all-fit = refl;
+        style-is = refl;
         sets = λ h. refl;
         added = added-none l₀ b₀;
       }
 
-  module _ {at : ℕ} {l : lines.Line} {b : List ℕ} (a : Along F st beyond s l₀ b₀ at l b) where
-    pub along-done : length s ≤ at → ItemsDone F st beyond (treeOf s) (length s) l₀ b₀ (items.Whole l) b
-    unfolding missingItems itemsFit setItems later
-    along-done over =
-        let low = a .low in
-        let end : treeOf (drop at s) ≡ nil = tree-none (drop at s) (omega (arith, length-drop at s)) .1 in (
-          a .lacks ∙ ap (λ (t : Items). later at (missingItems F st t)) end,
-          added-like (sym (a .all-fit ∙ ap (λ (t : Items). a .fits && itemsFit F st t) end ∙ and-true (a .fits)))
-              (λ h. sym (a .sets h ∙ ap (setItems F st beyond (a .line)) end)) (omega arith) (a .added),
+  -- the first item of a list, which was set or lacks a symbol
+  module _ (s : List ℕ) (l : lines.Line) (b v : List ℕ) (readable : Readable s) (more : 0 < length s) where
+    abbrev first : Item
+    first = itemOf s (openingOf s)
+
+    abbrev size : ℕ
+    size = itemSize s (openingOf s)
+
+    stepped : Stepped s (openingOf s)
+    stepped = step s (openingOf s) refl readable more
+
+    -- the style behind it
+    abbrev there : Style
+    there = styleBehind (l .style) first
+
+    lacks-first : missingItems F (l .style) (treeOf s)
+        ≡ (missingItem F (l .style) first orElse later size (missingItems F there (treeOf (drop size s))))
+    unfolding missingItems
+    lacks-first =
+        ap (missingItems F (l .style)) (stepped .tree)
+        ∙ ap (λ (n : ℕ). missingItem F (l .style) first orElse later n (missingItems F there (treeOf (drop size s))))
+        (item-bytes s (openingOf s) (stepped .item))
+
+    pub item-lacks : {missing : ℕ} → ItemDone F beyond s l b (steps.Missing missing) v →
+        ItemsDone F beyond (treeOf s) (length s) l b (items.Missing missing) v
+    item-lacks (lacks, near, kept) =
+        let within = stepped .fits in
+        (lacks-first ∙ rw lacks, omega arith, kept-more within kept)
+
+    pub item-along : {n : ℕ} {r : lines.Line} → ItemDone F beyond s l b (steps.Next n r) v → (0 < n) × Along F beyond s l b n r v
+    unfolding itemsFit setItems styleAfter
+    item-along {n} {r} (present, is, added) =
+        let p = stepped in
+        let positive = p .some in
+        let within = p .fits in
+        let rest : drop size s ≡ drop n s = ap (λ (k : ℕ). drop k s) (sym is) in
+        let right = nextClass there beyond (treeOf (drop size s)) in
+        let N = setItem F right (bareLine l) first in
+        let style : there ≡ r .style = sym (added .style-is ∙ setItem-style F right (bareLine l) first) in (
+          omega arith,
+          record {
+            fits = itemFits F (l .style) first;
+            line = N;
+            low = omega arith;
+            rest = rw (← rest) (p .rest);
+            lacks =
+                lacks-first ∙ (rw present)
+                ∙ ap₂ (λ (k : ℕ) (t : Style). later k (missingItems F t (treeOf (drop size s)))) (sym is) style
+                ∙ ap (λ (t : List ℕ). later n (missingItems F (r .style) (treeOf t))) rest;
+            all-fit =
+                ap (itemsFit F (l .style)) (p .tree)
+                ∙ ap₂ (λ (u : Style) (t : List ℕ). itemFits F (l .style) first && itemsFit F u (treeOf t)) style rest;
+            style-is = ap (styleAfter (l .style)) (p .tree) ∙ ap₂ (λ (u : Style) (t : List ℕ). styleAfter u (treeOf t)) style rest;
+            sets = λ h. ap (setItems F beyond (bareLine l)) (p .tree) ∙ ap (λ (t : List ℕ). setItems F beyond N (treeOf t)) rest;
+            added = added;
+          },
         )
 
-    -- the item at the head of what is left, which comes to d
-    module _ (more : at < length s) (j : ℕ) (v : List ℕ) where
+  module _ {s : List ℕ} {l₀ : lines.Line} {b₀ : List ℕ} {at : ℕ} {l : lines.Line} {b : List ℕ} (a : Along F beyond s l₀ b₀ at l b) where
+    pub along-done : length s ≤ at → ItemsDone F beyond (treeOf s) (length s) l₀ b₀ (items.Whole l) b
+    unfolding missingItems itemsFit setItems styleAfter later
+    along-done over =
+        let low = a .low in
+        let end : treeOf (drop at s) ≡ nil = tree-none (drop at s) (omega (arith, length-drop at s)) .1 in
+        let style : styleAfter (l₀ .style) (treeOf s) ≡ l .style = a .style-is ∙ ap (styleAfter (l .style)) end in (
+          a .lacks ∙ ap (λ (t : Items). later at (missingItems F (l .style) t)) end,
+          added-like (sym (a .all-fit ∙ ap (λ (t : Items). a .fits && itemsFit F (l .style) t) end ∙ and-true (a .fits)))
+              (sym (a .added .style-is) ∙ sym style ∙ sym (setItems-style F beyond (bareLine l₀) (treeOf s)))
+              (λ h. sym (a .sets h ∙ ap (setItems F beyond (a .line)) end)) (omega arith) (a .added),
+        )
+
+    -- what is left was set in the part of the buffer from j on, back as v
+    module _ {j : ℕ} (place : j ≡ roomFor (l .run .count - l₀ .run .count) (length b)) (v : List ℕ) where
       abbrev left : List ℕ
-      left = drop at s
+      left = take (length s - at) (drop at s)
 
-      abbrev first : Item
-      first = itemOf left (openingOf left)
+      abbrev lent : List ℕ
+      lent = take (length b - j) (drop j b)
 
-      abbrev size : ℕ
-      size = itemSize left (openingOf left)
+      abbrev back : List ℕ
+      back = putMid j (length b - j) b v
 
-      stepped : Stepped left (openingOf left)
-      stepped = step left (openingOf left) refl (a .rest) (omega (arith, length-drop at s))
+      -- it lacks a symbol
+      pub along-lacks : {missing : ℕ} → ItemsDone F beyond (treeOf left) (length left) l lent (items.Missing missing) v →
+          ItemsDone F beyond (treeOf s) (length s) l₀ b₀ (items.Missing (at + missing)) back
+      unfolding later
+      along-lacks {missing} done =
+          let d = rw (tail-part s at) at done in
+          let low = a .low in
+          let rests = length-drop at s in
+          let near = d .1 in
+          let few = a .added .few in
+          (a .lacks ∙ ap (later at) (d .0), omega arith, kept-more (omega arith) (kept-next (omega arith) (a .added .kept) place (d .2)))
 
-      lacks-first : missingItems F st (treeOf s)
-          ≡ (later at (missingItem F st first) orElse later (at + size) (missingItems F st (treeOf (drop size left))))
-      unfolding missingItems
-      lacks-first =
-          a .lacks ∙ ap (λ (t : Items). later at (missingItems F st t)) (stepped .tree)
-          ∙ later-else at (missingItem F st first) _
-          ∙ ap (λ (m : Option ℕ). later at (missingItem F st first) orElse m)
-          (later-again at _ _ ∙ ap (λ (n : ℕ). later (at + n) (missingItems F st (treeOf (drop size left)))) (item-bytes left (openingOf left) (stepped .item)))
+      -- or its first n bytes are set
+      pub along-more : {n : ℕ} {r : lines.Line} → Along F beyond left l lent n r v → Along F beyond s l₀ b₀ (at + n) r back
+      along-more {n} {r} further =
+          let d = rw (tail-part s at) at further in
+          let rest : drop n (drop at s) ≡ drop (at + n) s = drop-drop n at s in
+          let M = a .line in
+          let ns = M .box .nodes in
+          let low = a .low in
+          let within = d .low in
+          record {
+            fits = a .fits && d .fits;
+            line = afterNodes ns (d .line);
+            low = omega (arith, length-drop at s);
+            rest = rw (← rest) (d .rest);
+            lacks =
+                a .lacks ∙ ap (later at) (d .lacks) ∙ later-again at n _
+                ∙ ap (λ (t : List ℕ). later (at + n) (missingItems F (r .style) (treeOf t))) rest;
+            all-fit =
+                a .all-fit ∙ ap (λ (t : Bool). a .fits && t) (d .all-fit)
+                ∙ sym (and-assoc (a .fits) (d .fits) (itemsFit F (r .style) (treeOf (drop n (drop at s)))))
+                ∙ ap (λ (t : List ℕ). a .fits && d .fits && itemsFit F (r .style) (treeOf t)) rest;
+            style-is = a .style-is ∙ d .style-is ∙ ap (λ (t : List ℕ). styleAfter (r .style) (treeOf t)) rest;
+            sets = λ h.
+                let each = and-eq-true-iff (a .fits) (d .fits) .0 h in
+                let bare : M ≡ afterNodes ns (bareLine l) =
+                ap (λ (t : Style). record { left = M .left; style = t; box = M .box }) (sym (a .added .style-is))
+                ∙ ap₂ (λ (m : Neighbour) (z : Size). record { left = m; style = l .style; box = sized z ns })
+                (sym (a .added .left-is (each .0))) (sym (a .added .size-is (each .0)))
+                ∙ ap (λ (k : List Node). record { left = neighbourAs (l .left); style = l .style; box = sized (sizeAs (l .size)) k }) (sym (append-nil ns)) in
+                a .sets (each .0)
+                ∙ ap (λ (m : Line). setItems F beyond m (treeOf (drop at s))) bare
+                ∙ setItems-after F beyond ns (bareLine l) (treeOf (drop at s))
+                ∙ ap (afterNodes ns) (d .sets (each .1))
+                ∙ sym (setItems-after F beyond ns (d .line) (treeOf (drop n (drop at s))))
+                ∙ ap (λ (t : List ℕ). setItems F beyond (afterNodes ns (d .line)) (treeOf t)) rest;
+            added = added-next (a .added) place (d .added);
+          }
 
-      -- what the setter of the item was lent, and has given back
-      abbrev Lent : ItemSet → Type 0
-      Lent r = ItemDone F st beyond (take (length s - at) left) l (take (length b - j) (drop j b)) r v
+      -- or up to a choice
+      pub along-stretch : (r : StretchSet) → StretchDone F beyond left l lent r v → StretchDone F beyond s l₀ b₀ (shifted at r) back
+      along-stretch (stretches.UpTo n r) (further, stops) =
+          let rest : drop n left ≡ drop (at + n) s = ap (drop n) (tail-part s at) ∙ drop-drop n at s in
+          let long = length-drop at s in
+          (along-more further, λ more. sym (ap openingOf rest) ∙ stops (rw (tail-part s at) (omega arith)))
+      along-stretch (stretches.Missing missing) lacks = along-lacks lacks
 
-      module _ (place : j ≡ roomFor (l .run .count - l₀ .run .count) (length b)) where
-        pub along-stop : {missing : ℕ} → Lent (steps.Missing missing) →
-            ItemsDone F st beyond (treeOf s) (length s) l₀ b₀ (items.Missing (at + missing)) (putMid j (length b - j) b v)
-        unfolding later
-        along-stop {missing} set =
-            let d = rw (tail-part s at) at set in
-            let low = stepped .fits in
-            let rests = length-drop at s in
-            let near = d .1 in
-            let few = a .added .few in
-            (lacks-first ∙ rw (d .0), omega arith, kept-more (omega arith) (kept-next (omega arith) (a .added .kept) place (d .2)))
+      -- or it starts with a choice
+      pub along-halt : ItemDone F beyond left l lent steps.AtChoice v → StretchDone F beyond s l₀ b₀ (stretches.UpTo at l) back
+      along-halt (opens, same) =
+          let kept : back ≡ b = rest-back j b v ∙ ap (λ (r : List ℕ). take j b ++ r) (same ∙ rest-lent j b) ∙ take-append-drop j b in
+          (subst (Along F beyond s l₀ b₀ at l) (sym kept) a, λ more. sym (ap openingOf (tail-part s at)) ∙ opens)
 
-        pub along-next : {n : ℕ} {r : lines.Line} → Lent (steps.Next n r) →
-            (0 < n) × Along F st beyond s l₀ b₀ (at + n) r (putMid j (length b - j) b v)
-        unfolding later itemsFit setItems
-        along-next {n} {r} set =
-            let d = rw (tail-part s at) at set in
-            let p = stepped in
-            let is : n ≡ size = d .1 in
-            let positive = p .some in
-            let within = p .fits in
-            let long = length-drop at s in
-            let rest : drop size left ≡ drop (at + n) s = drop-drop size at s ∙ ap (λ (k : ℕ). drop (at + k) s) (sym is) in
-            let right = nextClass beyond (treeOf (drop size left)) in
-            let N = setItem F st right (bareLine l) first in
-            let M = a .line in
-            let low = a .low in (
-              omega arith,
-              record {
-                fits = a .fits && itemFits F st first;
-                line = afterNodes (M .box .nodes) N;
-                low = omega arith;
-                rest = rw (← rest) (p .rest);
-                lacks =
-                    lacks-first ∙ (rw (d .0)) ∙ ap₂ (λ (k : ℕ) (t : List ℕ). later (at + k) (missingItems F st (treeOf t))) (sym is) rest;
-                all-fit =
-                    a .all-fit ∙ ap (λ (t : Items). a .fits && itemsFit F st t) (p .tree)
-                    ∙ sym (and-assoc (a .fits) (itemFits F st first) (itemsFit F st (treeOf (drop size left))))
-                    ∙ ap (λ (t : List ℕ). a .fits && itemFits F st first && itemsFit F st (treeOf t)) rest;
-                sets = λ h.
-                    let before = and-eq-true-iff (a .fits) (itemFits F st first) .0 h .0 in
-                    let bare : M ≡ afterNodes (M .box .nodes) (bareLine l) =
-                    ap₂ (λ (m : Neighbour) (z : Size). record { left = m; box = sized z (M .box .nodes) })
-                    (sym (a .added .left-is before)) (sym (a .added .size-is before))
-                    ∙ ap (λ (ns : List Node). record { left = neighbourAs (l .left); box = sized (sizeAs (l .size)) ns }) (sym (append-nil (M .box .nodes))) in
-                    a .sets before ∙ ap (setItems F st beyond M) (p .tree)
-                    ∙ ap (λ (m : Line). setItems F st beyond (setItem F st right m first) (treeOf (drop size left))) bare
-                    ∙ ap (λ (m : Line). setItems F st beyond m (treeOf (drop size left))) (setItem-after F st right (M .box .nodes) (bareLine l) first)
-                    ∙ ap (λ (t : List ℕ). setItems F st beyond (afterNodes (M .box .nodes) N) (treeOf t)) rest;
-                added = added-next (a .added) place (d .2);
-              },
-            )
+      module _ (more : at < length s) where
+        left-some : Readable left × (0 < length left)
+        left-some = rw (tail-part s at) (a .rest, omega (arith, length-drop at s))
 
--- what the item's setter is given, and how long it is
-pub rest-given : {t : List ℕ} {p : List (List ℕ)} {F : Font} {st : Style} {beyond : Neighbour} {s : List ℕ} {l₀ : lines.Line} {b₀ : List ℕ}
-    {at : ℕ} {l : lines.Line} {b : List ℕ} → ItemsGiven t p s l₀ → Along F st beyond s l₀ b₀ at l b → at < length s →
+        pub along-stop : {missing : ℕ} → ItemDone F beyond left l lent (steps.Missing missing) v →
+            ItemsDone F beyond (treeOf s) (length s) l₀ b₀ (items.Missing (at + missing)) back
+        along-stop d = along-lacks (item-lacks left l lent v (left-some .0) (left-some .1) d)
+
+        pub along-next : {n : ℕ} {r : lines.Line} → ItemDone F beyond left l lent (steps.Next n r) v →
+            (0 < n) × Along F beyond s l₀ b₀ (at + n) r back
+        along-next d = let one = item-along left l lent v (left-some .0) (left-some .1) d in (one .0, along-more (one .1))
+
+-- what the setter of the rest is given, and how long that is
+pub rest-given : {t : List ℕ} {p : List (List ℕ)} {F : Font} {beyond : Neighbour} {s : List ℕ} {l₀ : lines.Line} {b₀ : List ℕ}
+    {at : ℕ} {l : lines.Line} {b : List ℕ} → ItemsGiven t p s l₀ → Along F beyond s l₀ b₀ at l b →
     let rest = take (length s - at) (drop at s) in
-    ItemsGiven t p rest l × (length rest ≤ length s) × (0 < length rest)
-rest-given {s = s} {at = at} given a more =
+    ItemsGiven t p rest l × (length rest ≡ length s - at)
+rest-given {s = s} {at = at} given a =
     let long = length-drop at s in
     let short = given .list .short in
     let low = a .low in
@@ -315,6 +420,5 @@ rest-given {s = s} {at = at} given a more =
         list = record { table-good = given .list .table-good; parameters-are = given .list .parameters-are; readable = a .rest; short = omega arith };
         small = line-more (omega arith) (a .added .grows (longest - length s) (given .small));
       },
-      omega arith,
       omega arith,
     )

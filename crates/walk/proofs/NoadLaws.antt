@@ -18,11 +18,10 @@ use borrow.Rule.Slice.PartMut.{putMid}
 use Rattle.font.specs.Font.{Font}
 use Rattle.formula.specs.declared.Class.{Class}
 use Rattle.formula.specs.declared.Kind.{Kind}
-use Rattle.formula.specs.declared.Opening.{Opening}
 use Rattle.formula.specs.declared.Opening.the-variants.{Fields}
 use Rattle.formula.specs.Tree.{Field, openingBytes, fieldBytes}
 use Rattle.formula.specs.Heads.{openingOf}
-use Rattle.formula.specs.Places.{treeOf, hasThird, second, third, thirdEnd, end, itemSize, fieldIn, thirdIn, itemOf}
+use Rattle.formula.specs.Places.{treeOf, hasThird, second, third, thirdEnd, end, fieldIn, thirdIn, itemOf}
 use Rattle.formula.specs.PlacesLaws.{field-bytes, Noad}
 use Rattle.boxes.specs.declared.styles.Style.{Style}
 use Rattle.boxes.specs.Parameters.{Parameters}
@@ -38,19 +37,19 @@ use Rattle.nodes.specs.Buffer.{roomFor}
 use Rattle.nodes.specs.Drawn.{Drawn}
 use Rattle.nodes.specs.Kept.{Kept, kept-more, kept-then}
 use Rattle.nodes.specs.Values.{isLarge}
-use Rattle.setting.specs.Setting.{Part, nextClass, itemNodes, itemBox, placed, setField, setItem}
+use Rattle.setting.specs.Setting.{Part, styleBehind, nextClass, itemNodes, itemBox, placed, setField, setItem}
 use Rattle.setting.specs.Missing.{_orElse_, missingField, missingItem}
 use Rattle.setting.specs.Fitting.{fieldFits, itemFits}
 use Rattle.walk.specs.declared.parts.Part as parts
 use Rattle.walk.specs.declared.parts.FieldSet.{FieldSet}
 use Rattle.walk.specs.declared.parts.FieldSet.the-variants as field
 use Rattle.walk.specs.declared.lines.Line as lines
-use Rattle.walk.specs.declared.lists.ItemSet.{ItemSet}
 use Rattle.walk.specs.declared.lists.ItemSet.the-variants as step
-use Rattle.walk.specs.Values.{bareLine}
+use Rattle.walk.specs.Values.{bareIn, bareLine}
 use Rattle.walk.specs.Bounds.{longest, LineWithin}
-use Rattle.walk.specs.Walked.{EmptyPart, PartWithin, FieldWhole, FieldDone, HeadDone, ChangesAlike, FinishGiven, Finished, Added, ItemSetDone, ItemDone, besideSize, itemCount, itemBuffer}
+use Rattle.walk.specs.Walked.{EmptyPart, PartWithin, FieldWhole, FieldDone, HeadDone, ChangesAlike, FinishGiven, Finished, Added, classBehind, ItemDone, besideSize, itemCount, itemBuffer}
 use Rattle.walk.proofs.PartLaws.{field-empty}
+use Rattle.walk.proofs.ListLaws.{item-as}
 use Rattle.walk.proofs.ItemLaws.{item-count, item-hull, item-bytes, item-kept}
 use Rattle.walk.proofs.Laid.{Laid, laid-start, laid-gap, laid-kept, laid-field, laid-none}
 
@@ -302,8 +301,9 @@ module _ (F : Font) (s : Style) (kind : Kind) (bytes : List ℕ) where
         (subst (λ (ns : List Node). Laid b₀ (end bytes kind) n (fitsX && fitsY && fitsZ) (w ++ bytesOf ns) v) (sym blank)
         (laid-none (q .so) fitsZ (q .noad .third-in) (e .run-is .count-is)))
 
-  -- the item is finished: the line l became r, and the buffer v′
+  -- the item is finished: the line l, of the style s, became r, and the buffer v′
   pub record NoadSet (beyond right : Neighbour) (l r : lines.Line) (o₁ o₂ : ℕ) (b₀ : List ℕ) (a b c : parts.Part) (v v′ : List ℕ) : Type 0 where
+    pub here : l .style ≡ s
     pub fields : Three o₁ o₂ b₀ a b c v
     pub alike : ChangesAlike kind right beyond
     pub done : Finished (F .parameter) s kind right l a b c r v v′
@@ -410,7 +410,7 @@ module _ (F : Font) (s : Style) (kind : Kind) (bytes : List ℕ) where
         ∙ item-bytes at A partX partY partZ g₁ g₂ rest long₁ long₂
         ∙ ap (λ (k : ℕ). bytesOf nodes ++ drop (bytesInNode * k) b₀) (sym count)
 
-    pub noad-added : Added (itemFits F s (itemOf bytes (Fields kind))) (setItem F s beyond (bareLine l) (itemOf bytes (Fields kind)))
+    pub noad-added : Added (itemFits F s (itemOf bytes (Fields kind))) (setItem F beyond (bareIn s l) (itemOf bytes (Fields kind)))
         (end bytes kind) l b₀ r v′
     unfolding itemFits setItem placed itemBox
     noad-added =
@@ -422,6 +422,7 @@ module _ (F : Font) (s : Style) (kind : Kind) (bytes : List ℕ) where
           more = omega (arith, q .done .count-is);
           few = omega (arith, q .done .count-is, few);
           grows = λ k w. q .done .grows k (end bytes kind) w (q .fields .noad .long) few;
+          style-is = q .done .style-is ∙ q .here;
           left-is = λ h. ap neighbourAs (q .done .left-is) ∙ ap some class-is;
           size-is = λ h.
               q .done .size-is
@@ -456,29 +457,23 @@ module _ (F : Font) (s : Style) (kind : Kind) (bytes : List ℕ) where
         third = subst (λ (n : ℕ). PartWithin n c) (sym (q .wy .end-is)) (q .wz .small);
       }
 
-  module _ (beyond : Neighbour) (l : lines.Line) (b b′ : List ℕ) (opens : openingOf bytes ≡ Fields kind) where
-    -- the item by its opening
-    item-is : (r : ItemSet) →
-        ItemSetDone F s (nextClass beyond (treeOf (drop (end bytes kind) bytes))) (itemOf bytes (Fields kind)) (end bytes kind) l b r b′ →
-        ItemDone F s beyond bytes l b r b′
-    item-is r d =
-        subst (λ (o : Opening).
-        ItemSetDone F s (nextClass beyond (treeOf (drop (itemSize bytes o) bytes))) (itemOf bytes o) (itemSize bytes o) l b r b′) (sym opens) d
+-- what the item at the head of some bytes comes to, behind the line l
+module _ (F : Font) (kind : Kind) (bytes : List ℕ) (beyond : Neighbour) (l : lines.Line) (b b′ : List ℕ) (opens : openingOf bytes ≡ Fields kind) where
+  pub noad-lacks : {place : ℕ} → missingItem F (l .style) (itemOf bytes (Fields kind)) ≡ some place → place ≤ end bytes kind →
+      Kept (end bytes kind) b b′ → ItemDone F beyond bytes l b (step.Missing place) b′
+  noad-lacks {place} lacks low kept = item-as F beyond bytes l b b′ opens (step.Missing place) (lacks, low, kept)
 
-    pub noad-lacks : {place : ℕ} → missingItem F s (itemOf bytes (Fields kind)) ≡ some place → place ≤ end bytes kind →
-        Kept (end bytes kind) b b′ → ItemDone F s beyond bytes l b (step.Missing place) b′
-    noad-lacks {place} lacks low kept = item-is (step.Missing place) (lacks, low, kept)
-
-    pub noad-done : {right : Neighbour} {r : lines.Line} {o₁ o₂ : ℕ} {x y z : parts.Part} {v : List ℕ} →
-        NoadSet (nextClass beyond (treeOf (drop (end bytes kind) bytes))) right l r o₁ o₂ b x y z v b′ →
-        ItemDone F s beyond bytes l b (step.Next (z .end) r) b′
-    noad-done {r = r} {z = z} q =
-        let f = q .fields in
-        let i = itemOf bytes (Fields kind) in
-        let M = setItem F s (nextClass beyond (treeOf (drop (end bytes kind) bytes))) (bareLine l) i in
-        let ends : z .end ≡ end bytes kind = f .wz .end-is in
-        item-is (step.Next (z .end) r) (
-          third-lacks (f .noad) (f .wx .present) (f .wy .present) (f .wz .present),
-          ends,
-          subst (λ (n : ℕ). Added (itemFits F s i) M n l b r b′) (sym ends) (noad-added q),
-        )
+  pub noad-done : {right : Neighbour} {r : lines.Line} {o₁ o₂ : ℕ} {x y z : parts.Part} {v : List ℕ} →
+      NoadSet F (l .style) kind bytes (nextClass (l .style) beyond (treeOf (drop (end bytes kind) bytes))) right l r o₁ o₂ b x y z v b′ →
+      ItemDone F beyond bytes l b (step.Next (z .end) r) b′
+  unfolding styleBehind
+  noad-done {r = r} {z = z} q =
+      let f = q .fields in
+      let i = itemOf bytes (Fields kind) in
+      let M = setItem F (classBehind (l .style) beyond bytes (Fields kind)) (bareLine l) i in
+      let ends : z .end ≡ end bytes kind = f .wz .end-is in
+      item-as F beyond bytes l b b′ opens (step.Next (z .end) r) (
+        third-lacks F (l .style) kind bytes (f .noad) (f .wx .present) (f .wy .present) (f .wz .present),
+        ends,
+        subst (λ (n : ℕ). Added (itemFits F (l .style) i) M n l b r b′) (sym ends) (noad-added F (l .style) kind bytes q),
+      )

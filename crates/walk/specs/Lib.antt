@@ -4,3 +4,4 @@ pub mod Values
 pub mod Bounds
 pub mod Walked
 pub mod WalkedLaws
+pub mod Seen

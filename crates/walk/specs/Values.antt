@@ -1,7 +1,7 @@
 -- What the values of the walk's code stand for in the definition.
 --     symbolAs, soughtAs     a symbol that was looked for
 --     PartIs                 a field that has been set alone
---     bareLine               a line, but for its nodes: the code knows how many there are and how far they reach
+--     bareIn, bareLine       a line, but for its nodes: the code knows how many there are and how far they reach
 --     lineFits               whether a line keeps within the greatest length, and so do all lists in it
 -- Assumes nothing.
 use mathlib.Core.Path.{_≡_}
@@ -10,6 +10,7 @@ use mathlib.Core.List.{[]}
 use mathlib.Core.Option.{Option, none, some}
 use Rattle.font.specs.Values.{metricsAs}
 use Rattle.spacing.specs.Values.{neighbourAs}
+use Rattle.boxes.specs.declared.styles.Style.{Style}
 use Rattle.boxes.specs.Values.{sizeAs, shapeAs}
 use Rattle.nodes.specs.Hull.{hullFits}
 use Rattle.nodes.specs.Values.{hullOf, isLarge, RunIs}
@@ -32,8 +33,11 @@ pub record PartIs (x : Part) (c : parts.Part) : Type 0 where
   pub shape-is : shapeAs (c .shape) ≡ x .shape
   pub run-is : RunIs (x .nodes) (c .run)
 
+abbrev pub bareIn : Style → lines.Line → Line
+bareIn s c = record { left = neighbourAs (c .left); style = s; box = record { size = sizeAs (c .size); nodes = [] } }
+
 abbrev pub bareLine : lines.Line → Line
-bareLine c = record { left = neighbourAs (c .left); box = record { size = sizeAs (c .size); nodes = [] } }
+bareLine c = bareIn (c .style) c
 
 abbrev pub lineFits : lines.Line → Bool
 lineFits c = (not (isLarge (c .run)) && hullFits (hullOf (c .run))) && sizeFits (sizeAs (c .size))

@@ -6,7 +6,7 @@
 -- bytes in what was to be set (`Kept`).
 -- Assumes nothing.
 use mathlib.Core.Path.{_≡_}
-use mathlib.Core.Bool.{Bool, true, not, _||_}
+use mathlib.Core.Bool.{Bool, true, not, _&&_, _||_}
 use mathlib.Core.List.{List, [], _∷_}
 use mathlib.Core.Option.{none, some}
 use Prim.Native.Nat.{ℕ, _+_, _-_, _^_, _≤_, _<_}
@@ -18,7 +18,8 @@ use Rattle.font.specs.Table.{goodTable}
 use Rattle.font.specs.Font.{Font, fontOf}
 use Rattle.formula.specs.declared.Class.{Class}
 use Rattle.formula.specs.declared.Kind.{Kind}
-use Rattle.formula.specs.declared.Opening.the-variants.{Fields}
+use Rattle.formula.specs.declared.Opening.{Opening}
+use Rattle.formula.specs.declared.Opening.the-variants.{Choice}
 use Rattle.formula.specs.Tree.{Items, Item, Field}
 use Rattle.formula.specs.Heads.{openingOf}
 use Rattle.formula.specs.Places.{Readable, treeOf, fieldEnd, fieldIn, itemSize, itemOf, GoodFieldAt}
@@ -45,8 +46,8 @@ use Rattle.nodes.specs.Drawn.{Drawn}
 use Rattle.nodes.specs.Kept.{Kept}
 use Rattle.nodes.specs.Hull.{Hull, none as unreached, joined, movedHull, hull, HullWithin}
 use Rattle.nodes.specs.Values.{hullOf, isLarge, RunIs, EmptyRun, JoinedRun}
-use Rattle.setting.specs.Setting.{Line, start, ruleNode, ruleNodes, nextClass, setField, setItem, setItems, setList}
-use Rattle.setting.specs.Missing.{missingField, missingItem, missingItems}
+use Rattle.setting.specs.Setting.{Line, start, ruleNode, ruleNodes, styleAfter, styleBehind, nextClass, setField, setItem, setItems, setList}
+use Rattle.setting.specs.Missing.{later, missingField, missingItem, missingItems}
 use Rattle.setting.specs.Fitting.{fieldFits, itemFits, itemsFit}
 use Rattle.walk.specs.declared.parts.Part as parts
 use Rattle.walk.specs.declared.parts.FieldSet.{FieldSet}
@@ -57,6 +58,8 @@ use Rattle.walk.specs.declared.lists.ItemsSet.{ItemsSet}
 use Rattle.walk.specs.declared.lists.ItemsSet.the-variants as items
 use Rattle.walk.specs.declared.lists.ItemSet.{ItemSet}
 use Rattle.walk.specs.declared.lists.ItemSet.the-variants as step
+use Rattle.walk.specs.declared.lists.StretchSet.{StretchSet}
+use Rattle.walk.specs.declared.lists.StretchSet.the-variants as stretch
 use Rattle.walk.specs.Values.{PartIs, bareLine, lineFits}
 use Rattle.walk.specs.Bounds.{longest, LineWithin}
 
@@ -90,8 +93,9 @@ FieldDone F s enlarge f at end b (field.Missing place) b′ =
 
 -- ---- a line
 
-pub record StartLine (c : lines.Line) : Type 0 where
+pub record StartLine (s : Style) (c : lines.Line) : Type 0 where
   pub left-is : c .left ≡ End
+  pub style-is : c .style ≡ s
   pub size-is : sizeAs (c .size) ≡ zeroSize
   pub run-is : EmptyRun (c .run)
 
@@ -102,7 +106,15 @@ widened n z = record { width = z .width +ℤ n; height = z .height; depth = z .d
 -- a line with a kern behind it
 pub record KernedLine (l : lines.Line) (n : ℤ) (c : lines.Line) : Type 0 where
   pub left-is : c .left ≡ l .left
+  pub style-is : c .style ≡ l .style
   pub size-is : sizeAs (c .size) ≡ widened n (sizeAs (l .size))
+  pub run-is : c .run ≡ l .run
+
+-- a line with another style from there on
+pub record StyledLine (l : lines.Line) (s : Style) (c : lines.Line) : Type 0 where
+  pub left-is : c .left ≡ l .left
+  pub style-is : c .style ≡ s
+  pub size-is : c .size ≡ l .size
   pub run-is : c .run ≡ l .run
 
 -- the size a, and b at x
@@ -124,6 +136,7 @@ pub record ItemGoes (l : lines.Line) (x : ℤ) (z : CodeSize) (r : Run) : Type 0
 
 pub record ExtendedLine (l : lines.Line) (class : Class) (x : ℤ) (z : CodeSize) (r : Run) (c : lines.Line) : Type 0 where
   pub left-is : c .left ≡ Atom class
+  pub style-is : c .style ≡ l .style
   pub size-is : SizesBeside (l .size) x z (c .size)
   pub run-is : JoinedRun (l .run) r (c .run)
 
@@ -248,6 +261,7 @@ pub record Finished (P : Parameters) (s : Style) (kind : Kind) (right : Neighbou
   pub arranged-is : arranged ≡ arrange P s kind (shapeAs (a .shape)) (shapeAs (b .shape)) (shapeAs (c .shape))
   pub x-is : x ≡ l .size .width .0 +ℤ spaceBefore P s (neighbourAs (l .left)) class
   pub left-is : r .left ≡ Atom class
+  pub style-is : r .style ≡ l .style
   pub size-is : sizeAs (r .size) ≡ besideSize x (sizeAs (l .size)) (arranged .size)
   pub count-is : r .run .count ≡ l .run .count + itemCount x arranged (a .run .count) (b .run .count) (c .run .count)
   pub large-is : isLarge (r .run) ≡ (isLarge (l .run) || (isLarge (a .run) || isLarge (b .run) || isLarge (c .run)))
@@ -270,9 +284,9 @@ pub record ItemsGiven (t : List ℕ) (p : List (List ℕ)) (s : List ℕ) (l : l
   pub small : LineWithin (longest - length s) l
 
 -- and what opens at its head
-pub record NoadGiven (t : List ℕ) (p : List (List ℕ)) (s : List ℕ) (kind : Kind) (l : lines.Line) : Type 0 where
+pub record OpenedGiven (t : List ℕ) (p : List (List ℕ)) (s : List ℕ) (o : Opening) (l : lines.Line) : Type 0 where
   pub items : ItemsGiven t p s l
-  pub opens : openingOf s ≡ Fields kind
+  pub opens : openingOf s ≡ o
 
 -- a field at a place of its item
 pub record FieldGiven (t : List ℕ) (p : List (List ℕ)) (s : List ℕ) (at : ℕ) : Type 0 where
@@ -285,12 +299,13 @@ pub record FieldGiven (t : List ℕ) (p : List (List ℕ)) (s : List ℕ) (at : 
 -- ---- the setters: what they come to
 
 -- what was set of so many bytes has gone behind the line l, which is now r, and into the buffer; M is the line that the
--- definition makes of it behind l without nodes
+-- definition makes of it behind l without nodes. The style is M's whether or not it fits: what is missing behind it goes by that
 pub record Added (fits : Bool) (M : Line) (bytes : ℕ) (l : lines.Line) (b : List ℕ) (r : lines.Line) (b′ : List ℕ) : Type 0 where
   pub large-is : isLarge (r .run) ≡ (isLarge (l .run) || not fits)
   pub more : l .run .count ≤ r .run .count
   pub few : r .run .count ≤ l .run .count + bytes
   pub grows : (k : ℕ) → LineWithin k l → LineWithin (k + bytes) r
+  pub style-is : r .style ≡ M .style
   pub left-is : fits ≡ true → neighbourAs (r .left) ≡ M .left
   pub size-is : fits ≡ true → sizeAs (r .size) ≡ M .box .size
   pub count-is : fits ≡ true → r .run .count ≡ l .run .count + length (M .box .nodes)
@@ -298,31 +313,72 @@ pub record Added (fits : Bool) (M : Line) (bytes : ℕ) (l : lines.Line) (b : Li
   pub drawn : fits ≡ true → Drawn (M .box .nodes) b b′
   pub kept : Kept bytes b b′
 
-abbrev pub ItemsDone : Font → Style → Neighbour → Items → ℕ → lines.Line → List ℕ → ItemsSet → List ℕ → Type 0
-ItemsDone F s beyond l bytes line b (items.Whole r) b′ =
-    (missingItems F s l ≡ none) × Added (itemsFit F s l) (setItems F s beyond (bareLine line) l) bytes line b r b′
-ItemsDone F s beyond l bytes line b (items.Missing place) b′ =
-    (missingItems F s l ≡ some place) × (place ≤ bytes) × Kept bytes b b′
+abbrev pub ItemsDone : Font → Neighbour → Items → ℕ → lines.Line → List ℕ → ItemsSet → List ℕ → Type 0
+ItemsDone F beyond l bytes line b (items.Whole r) b′ =
+    (missingItems F (line .style) l ≡ none)
+    × Added (itemsFit F (line .style) l) (setItems F beyond (bareLine line) l) bytes line b r b′
+ItemsDone F beyond l bytes line b (items.Missing place) b′ =
+    (missingItems F (line .style) l ≡ some place) × (place ≤ bytes) × Kept bytes b b′
 
-abbrev pub ItemSetDone : Font → Style → Neighbour → Item → ℕ → lines.Line → List ℕ → ItemSet → List ℕ → Type 0
-ItemSetDone F s right i bytes line b (step.Next n r) b′ =
-    (missingItem F s i ≡ none) × (n ≡ bytes) × Added (itemFits F s i) (setItem F s right (bareLine line) i) n line b r b′
-ItemSetDone F s right i bytes line b (step.Missing place) b′ =
-    (missingItem F s i ≡ some place) × (place ≤ bytes) × Kept bytes b b′
+-- the class of the atom that follows the item that opens with o at the head of some bytes, behind a line of the style s
+abbrev pub classBehind : Style → Neighbour → List ℕ → Opening → Neighbour
+classBehind s beyond bytes o =
+    nextClass (styleBehind s (itemOf bytes o)) beyond (treeOf (drop (itemSize bytes o) bytes))
 
--- the item at the head of some bytes, and the class of the atom that follows
-abbrev pub ItemDone : Font → Style → Neighbour → List ℕ → lines.Line → List ℕ → ItemSet → List ℕ → Type 0
-ItemDone F s beyond bytes line b r b′ =
-    let o = openingOf bytes in
-    let n = itemSize bytes o in
-    ItemSetDone F s (nextClass beyond (treeOf (drop n bytes))) (itemOf bytes o) n line b r b′
+-- that item; a choice is left alone
+abbrev pub OpenedDone : Font → Neighbour → List ℕ → Opening → lines.Line → List ℕ → ItemSet → List ℕ → Type 0
+OpenedDone F beyond bytes o line b (step.Next n r) b′ =
+    (missingItem F (line .style) (itemOf bytes o) ≡ none)
+    × (n ≡ itemSize bytes o)
+    × Added (itemFits F (line .style) (itemOf bytes o))
+    (setItem F (classBehind (line .style) beyond bytes o) (bareLine line) (itemOf bytes o)) n line b r b′
+OpenedDone F beyond bytes o line b (step.Missing place) b′ =
+    (missingItem F (line .style) (itemOf bytes o) ≡ some place) × (place ≤ itemSize bytes o) × Kept (itemSize bytes o) b b′
+OpenedDone F beyond bytes o line b step.AtChoice b′ = (o ≡ Choice) × (b′ ≡ b)
+
+abbrev pub ItemDone : Font → Neighbour → List ℕ → lines.Line → List ℕ → ItemSet → List ℕ → Type 0
+ItemDone F beyond bytes line b r b′ = OpenedDone F beyond bytes (openingOf bytes) line b r b′
+
+-- the items before a place of a list have been set, behind the line l₀, which is now l, and b₀ is now b: what is missing, what fits, the
+-- style and the line of the whole go on from there
+pub record Along (F : Font) (beyond : Neighbour) (s : List ℕ) (l₀ : lines.Line) (b₀ : List ℕ) (at : ℕ) (l : lines.Line) (b : List ℕ) : Type 0 where
+  pub fits : Bool
+  pub line : Line
+  pub low : at ≤ length s
+  pub rest : Readable (drop at s)
+  pub lacks : missingItems F (l₀ .style) (treeOf s) ≡ later at (missingItems F (l .style) (treeOf (drop at s)))
+  pub all-fit : itemsFit F (l₀ .style) (treeOf s) ≡ (fits && itemsFit F (l .style) (treeOf (drop at s)))
+  pub style-is : styleAfter (l₀ .style) (treeOf s) ≡ styleAfter (l .style) (treeOf (drop at s))
+  pub sets : fits ≡ true → setItems F beyond (bareLine l₀) (treeOf s) ≡ setItems F beyond line (treeOf (drop at s))
+  pub added : Added fits line at l₀ b₀ l b
+
+-- a choice, or nothing, stands at a place of a list
+abbrev pub StopsAt : List ℕ → ℕ → Type 0
+StopsAt s at = at < length s → openingOf (drop at s) ≡ Choice
+
+-- the first items of a list, up to a choice
+abbrev pub StretchDone : Font → Neighbour → List ℕ → lines.Line → List ℕ → StretchSet → List ℕ → Type 0
+StretchDone F beyond s line b (stretch.UpTo n l) b′ = Along F beyond s line b n l b′ × StopsAt s n
+StretchDone F beyond s line b (stretch.Missing place) b′ =
+    ItemsDone F beyond (treeOf s) (length s) line b (items.Missing place) b′
+
+-- there are some
+abbrev pub Onward : StretchSet → Type 0
+Onward (stretch.UpTo n l) = 0 < n
+Onward (stretch.Missing place) = Unit {0}
+
+-- the choice at the head of some bytes
+abbrev pub ChoiceDone : Font → Neighbour → List ℕ → lines.Line → List ℕ → StretchSet → List ℕ → Type 0
+ChoiceDone F beyond bytes line b (stretch.UpTo n r) b′ = ItemDone F beyond bytes line b (step.Next n r) b′
+ChoiceDone F beyond bytes line b (stretch.Missing place) b′ = ItemDone F beyond bytes line b (step.Missing place) b′
 
 -- a list at its own reference point
 pub record ListWhole (F : Font) (s : Style) (l : Items) (bytes : ℕ) (c : lines.Line) : Type 0 where
   pub present : missingItems F s l ≡ none
   pub large-is : isLarge (c .run) ≡ not (itemsFit F s l)
   pub count : c .run .count ≤ bytes
-  pub left-is : itemsFit F s l ≡ true → neighbourAs (c .left) ≡ setItems F s none start l .left
+  pub style-is : c .style ≡ setItems F none (start s) l .style
+  pub left-is : itemsFit F s l ≡ true → neighbourAs (c .left) ≡ setItems F none (start s) l .left
   pub size-is : itemsFit F s l ≡ true → sizeAs (c .size) ≡ setList F s l .size
   pub run-is : itemsFit F s l ≡ true → RunIs (setList F s l .nodes) (c .run)
 

@@ -27,7 +27,7 @@ use Rattle.setting.specs.Fitting.{sizeFits, boxFits, itemsFit}
 use Rattle.walk.specs.declared.lines.Line as lines
 use Rattle.walk.specs.declared.lists.ItemsSet.{ItemsSet}
 use Rattle.walk.specs.declared.lists.ItemsSet.the-variants as items
-use Rattle.walk.specs.Values.{bareLine, lineFits}
+use Rattle.walk.specs.Values.{bareIn, bareLine, lineFits}
 use Rattle.walk.specs.Bounds.{LineWithin}
 use Rattle.walk.specs.Walked.{StartLine, ItemsDone, ListWhole, ListDone}
 
@@ -51,12 +51,13 @@ line-fits {F} {s} {l} {c = c} w = go (itemsFit F s l) refl
 
 -- ---- an empty line
 
-pub bare-start : {c : lines.Line} → StartLine c → bareLine c ≡ start
-bare-start o =
-    ap₂ (λ (m : Neighbour) (z : Size). record { left = m; box = record { size = z; nodes = [] } }) (ap neighbourAs (o .left-is)) (o .size-is)
+pub bare-start : {s : Style} {c : lines.Line} → StartLine s c → bareLine c ≡ start s
+bare-start {s} {c} o =
+    ap (λ (t : Style). bareIn t c) (o .style-is)
+    ∙ ap₂ (λ (m : Neighbour) (z : Size). record { left = m; style = s; box = record { size = z; nodes = [] } }) (ap neighbourAs (o .left-is)) (o .size-is)
 
-pub start-within : (k : ℕ) {c : lines.Line} → StartLine c → LineWithin k c
-start-within k {c} o =
+pub start-within : (k : ℕ) {s : Style} {c : lines.Line} → StartLine s c → LineWithin k c
+start-within k o =
     let none-there = o .run-is .count-is in
     record {
       width = zero _ (ap (λ (z : Size). z .width) (o .size-is));
@@ -69,24 +70,27 @@ start-within k {c} o =
     zero : (k : ℕ) {z : ℤ} → z ≡ pos 0 → Within k z
     zero k e = rw e (omega arith)
 
-pub list-of-items : (F : Font) (s : Style) (l : Items) (n : ℕ) {c : lines.Line} (b b′ : List ℕ) (r : ItemsSet) → StartLine c →
-    ItemsDone F s none l n c b r b′ → ListDone F s l n b r b′
+pub list-of-items : (F : Font) {s : Style} (l : Items) (n : ℕ) {c : lines.Line} (b b′ : List ℕ) (r : ItemsSet) → StartLine s c →
+    ItemsDone F none l n c b r b′ → ListDone F s l n b r b′
 unfolding setList joined
-list-of-items F s l n {c} b b′ (items.Whole r) o (present, a) =
-    let like : setItems F s none (bareLine c) l ≡ setItems F s none start l = ap (λ (m : Line). setItems F s none m l) (bare-start o) in
+list-of-items F {s} l n {c} b b′ (items.Whole r) o (present, a) =
+    let here = o .style-is in
+    let like : setItems F none (bareLine c) l ≡ setItems F none (start s) l = ap (λ (m : Line). setItems F none m l) (bare-start o) in
+    let fits : itemsFit F s l ≡ true → itemsFit F (c .style) l ≡ true = λ h. ap (λ (t : Style). itemsFit F t l) here ∙ h in
     let few = a .grows 0 (start-within 0 o) .count in
     let none-there = o .run-is .count-is in (
       record {
-        present = present;
-        large-is = a .large-is ∙ rw (o .run-is .large-is);
+        present = rw here at present;
+        large-is = a .large-is ∙ rw (o .run-is .large-is, here);
         count = omega arith;
-        left-is = λ h. a .left-is h ∙ ap (λ (m : Line). m .left) like;
-        size-is = λ h. a .size-is h ∙ ap (λ (m : Line). m .box .size) like;
+        style-is = a .style-is ∙ ap (λ (m : Line). m .style) like;
+        left-is = λ h. a .left-is (fits h) ∙ ap (λ (m : Line). m .left) like;
+        size-is = λ h. a .size-is (fits h) ∙ ap (λ (m : Line). m .box .size) like;
         run-is = λ h.
             subst (λ (m : Line). RunIs (m .box .nodes) (r .run)) like
-            (record { count-is = omega (arith, a .count-is h); hull-is = a .hull-is h ∙ rw (o .run-is .hull-is) });
+            (record { count-is = omega (arith, a .count-is (fits h)); hull-is = a .hull-is (fits h) ∙ rw (o .run-is .hull-is) });
       },
-      λ h. subst (λ (m : Line). Drawn (m .box .nodes) b b′) like (a .drawn h),
+      λ h. subst (λ (m : Line). Drawn (m .box .nodes) b b′) like (a .drawn (fits h)),
       a .kept,
     )
-list-of-items F s l n b b′ (items.Missing place) o d = d
+list-of-items F l n b b′ (items.Missing place) o d = rw (o .style-is) at d

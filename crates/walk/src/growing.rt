@@ -3,23 +3,25 @@
 ghost use Rattle.scaled.specs.Signed.{Within};
 ghost use Rattle.formula.specs.Heads.{greatestKern};
 ghost use Rattle.walk.specs.Bounds.{longest, LineWithin};
-ghost use Rattle.walk.specs.Walked.{StartLine, KernedLine, ItemGoes, ExtendedLine, ListPart, SizesGo, SizesBeside};
+ghost use Rattle.walk.specs.Walked.{StartLine, KernedLine, StyledLine, ItemGoes, ExtendedLine, ListPart, SizesGo, SizesBeside};
 use crate::lines::Line;
 use crate::lines::list_fits;
 use crate::parts::Part;
 use boxes::Shape;
 use boxes::Size;
+use boxes::styles::Style;
 use boxes::zero_size;
 use formula::Class;
 use nodes::run::Run;
 use scaled::Sp;
 use spacing::classes::Neighbour;
 
-pub fn start() -> Line
-    ensures { λ r. ⌜ StartLine r ⌝ }
+pub fn start(style: Style) -> Line
+    ensures { λ r. ⌜ StartLine style r ⌝ }
 {
     Line {
         left: Neighbour::End,
+        style,
         size: zero_size(),
         run: Run::empty(),
     }
@@ -31,11 +33,32 @@ pub fn kerned(line: Line, n: Sp) -> Line
     ensures { λ r. ⌜ KernedLine line (n .0) r ⌝ }
 {
     let left = line.left;
+    let style = line.style;
     let run = line.run;
     let mut size = line.size;
     let width = size.width;
     size.width = width.plus(n);
-    Line { left, size, run }
+    Line {
+        left,
+        style,
+        size,
+        run,
+    }
+}
+
+// The line with another style from there on.
+pub fn styled(line: Line, style: Style) -> Line
+    ensures { λ r. ⌜ StyledLine line style r ⌝ }
+{
+    let left = line.left;
+    let size = line.size;
+    let run = line.run;
+    Line {
+        left,
+        style,
+        size,
+        run,
+    }
 }
 
 // A box of a list with another that stands at x.
@@ -59,8 +82,10 @@ pub fn extended(line: Line, class: Class, x: Sp, size: Size, run: Run) -> Line
     ensures { λ r. ⌜ ExtendedLine line class (x .0) size run r ⌝ }
 {
     let before = line.run;
+    let style = line.style;
     Line {
         left: Neighbour::Atom(class),
+        style,
         size: beside(line.size, x, size),
         run: before.joined(run),
     }

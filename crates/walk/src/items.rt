@@ -15,7 +15,6 @@ use boxes::Offset;
 use boxes::Ruling;
 use boxes::Shape;
 use boxes::parameters::Parameters;
-use boxes::styles::Style;
 use formula::Class;
 use formula::Kind;
 use nodes::move_nodes;
@@ -37,7 +36,6 @@ pub struct Placing {
 // The item's class is changed between its neighbours, and space goes before it.
 fn placing_of(
     p: &Parameters,
-    style: Style,
     kind: Kind,
     right: Neighbour,
     line: Line,
@@ -46,9 +44,10 @@ fn placing_of(
     z: Shape,
 ) -> Placing
     requires { ⌜ LineWithin longest line × ModerateShape x × ModerateShape y × ModerateShape z ⌝ }
-    ensures { λ r. ⌜ PlacingIs (parametersIn (now (p .entry))) style kind (neighbourAs right) (neighbourAs (line .left)) (line .size .width .0) (definition.arrange (parametersIn (now (p .entry))) style kind (shapeAs x) (shapeAs y) (shapeAs z)) r ⌝ }
+    ensures { λ r. ⌜ PlacingIs (parametersIn (now (p .entry))) (line .style) kind (neighbourAs right) (neighbourAs (line .left)) (line .size .width .0) (definition.arrange (parametersIn (now (p .entry))) (line .style) kind (shapeAs x) (shapeAs y) (shapeAs z)) r ⌝ }
 {
     let left = line.left;
+    let style = line.style;
     let size = line.size;
     let width = size.width;
     let class = changed_class(left, class_of(kind), right);
@@ -110,7 +109,6 @@ fn put_item(x: Sp, arranged: Arranged, a: Run, b: Run, c: Run, buf: &mut [u8]) -
 // The line with an item behind it, whose three fields stand in buf as `put_item` has them.
 pub fn finished(
     p: &Parameters,
-    style: Style,
     kind: Kind,
     right: Neighbour,
     line: Line,
@@ -120,12 +118,12 @@ pub fn finished(
     buf: &mut [u8],
 ) -> Line
     requires { ⌜ FinishGiven line a b c ⌝ }
-    ensures { λ r. ⌜ Finished (parametersIn (now (p .entry))) style kind (neighbourAs right) line a b c r (now (buf .entry)) (now (buf .exit)) ⌝ }
+    ensures { λ r. ⌜ Finished (parametersIn (now (p .entry))) (line .style) kind (neighbourAs right) line a b c r (now (buf .entry)) (now (buf .exit)) ⌝ }
 {
     let first = a.shape;
     let second = b.shape;
     let third = c.shape;
-    let placing = placing_of(p, style, kind, right, line, first, second, third);
+    let placing = placing_of(p, kind, right, line, first, second, third);
     let class = placing.class;
     let x = placing.x;
     let arranged = placing.arranged;

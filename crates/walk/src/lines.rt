@@ -7,13 +7,15 @@ ghost use Rattle.nodes.specs.Hull.{hullFits};
 ghost use Rattle.nodes.specs.Values.{hullOf, isLarge};
 ghost use Rattle.setting.specs.Fitting.{sizeFits};
 use boxes::Size;
+use boxes::styles::Style;
 use nodes::run::Run;
 use nodes::run::within;
 use spacing::classes::Neighbour;
 
-// The class of the last atom, and the box so far.
+// The class of the last atom, the style, and the box so far.
 pub struct Line {
     pub left: Neighbour,
+    pub style: Style,
     pub size: Size,
     pub run: Run,
 }

@@ -1,4 +1,5 @@
-// The cycle: a list's setter calls the item's, that the field's, and that the list's.
+// The cycle: a list's setter calls the item's, that the field's, and that the list's. The list's setter goes from choice to choice, and
+// sets the items between them in a loop of their own; a choice is set as its taken list, behind the same line, by the list's setter.
 // The nodes of an item stand in the order of document 01: its own before the first field, that field, its own behind it, and
 // the other two fields. Each field is set into the front of the rest of the buffer; once all three are there the item is
 // arranged, its own nodes are put, and its fields' moved.
@@ -6,17 +7,22 @@
 ghost use Prim.Native.Nat.{_<_};
 ghost use lib.ListN.{length};
 ghost use Rattle.font.specs.Font.{fontOf};
+ghost use Rattle.formula.specs.declared.Opening.the-variants.{Fields, Choice};
 ghost use Rattle.formula.specs.Places as tree;
 ghost use Rattle.spacing.specs.Values.{neighbourAs};
-ghost use Rattle.walk.specs.Walked.{ListGiven, ItemsGiven, NoadGiven, FieldGiven, ListDone, ItemsDone, ItemDone, HeadDone};
+ghost use Rattle.walk.specs.Walked.{ListGiven, ItemsGiven, OpenedGiven, FieldGiven, ListDone, ItemsDone, StretchDone, Onward, ChoiceDone, ItemDone, HeadDone};
+use crate::current::restyled;
+use crate::current::taken_span;
 use crate::growing::kerned;
 use crate::growing::list_part;
 use crate::growing::start;
+use crate::growing::styled;
 use crate::items::finished;
 use crate::lines::Line;
 use crate::parts::FieldSet;
 use crate::parts::empty_part;
 use crate::parts::symbol_part;
+use crate::places::beyond_choice;
 use crate::places::right_of;
 use arrange::enlarges;
 use arrange::first_style;
@@ -28,10 +34,14 @@ use boxes::styles::Style;
 use formula::FieldHead;
 use formula::Kind;
 use formula::Opening;
+use formula::heads::CHOICE_LISTS;
 use formula::heads::KERN_BYTES;
+use formula::heads::RESTYLE_BYTES;
 use formula::heads::field_bytes;
 use formula::heads::field_head;
 use formula::heads::has_third;
+use formula::heads::is_empty;
+use formula::heads::list_place;
 use formula::heads::opening;
 use formula::heads::opening_bytes;
 use nodes::room;
@@ -43,9 +53,16 @@ pub enum ItemsSet {
     Missing(usize),
 }
 
-// How many bytes an item has, and the line with it; or the place in the item of its first missing symbol.
+// How many bytes an item has, and the line with it; or the place in the item of its first missing symbol. A choice is left alone.
 enum ItemSet {
     Next(usize, Line),
+    Missing(usize),
+    AtChoice,
+}
+
+// The line with the first items of a list, and how many bytes they have; or the place in the list of their first missing symbol.
+enum StretchSet {
+    UpTo(usize, Line),
     Missing(usize),
 }
 
@@ -54,33 +71,42 @@ pub fn set_list(table: &[u8], p: &Parameters, style: Style, s: &[u8], buf: &mut 
     requires { ⌜ ListGiven (now table) (now p) (now s) ⌝ }
     ensures { λ r. ⌜ ListDone (fontOf (now (table .entry))) style (tree.treeOf (now (s .entry))) (length (now (s .entry))) (now (buf .entry)) r (now (buf .exit)) ⌝ }
 {
-    set_items(table, p, style, Neighbour::End, s, start(), buf)
+    set_items(table, p, Neighbour::End, s, start(style), buf)
 }
 
 // Sets items behind what stands so far of a line; buf starts behind the nodes of that, and `beyond` is the class that follows.
 fn set_items(
     table: &[u8],
     p: &Parameters,
-    style: Style,
     beyond: Neighbour,
     s: &[u8],
     line: Line,
     buf: &mut [u8],
 ) -> ItemsSet
     requires { ⌜ ItemsGiven (now table) (now p) (now s) line ⌝ }
-    ensures { λ r. ⌜ ItemsDone (fontOf (now (table .entry))) style (neighbourAs beyond) (tree.treeOf (now (s .entry))) (length (now (s .entry))) line (now (buf .entry)) r (now (buf .exit)) ⌝ }
+    ensures { λ r. ⌜ ItemsDone (fontOf (now (table .entry))) (neighbourAs beyond) (tree.treeOf (now (s .entry))) (length (now (s .entry))) line (now (buf .entry)) r (now (buf .exit)) ⌝ }
 {
+    let first = set_stretch(table, p, beyond, s, line, buf);
     let mut at: usize = 0;
     let mut l = line;
+    match first {
+        StretchSet::UpTo(size, next) => {
+            at = size;
+            l = next;
+        }
+        StretchSet::Missing(place) => {
+            return ItemsSet::Missing(place);
+        }
+    }
     while at < s.len() {
         let j = room(l.run.count - line.run.count, buf.len());
-        let step = set_item(table, p, style, beyond, &s[at..], l, &mut buf[j..]);
+        let step = set_onward(table, p, beyond, &s[at..], l, &mut buf[j..]);
         match step {
-            ItemSet::Next(size, next) => {
+            StretchSet::UpTo(size, next) => {
                 at += size;
                 l = next;
             }
-            ItemSet::Missing(place) => {
+            StretchSet::Missing(place) => {
                 return ItemsSet::Missing(at + place);
             }
         }
@@ -88,24 +114,111 @@ fn set_items(
     ItemsSet::Whole(l)
 }
 
+// Sets the choice at the head of s, and the items behind it up to the next choice.
+fn set_onward(
+    table: &[u8],
+    p: &Parameters,
+    beyond: Neighbour,
+    s: &[u8],
+    line: Line,
+    buf: &mut [u8],
+) -> StretchSet
+    requires { ⌜ OpenedGiven (now table) (now p) (now s) Choice line ⌝ }
+    ensures { λ r. ⌜ StretchDone (fontOf (now (table .entry))) (neighbourAs beyond) (now (s .entry)) line (now (buf .entry)) r (now (buf .exit)) × Onward r ⌝ }
+{
+    let taken = set_choice(table, p, beyond, s, line, buf);
+    match taken {
+        StretchSet::UpTo(end, next) => {
+            let j = room(next.run.count - line.run.count, buf.len());
+            let rest = set_stretch(table, p, beyond, &s[end..], next, &mut buf[j..]);
+            match rest {
+                StretchSet::UpTo(size, last) => StretchSet::UpTo(end + size, last),
+                StretchSet::Missing(place) => StretchSet::Missing(end + place),
+            }
+        }
+        StretchSet::Missing(place) => StretchSet::Missing(place),
+    }
+}
+
+// Sets items up to the first choice.
+fn set_stretch(
+    table: &[u8],
+    p: &Parameters,
+    beyond: Neighbour,
+    s: &[u8],
+    line: Line,
+    buf: &mut [u8],
+) -> StretchSet
+    requires { ⌜ ItemsGiven (now table) (now p) (now s) line ⌝ }
+    ensures { λ r. ⌜ StretchDone (fontOf (now (table .entry))) (neighbourAs beyond) (now (s .entry)) line (now (buf .entry)) r (now (buf .exit)) ⌝ }
+{
+    let mut at: usize = 0;
+    let mut l = line;
+    while at < s.len() {
+        let j = room(l.run.count - line.run.count, buf.len());
+        let step = set_item(table, p, beyond, &s[at..], l, &mut buf[j..]);
+        match step {
+            ItemSet::Next(size, next) => {
+                at += size;
+                l = next;
+            }
+            ItemSet::Missing(place) => {
+                return StretchSet::Missing(at + place);
+            }
+            ItemSet::AtChoice => {
+                return StretchSet::UpTo(at, l);
+            }
+        }
+    }
+    StretchSet::UpTo(at, l)
+}
+
 // Sets the item at the head of s behind what stands so far.
 fn set_item(
     table: &[u8],
     p: &Parameters,
-    style: Style,
     beyond: Neighbour,
     s: &[u8],
     line: Line,
     buf: &mut [u8],
 ) -> ItemSet
     requires { ⌜ ItemsGiven (now table) (now p) (now s) line × (0 < length (now s)) ⌝ }
-    ensures { λ r. ⌜ ItemDone (fontOf (now (table .entry))) style (neighbourAs beyond) (now (s .entry)) line (now (buf .entry)) r (now (buf .exit)) ⌝ }
+    ensures { λ r. ⌜ ItemDone (fontOf (now (table .entry))) (neighbourAs beyond) (now (s .entry)) line (now (buf .entry)) r (now (buf .exit)) ⌝ }
 {
     let o = opening(s);
     match o {
         Opening::NoItem => ItemSet::Missing(0), // not in a list that reads
-        Opening::Fields(kind) => set_noad(table, p, style, kind, beyond, s, line, buf),
+        Opening::Fields(kind) => set_noad(table, p, kind, beyond, s, line, buf),
         Opening::Kern(n) => ItemSet::Next(KERN_BYTES, kerned(line, n)),
+        Opening::Restyle(number) => {
+            ItemSet::Next(RESTYLE_BYTES, styled(line, restyled(line.style, number)))
+        }
+        Opening::Choice => ItemSet::AtChoice,
+    }
+}
+
+// Sets the list that a choice's style takes behind the same line.
+fn set_choice(
+    table: &[u8],
+    p: &Parameters,
+    beyond: Neighbour,
+    s: &[u8],
+    line: Line,
+    buf: &mut [u8],
+) -> StretchSet
+    requires { ⌜ OpenedGiven (now table) (now p) (now s) Choice line ⌝ }
+    ensures { λ r. ⌜ ChoiceDone (fontOf (now (table .entry))) (neighbourAs beyond) (now (s .entry)) line (now (buf .entry)) r (now (buf .exit)) ⌝ }
+{
+    let style = line.style;
+    let taken = taken_span(style, s);
+    let first = taken.first;
+    let last = taken.end;
+    let end = list_place(s, CHOICE_LISTS);
+    let right = beyond_choice(style, beyond, &s[first..last], &s[end..]);
+    let set = set_items(table, p, right, &s[first..last], line, buf);
+    match set {
+        ItemsSet::Whole(next) => StretchSet::UpTo(end, next),
+        ItemsSet::Missing(place) => StretchSet::Missing(first + place),
     }
 }
 
@@ -113,16 +226,16 @@ fn set_item(
 fn set_noad(
     table: &[u8],
     p: &Parameters,
-    style: Style,
     kind: Kind,
     beyond: Neighbour,
     s: &[u8],
     line: Line,
     buf: &mut [u8],
 ) -> ItemSet
-    requires { ⌜ NoadGiven (now table) (now p) (now s) kind line ⌝ }
-    ensures { λ r. ⌜ ItemDone (fontOf (now (table .entry))) style (neighbourAs beyond) (now (s .entry)) line (now (buf .entry)) r (now (buf .exit)) ⌝ }
+    requires { ⌜ OpenedGiven (now table) (now p) (now s) (Fields kind) line ⌝ }
+    ensures { λ r. ⌜ ItemDone (fontOf (now (table .entry))) (neighbourAs beyond) (now (s .entry)) line (now (buf .entry)) r (now (buf .exit)) ⌝ }
 {
+    let style = line.style;
     let own = own_counts(p, style, kind);
     let i = room(own.before, buf.len());
     let first = first_style(kind, style);
@@ -158,12 +271,32 @@ fn set_noad(
         }
     };
     let end = c.end;
-    let right = right_of(kind, beyond, &s[end..]);
-    ItemSet::Next(end, finished(p, style, kind, right, line, a, b, c, buf))
+    let right = right_of(kind, style, beyond, &s[end..]);
+    ItemSet::Next(end, finished(p, kind, right, line, a, b, c, buf))
 }
 
-// Sets the field whose kind byte stands at `at` of its item alone, at its own reference point, into the front of buf.
+// Sets the field whose kind byte stands at `at` of its item alone, at its own reference point, into the front of buf. Most are
+// empty.
 fn set_field(
+    table: &[u8],
+    p: &Parameters,
+    style: Style,
+    enlarge: bool,
+    s: &[u8],
+    at: usize,
+    buf: &mut [u8],
+) -> FieldSet
+    requires { ⌜ FieldGiven (now table) (now p) (now s) at ⌝ }
+    ensures { λ r. ⌜ HeadDone (fontOf (now (table .entry))) style enlarge (now (s .entry)) at (now (buf .entry)) r (now (buf .exit)) ⌝ }
+{
+    if is_empty(&s[at..]) {
+        return FieldSet::Whole(empty_part(at + 1));
+    }
+    set_given(table, p, style, enlarge, s, at, buf)
+}
+
+// Sets a field whatever it is.
+fn set_given(
     table: &[u8],
     p: &Parameters,
     style: Style,
@@ -185,15 +318,7 @@ fn set_field(
         }
         FieldHead::Sublist(opening, _) => {
             let first = at + opening;
-            let l = set_items(
-                table,
-                p,
-                style,
-                Neighbour::End,
-                &s[first..end],
-                start(),
-                buf,
-            );
+            let l = set_items(table, p, Neighbour::End, &s[first..end], start(style), buf);
             match l {
                 ItemsSet::Whole(line) => FieldSet::Whole(list_part(end, line)),
                 ItemsSet::Missing(place) => FieldSet::Missing(first + place),

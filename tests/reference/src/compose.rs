@@ -79,3 +79,12 @@ pub fn fraction(bar: u8, numerator: &[u8], denominator: &[u8]) -> Vec<u8> {
 pub fn kern(length: i32) -> Vec<u8> {
     [b"KN", &length.to_le_bytes()[..]].concat()
 }
+
+pub fn style(number: u8) -> Vec<u8> {
+    [b"ST", &[number][..]].concat()
+}
+
+/// A choice by style; the fields, which should be lists, are for D, T, S, SS.
+pub fn choice(fields: [&[u8]; 4]) -> Vec<u8> {
+    [b"C4", &fields.concat()[..]].concat()
+}

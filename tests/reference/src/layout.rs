@@ -29,16 +29,16 @@ impl<'a, P: Pen> Layout<'a, P> {
     }
 
     pub fn list(&mut self, list: List, style: Style) -> Result<MathBox, Refusal> {
-        let font = self.table.parameters(style.size());
         let start = self.pen.count();
         let mut row = MathBox::default();
         let mut left = None;
-        let mut items = self.formula.items(list);
-        while let Some(item) = items.next() {
+        let mut items = self.formula.items(list, style);
+        while let Some((item, style)) = items.next() {
             if let Some(class) = item.class() {
-                let next_class = || items.clone().find_map(Item::class);
+                let next_class = || items.clone().find_map(|(item, _)| item.class());
                 let class = spacing::settled(class, left, next_class);
                 if let Some(left) = left {
+                    let font = self.table.parameters(style.size());
                     row.width += spacing::space(left, class, style, font);
                 }
                 left = Some(class);

@@ -1,6 +1,7 @@
 //! From bytes to a tree: which formulas can be read, and what they hold.
 
 use crate::answer::Refusal;
+use crate::style::Style;
 
 /// The most bytes a formula may have.
 pub const FORMULA_LIMIT: usize = 4096;
@@ -9,8 +10,8 @@ pub const DEPTH_LIMIT: usize = 16;
 
 pub(crate) const KERN_LIMIT: i32 = 8_388_607;
 
-/// The bytes of the shortest item, a line without fields.
-const LEAST_ITEM: usize = 5;
+/// The bytes of the shortest item, a change of style.
+const LEAST_ITEM: usize = 3;
 
 // Places and indices are kept in 32 bits.
 const _: () = assert!(FORMULA_LIMIT < u32::MAX as usize);
@@ -51,6 +52,7 @@ pub enum Line {
     Under,
 }
 
+/// An item that has a place of its own in the row.
 #[derive(Clone, Copy, Debug)]
 pub enum Item {
     Atom {
@@ -120,10 +122,27 @@ pub struct List {
 
 #[derive(Clone, Copy, Debug)]
 struct Entry {
-    item: Item,
-    /// The entry after all that this item holds.
+    content: Content,
+    /// The entry after all that this one holds.
     next: u32,
 }
+
+#[derive(Clone, Copy, Debug)]
+enum Content {
+    Item(Item),
+    /// ST: holds from here on.
+    Style(Style),
+    /// C4: where each of its lists, for D, T, S and SS, begins.
+    Choice([u32; 4]),
+    /// Behind each list of a C4; the next entry is the one behind that C4.
+    EndOfChoice,
+}
+
+/// Stands for an entry until that is known.
+const UNREAD: Entry = Entry {
+    content: Content::EndOfChoice,
+    next: 0,
+};
 
 /// A formula that was read: its items in reading order.
 pub struct Formula {
@@ -147,33 +166,41 @@ impl Formula {
         })
     }
 
-    pub fn items(&self, list: List) -> Items<'_> {
+    pub fn items(&self, list: List, style: Style) -> Items<'_> {
         Items {
             entries: &self.entries,
             at: list.first,
             end: list.end,
+            style,
         }
     }
 }
 
-/// The items of one list, without those inside them.
+/// The items of one list, without those inside them, each with the style
+/// current at it. What a C4 takes stands in its place.
 #[derive(Clone)]
 pub struct Items<'a> {
     entries: &'a [Entry],
     at: u32,
     end: u32,
+    style: Style,
 }
 
 impl<'a> Iterator for Items<'a> {
-    type Item = &'a Item;
+    type Item = (&'a Item, Style);
 
-    fn next(&mut self) -> Option<&'a Item> {
-        if self.at == self.end {
-            return None;
+    fn next(&mut self) -> Option<(&'a Item, Style)> {
+        while self.at != self.end {
+            let entry = &self.entries[self.at as usize];
+            self.at = entry.next;
+            match &entry.content {
+                Content::Item(item) => return Some((item, self.style)),
+                Content::Style(style) => self.style = *style,
+                Content::Choice(lists) => self.at = lists[self.style.without_prime()],
+                Content::EndOfChoice => {}
+            }
         }
-        let entry = &self.entries[self.at as usize];
-        self.at = entry.next;
-        Some(&entry.item)
+        None
     }
 }
 
@@ -217,25 +244,24 @@ impl Reader<'_> {
     /// An item's entry comes before those of the lists in it.
     fn entry(&mut self, cursor: &mut Cursor) -> Result<(), Refusal> {
         let index = self.entries.len();
-        self.entries.push(Entry {
-            item: Item::Kern(0),
-            next: 0,
-        });
-        let item = self.item(cursor)?;
+        self.entries.push(UNREAD);
+        let content = self.content(cursor)?;
         let next = self.entries.len() as u32;
-        self.entries[index] = Entry { item, next };
+        self.entries[index] = Entry { content, next };
         Ok(())
     }
 
-    fn item(&mut self, cursor: &mut Cursor) -> Result<Item, Refusal> {
-        match &self.take::<2>(cursor)? {
-            b"AT" => self.atom(cursor),
-            b"OV" => self.lined(Line::Over, cursor),
-            b"UN" => self.lined(Line::Under, cursor),
-            b"FR" => self.fraction(cursor),
-            b"KN" => self.kern(cursor),
-            _ => Err(cursor.fault()),
-        }
+    fn content(&mut self, cursor: &mut Cursor) -> Result<Content, Refusal> {
+        Ok(match &self.take::<2>(cursor)? {
+            b"AT" => Content::Item(self.atom(cursor)?),
+            b"OV" => Content::Item(self.lined(Line::Over, cursor)?),
+            b"UN" => Content::Item(self.lined(Line::Under, cursor)?),
+            b"FR" => Content::Item(self.fraction(cursor)?),
+            b"KN" => Content::Item(self.kern(cursor)?),
+            b"ST" => Content::Style(self.style(cursor)?),
+            b"C4" => Content::Choice(self.choice(cursor)?),
+            _ => return Err(cursor.fault()),
+        })
     }
 
     fn atom(&mut self, cursor: &mut Cursor) -> Result<Item, Refusal> {
@@ -294,13 +320,40 @@ impl Reader<'_> {
         }
     }
 
+    fn style(&mut self, cursor: &mut Cursor) -> Result<Style, Refusal> {
+        let [number] = self.take(cursor)?;
+        Style::new(number).ok_or_else(|| cursor.fault())
+    }
+
+    fn choice(&mut self, cursor: &mut Cursor) -> Result<[u32; 4], Refusal> {
+        let mut lists = [List { first: 0, end: 0 }; 4];
+        for list in &mut lists {
+            *list = self.choice_list(cursor)?;
+            self.entries.push(UNREAD);
+        }
+        let next = self.entries.len() as u32;
+        let content = Content::EndOfChoice;
+        for list in lists {
+            self.entries[list.end as usize] = Entry { content, next };
+        }
+        Ok(lists.map(|list| list.first))
+    }
+
+    /// A field that has to be a list.
+    fn choice_list(&mut self, cursor: &mut Cursor) -> Result<List, Refusal> {
+        let place = cursor.at;
+        match self.take(cursor)? {
+            [2] => self.list_field(place, cursor),
+            _ => Err(cursor.fault()),
+        }
+    }
+
     fn field(&mut self, cursor: &mut Cursor) -> Result<Field, Refusal> {
         let place = cursor.at;
         match self.take(cursor)? {
             [0] => Ok(Field::Empty),
             [1] => self.symbol(place, cursor),
-            [2] if cursor.depth >= DEPTH_LIMIT => Err(Refusal::TooDeep(place)),
-            [2] => self.list_field(cursor),
+            [2] => Ok(Field::List(self.list_field(place, cursor)?)),
             _ => Err(cursor.fault()),
         }
     }
@@ -318,15 +371,18 @@ impl Reader<'_> {
         }))
     }
 
-    fn list_field(&mut self, cursor: &mut Cursor) -> Result<Field, Refusal> {
+    /// What follows a list's kind byte, which stands at `place`.
+    fn list_field(&mut self, place: usize, cursor: &mut Cursor) -> Result<List, Refusal> {
+        if cursor.depth >= DEPTH_LIMIT {
+            return Err(Refusal::TooDeep(place));
+        }
         let length = usize::from(u16::from_le_bytes(self.take(cursor)?));
         if length > cursor.end - cursor.at {
             return Err(cursor.fault());
         }
         let start = cursor.at;
         cursor.at += length;
-        let list = self.list(start, cursor.at, cursor.depth + 1)?;
-        Ok(Field::List(list))
+        self.list(start, cursor.at, cursor.depth + 1)
     }
 
     /// The next bytes of the item, if its list has them.

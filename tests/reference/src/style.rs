@@ -25,6 +25,11 @@ impl Style {
         self.prime() == 1
     }
 
+    /// 0 to 3: D, T, S, SS.
+    pub fn without_prime(self) -> usize {
+        usize::from(self.0 / 2)
+    }
+
     /// 0 text, 1 script, 2 scriptscript.
     pub fn size(self) -> u8 {
         match self.0 {

@@ -1,7 +1,7 @@
 //! What holds of every call, looked at on generated cases.
 
 use reference::generate::{case, Case, Random};
-use reference::{measure, set, Answer, NODE_BYTES};
+use reference::{measure, set, Answer, FORMULA_LIMIT, NODE_BYTES};
 
 const CASES: usize = 20_000;
 const FILLING: u8 = 0xA5;
@@ -57,6 +57,43 @@ fn every_answer_comes_often() {
         counts[usize::from(answer.number)] += 1;
     }
     assert!(counts.iter().all(|count| *count > CASES / 50), "{counts:?}");
+}
+
+#[test]
+fn faults_of_styles_and_choices_come() {
+    let (mut styles, mut choices, mut deep_choices, mut kinds) = (0, 0, 0, 0);
+    let mut random = Random::new(9);
+    for _ in 0..CASES {
+        let case = case(&mut random);
+        let answer = measure(case.style, &case.table, &case.formula);
+        let (before, behind) = case.formula.split_at(answer.place as usize);
+        match answer.number {
+            3 if behind.len() > FORMULA_LIMIT => {}
+            3 if behind.starts_with(b"ST") => styles += 1,
+            3 if behind.starts_with(b"C4") => {
+                choices += 1;
+                kinds += usize::from(would_be_too_deep(&case, answer.place as usize + 2));
+            }
+            4 if before.ends_with(b"C4") => deep_choices += 1,
+            _ => {}
+        }
+    }
+    let counts = [styles, choices, deep_choices];
+    assert!(
+        counts.iter().all(|count| *count > CASES / 500),
+        "{counts:?}"
+    );
+    assert!(kinds > CASES / 2000, "{kinds}");
+}
+
+/// Whether the field would be refused for its depth if it were a list.
+fn would_be_too_deep(case: &Case, field: usize) -> bool {
+    let mut formula = case.formula.clone();
+    let Some(kind) = formula.get_mut(field).filter(|kind| **kind != 2) else {
+        return false;
+    };
+    *kind = 2;
+    measure(case.style, &case.table, &formula).number == 4
 }
 
 #[test]

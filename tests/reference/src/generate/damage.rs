@@ -41,7 +41,7 @@ fn telling_byte(random: &mut Random) -> u8 {
     if random.percent(40) {
         random.byte()
     } else {
-        *random.pick(b"\x00\x01\x02\x03\x07\x08\x0f\x10\x7f\x80\xffAFKOU")
+        *random.pick(b"\x00\x01\x02\x03\x07\x08\x0f\x10\x7f\x80\xffACFKOSU4")
     }
 }
 
@@ -49,7 +49,7 @@ fn telling_byte(random: &mut Random) -> u8 {
 pub fn noise(random: &mut Random) -> Vec<u8> {
     let mut bytes = Vec::new();
     if random.percent(70) {
-        bytes.extend(*random.pick(&[b"AT", b"OV", b"UN", b"FR", b"KN"]));
+        bytes.extend(*random.pick(&[b"AT", b"OV", b"UN", b"FR", b"KN", b"ST", b"C4"]));
     }
     for _ in 0..random.below(30) {
         bytes.push(telling_byte(random));

@@ -1,8 +1,10 @@
 //! Random formulas that can be read, and ones built to come near a limit.
 
+use super::choices::{choice_holding, choice_of, fault};
 use super::{Random, Symbols};
 use crate::compose::{
-    atom, fraction, kern, list, overline, symbol, underline, CharacterParts, TableParts, EMPTY,
+    atom, choice, fraction, kern, list, overline, style, symbol, underline, CharacterParts,
+    TableParts, EMPTY,
 };
 use crate::reading::KERN_LIMIT;
 use crate::table::{PARAMETERS, ROWS};
@@ -10,7 +12,7 @@ use crate::{DEPTH_LIMIT, FORMULA_LIMIT, SIZE_LIMIT};
 
 /// Grows formulas over some symbols.
 pub struct Grower<'a> {
-    random: &'a mut Random,
+    pub(super) random: &'a mut Random,
     symbols: &'a Symbols,
     /// So many symbols of a hundred may be absent.
     absent: u64,
@@ -47,16 +49,18 @@ impl<'a> Grower<'a> {
         items
     }
 
-    /// An item; its lists together have fewer bytes than `most`.
+    /// An item; its lists together have about `most` bytes at most.
     pub fn item(&mut self, depth: usize, most: usize) -> Vec<u8> {
         let share = most / 4;
-        match self.random.below(20) {
+        match self.random.below(24) {
             0 | 1 => kern(self.kern_length()),
             2 | 3 => {
                 let bar = self.random.below(2) as u8;
                 let (numerator, denominator) = (self.field(depth, share), self.field(depth, share));
                 fraction(bar, &numerator, &denominator)
             }
+            20 | 21 => style(self.random.below(8) as u8),
+            22 | 23 if depth > 1 => choice_of(&std::array::from_fn(|_| self.list(depth, share))),
             form => {
                 let fields: [Vec<u8>; 3] = std::array::from_fn(|_| self.field(depth, share));
                 self.with_fields(form, &fields)
@@ -75,20 +79,24 @@ impl<'a> Grower<'a> {
         }
     }
 
-    fn plain_class(&mut self) -> u8 {
+    pub(super) fn plain_class(&mut self) -> u8 {
         *self.random.pick(&[0, 0, 0, 1, 2, 2, 2, 3, 4, 5, 6, 7])
     }
 
     fn field(&mut self, depth: usize, most: usize) -> Vec<u8> {
         match self.random.below(10) {
             0..3 => EMPTY.to_vec(),
-            3..5 if depth > 1 => list(&self.items(depth - 1, most.saturating_sub(3))),
+            3..5 if depth > 1 => self.list(depth, most),
             _ => self.symbol(),
         }
     }
 
+    fn list(&mut self, depth: usize, most: usize) -> Vec<u8> {
+        list(&self.items(depth - 1, most.saturating_sub(3)))
+    }
+
     /// A symbol field, or an empty one if there is no symbol to use.
-    fn symbol(&mut self) -> Vec<u8> {
+    pub(super) fn symbol(&mut self) -> Vec<u8> {
         let drawn = if !self.random.percent(self.absent) {
             self.symbols.usable(self.random)
         } else if self.random.percent(60) {
@@ -99,6 +107,16 @@ impl<'a> Grower<'a> {
         match drawn {
             Some((family, code)) => symbol(family, code),
             None => EMPTY.to_vec(),
+        }
+    }
+
+    /// An item that sets nothing.
+    fn empty_item(&mut self) -> Vec<u8> {
+        match self.random.below(4) {
+            0 => kern(0),
+            1 => style(self.random.below(8) as u8),
+            2 => atom(2, 0, [EMPTY; 3]),
+            _ => choice([&list(&[]); 4]),
         }
     }
 
@@ -113,6 +131,9 @@ impl<'a> Grower<'a> {
     }
 }
 
+/// An item or two with the given list in them.
+type Holder = fn(&mut Grower, Vec<u8>) -> Vec<u8>;
+
 /// A formula whose deepest list is at a depth around the limit.
 pub fn deep_formula(grower: &mut Grower) -> Vec<u8> {
     let levels = *grower.random.pick(&[
@@ -122,33 +143,37 @@ pub fn deep_formula(grower: &mut Grower) -> Vec<u8> {
         DEPTH_LIMIT + 1,
         DEPTH_LIMIT + 2,
     ]);
-    nested(grower, 1, levels)
+    let holder = *grower
+        .random
+        .pick(&[holding as Holder, holding, holding, choice_holding]);
+    nested(grower, holder, 1, levels)
 }
 
-fn nested(grower: &mut Grower, depth: usize, levels: usize) -> Vec<u8> {
+fn nested(grower: &mut Grower, holder: Holder, depth: usize, levels: usize) -> Vec<u8> {
     let shallow = DEPTH_LIMIT.saturating_sub(depth).clamp(1, 3);
     let mut items = grower.items(shallow, 30);
     if depth < levels {
-        let inner = list(&nested(grower, depth + 1, levels));
-        items.extend(holding(grower, inner));
+        let inner = list(&nested(grower, holder, depth + 1, levels));
+        items.extend(holder(grower, inner));
         items.extend(grower.items(shallow, 20));
+    } else if grower.random.percent(25) {
+        items.extend(fault(grower));
     }
     items
 }
 
-/// An item with the given field in any of its places.
-fn holding(grower: &mut Grower, field: Vec<u8>) -> Vec<u8> {
-    let form = grower.random.below(12) + 2;
-    if form < 4 {
-        let other = grower.symbol();
-        return match form {
-            2 => fraction(0, &field, &other),
-            _ => fraction(1, &other, &field),
-        };
+/// An item with the given list in any of its places.
+pub fn holding(grower: &mut Grower, given: Vec<u8>) -> Vec<u8> {
+    match grower.random.below(15) {
+        0 => fraction(0, &given, &grower.symbol()),
+        1 => fraction(1, &grower.symbol(), &given),
+        2..5 => choice_holding(grower, given),
+        form => {
+            let mut fields: [Vec<u8>; 3] = std::array::from_fn(|_| grower.field(1, 0));
+            fields[grower.random.below(3)] = given;
+            grower.with_fields(form - 1, &fields)
+        }
     }
-    let mut fields: [Vec<u8>; 3] = std::array::from_fn(|_| grower.field(1, 0));
-    fields[grower.random.below(3)] = field;
-    grower.with_fields(form, &fields)
 }
 
 /// A formula of a length around the limit, at times all in one field.
@@ -167,12 +192,17 @@ pub fn long_formula(grower: &mut Grower) -> Vec<u8> {
     atom(0, 0, [&inner, EMPTY, EMPTY])
 }
 
-/// Items of exactly so many bytes, which are not few.
+/// Items of exactly so many bytes, which are not few; at times one item again
+/// and again.
 fn exactly(grower: &mut Grower, length: usize) -> Vec<u8> {
     const MOST: usize = 200;
+    let repeated = grower.random.percent(20).then(|| grower.empty_item());
     let mut items = Vec::with_capacity(length);
     while items.len() + MOST < length {
-        items.extend(grower.items(DEPTH_LIMIT - 2, MOST - 24));
+        match &repeated {
+            Some(item) => items.extend(item),
+            None => items.extend(grower.items(DEPTH_LIMIT - 2, MOST - 24)),
+        }
     }
     let rest = length - items.len();
     let (kern, line) = (kern(0), underline([EMPTY; 3]));

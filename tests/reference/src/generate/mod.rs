@@ -3,11 +3,13 @@
 //! [`case`] draws from all kinds; [`case_of`] keeps to one. The same seed
 //! gives the same cases.
 
+mod choices;
 mod damage;
 mod formulas;
 mod random;
 mod tables;
 
+pub use choices::choice_formula;
 pub use damage::{damaged_bytes, damaged_table, noise};
 pub use formulas::{deep_formula, long_formula, tall_case, wide_formula, Grower};
 pub use random::Random;
@@ -22,6 +24,8 @@ pub enum Kind {
     Plain,
     /// The same with symbols that may be absent.
     Absent,
+    /// Styles and choices, close together; symbols may be absent.
+    Choice,
     /// A formula with a few bytes changed.
     Damaged,
     /// Bytes at random in place of a formula.
@@ -41,15 +45,16 @@ pub enum Kind {
 }
 
 /// All kinds, each with how many of a hundred cases it gets.
-pub const KINDS: [(Kind, u64); 10] = [
-    (Kind::Plain, 26),
-    (Kind::Absent, 11),
-    (Kind::Damaged, 14),
+pub const KINDS: [(Kind, u64); 11] = [
+    (Kind::Plain, 20),
+    (Kind::Absent, 9),
+    (Kind::Choice, 12),
+    (Kind::Damaged, 12),
     (Kind::Noise, 4),
     (Kind::BadTable, 7),
     (Kind::BadStyle, 4),
-    (Kind::Deep, 10),
-    (Kind::Long, 6),
+    (Kind::Deep, 9),
+    (Kind::Long, 5),
     (Kind::Wide, 12),
     (Kind::Tall, 6),
 ];
@@ -95,6 +100,7 @@ fn table_and_formula(kind: Kind, random: &mut Random) -> (Vec<u8>, Vec<u8>) {
     let absent = absent_share(kind, random);
     let mut grower = Grower::new(random, &symbols, absent);
     let formula = match kind {
+        Kind::Choice => choice_formula(&mut grower),
         Kind::Noise => noise(random),
         Kind::Deep => deep_formula(&mut grower),
         Kind::Long => long_formula(&mut grower),
@@ -118,6 +124,7 @@ fn table_and_formula(kind: Kind, random: &mut Random) -> (Vec<u8>, Vec<u8>) {
 fn absent_share(kind: Kind, random: &mut Random) -> u64 {
     match kind {
         Kind::Absent => *random.pick(&[5, 15, 60]),
+        Kind::Choice => *random.pick(&[0, 0, 0, 8, 30]),
         Kind::Deep | Kind::Long | Kind::Wide => *random.pick(&[0, 0, 0, 0, 0, 2]),
         _ => 0,
     }

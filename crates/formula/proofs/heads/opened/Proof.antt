@@ -40,6 +40,15 @@ kern-opening-requires c κs = search needs
 enum-told-6 : tie.Need-enum-told-6
 enum-told-6 c = search needs
 
+style-opening-requires : tie.Need-style-opening-requires
+style-opening-requires c κs = search needs
+
+enum-told-7 : tie.Need-enum-told-7
+enum-told-7 c = search needs
+
+enum-told-8 : tie.Need-enum-told-8
+enum-told-8 c = search needs
+
 returns : tie.Need-returns
 unfolding opens
 returns c =
@@ -73,8 +82,20 @@ returns-5 c =
 returns-6 : tie.Need-returns-6
 unfolding opens
 returns-6 c =
+    let s = c .before .before .before .before .args .s .now in
+    arm s (c .before .enum-told6 .given .1) (c .style-opening .ensures)
+
+returns-7 : tie.Need-returns-7
+unfolding opens
+returns-7 c =
     let s = c .before .before .before .args .s .now in
-    arm s (c .enum-told6 .given .1) refl
+    arm s (c .enum-told7 .given .1) refl
+
+returns-8 : tie.Need-returns-8
+unfolding opens
+returns-8 c =
+    let s = c .before .before .before .args .s .now in
+    arm s (c .enum-told8 .given .1) refl
 
 pub opened-spec : {M : Type 1} → statement M
 opened-spec =
@@ -89,9 +110,14 @@ opened-spec =
     enum-told-5
     kern-opening-requires
     enum-told-6
+    style-opening-requires
+    enum-told-7
+    enum-told-8
     returns
     returns-2
     returns-3
     returns-4
     returns-5
-    returns-6)
+    returns-6
+    returns-7
+    returns-8)

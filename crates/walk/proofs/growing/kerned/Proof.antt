@@ -9,7 +9,7 @@ plus-requires : tie.Need-plus-requires
 plus-requires c κs = search needs
 
 returns : tie.Need-returns
-returns c = record { left-is = refl; size-is = rw (c .plus .ensures .is); run-is = refl }
+returns c = record { left-is = refl; style-is = refl; size-is = rw (c .plus .ensures .is); run-is = refl }
 
 pub kerned-spec : {M : Type 1} → statement M
 kerned-spec = tie.close (tie.spec plus-requires returns)

@@ -83,7 +83,7 @@ returns c =
     let put = at-put .put-item .ensures in
     let e = c .extended .ensures in
     let setting = at-set .placing-of .result in
-    let space = spaceBefore (parametersIn (a .p .now)) (a .style) (neighbourAs (a .line .left)) (setting .class) in
+    let space = spaceBefore (parametersIn (a .p .now)) (a .line .style) (neighbourAs (a .line .left)) (setting .class) in
     let counts = e .run-is .count-is ∙ ap (λ (n : ℕ). a .line .run .count + n) (put .count-is) in
     let hulls = e .run-is .hull-is ∙ ap (joined (hullOf (a .line .run))) (put .hull-is) in
     record {
@@ -94,6 +94,7 @@ returns c =
       arranged-is = s .arranged-is;
       x-is = s .x-is;
       left-is = e .left-is;
+      style-is = e .style-is;
       size-is = e .size-is;
       count-is = counts;
       large-is = e .run-is .large-is ∙ ap (λ (t : Bool). isLarge (a .line .run) || t) (put .large-is);

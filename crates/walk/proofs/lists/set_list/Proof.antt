@@ -25,7 +25,7 @@ returns c =
     let started = set .before .before in
     let a = started .before .before .before .before .args in
     let s = a .s .now in
-    list-of-items (fontOf (a .table .now)) (a .style) (treeOf s) (length s) (a .buf .now) (set .set-items .last .1 .1 .1 .1 .1 .1 .0) (set .set-items .result)
+    list-of-items (fontOf (a .table .now)) (treeOf s) (length s) (a .buf .now) (set .set-items .last .1 .1 .1 .1 .1 .0) (set .set-items .result)
     (started .start .ensures) (set .set-items .ensures)
 
 pub set-list-spec : {M : Type 1} → statement M

@@ -1,80 +1,60 @@
--- `next_class` meets its contract. The loop's invariant: only kerns stand before `at`. The measure is what is left of the list.
+-- `next_class` meets its contract. The loop's invariant: no atom stands before `at` (`Passing`). The measure is what is left of the list.
 -- Assumes nothing.
-use mathlib.Core.Path.{ap, _∙_}
-use mathlib.Core.Option.{some}
-use Prim.Native.Nat.{_-_}
+use mathlib.Core.Path.{_≡_, ap}
+use Prim.Native.Nat.{_+_, _-_}
 use native.Mathlib.Omega.{arith}
 use lib.ListN.{length}
 use borrow.Author.Needs.{needs}
 use Rattle.spacing.specs.Values.{neighbourAs}
-use Rattle.walk.proofs.PlaceLaws.{Passing, started, opens, passed, atom-next, finished}
+use Rattle.walk.proofs.PlaceLaws.{rest-opens, next-some, Passing, passing-start, passed, atom-next, finished}
 use Rattle.walk.proofs.places.next_class.Statement.{statement}
 use Rattle.walk.proofs.places.next_class.Tie as tie
+use Rattle.walk.proofs.places.next_class.Reads as reads
+use Rattle.walk.proofs.places.next_class.Lts as lts
+use Rattle.walk.proofs.places.look_at.Reads as look-at-reads
 
 abbrev Inv-loop : tie.InvT-loop
-Inv-loop beyond s at₀ at = Passing (neighbourAs beyond) s at
+Inv-loop beyond s at₀ current₀ at current = Passing current₀ (neighbourAs beyond) s at current
 
 abbrev μ-loop : tie.MeasureT-loop
-μ-loop beyond s at₀ at = length s - at
+μ-loop beyond s at₀ current₀ at current = length s - at
 
-loop-holds : tie.Need-loop-holds Inv-loop μ-loop
-loop-holds c = started _ _ (c .before .pre .0)
+-- an item that was looked at
+abbrev Seen : Type 0
+Seen = lts.After-look-at (look-at-reads.Asked, look-at-reads.Learnt) reads.Pre reads.Post Inv-loop μ-loop
 
-sub-opening : tie.Need-sub-opening Inv-loop μ-loop
-sub-opening c = search needs
+abbrev turn-of : Seen → lts.In-loop (look-at-reads.Asked, look-at-reads.Learnt) reads.Pre reads.Post Inv-loop μ-loop
+turn-of c = c .before .before
 
-part-opening-start : tie.Need-part-opening-start Inv-loop μ-loop
-part-opening-start c = search needs
-
-part-opening-end : tie.Need-part-opening-end Inv-loop μ-loop
-part-opening-end c = search needs
-
-opening-requires : tie.Need-opening-requires Inv-loop μ-loop
-opening-requires c κs = search needs
-
-enum-told : tie.Need-enum-told Inv-loop μ-loop
-enum-told c = search needs
+look-at-requires : tie.Need-look-at-requires Inv-loop μ-loop
+look-at-requires c κs =
+    let turn = c .before in
+    rest-opens (turn .before .loop .inv .place) (turn .loop-test .taken) (turn .before .before .before .pre .1) .0
 
 returns : tie.Need-returns Inv-loop μ-loop
 returns c =
-    let turn = c .before .before .before .before in
-    let at = turn .before .loop .inv in
-    absurd (opens at (turn .loop-test .taken) (c .before .before .opening .ensures) (c .enum-told .given .1) .item)
+    let seen = c .before .before in
+    atom-next (turn-of seen .before .loop .inv) (turn-of seen .loop-test .taken) (seen .look-at .ensures) (ap neighbourAs (c .enum-told .given .1))
 
-enum-known-o : tie.Need-enum-known-o Inv-loop μ-loop
-enum-known-o c = search needs
+-- it is no atom
+abbrev Next : Type 0
+Next = lts.After-struct-known (look-at-reads.Asked, look-at-reads.Learnt) reads.Pre reads.Post Inv-loop μ-loop
 
-class-of-requires : tie.Need-class-of-requires Inv-loop μ-loop
-class-of-requires c κs = search needs
-
-returns-2 : tie.Need-returns-2 Inv-loop μ-loop
-returns-2 c =
-    let turn = c .before .before .before .before .before .before in
-    let at = turn .before .loop .inv in
-    let here = opens at (turn .loop-test .taken) (c .before .before .before .before .opening .ensures) (c .before .before .o .given .1) in
-    ap some (c .class-of .ensures) ∙ atom-next at here
-
-enum-told-2 : tie.Need-enum-told-2 Inv-loop μ-loop
-enum-told-2 c = search needs
-
-add-at : tie.Need-add-at Inv-loop μ-loop
-add-at c =
-    let turn = c .before .before .before .before in
-    let at = turn .before .loop .inv in
-    let here = opens at (turn .loop-test .taken) (c .before .before .opening .ensures) (c .enum-told2 .given .1) in
-    omega (arith, passed at here .inside)
-
-loop-less : tie.Need-loop-less Inv-loop μ-loop
-loop-less c = omega arith
+abbrev seen-of : Next → Seen
+seen-of c = c .before .before .before .before
 
 loop-again : tie.Need-loop-again Inv-loop μ-loop
 loop-again c =
-    let turn = c .before .before .before .before in
-    let at = turn .before .loop .inv in
-    passed at (opens at (turn .loop-test .taken) (c .before .before .opening .ensures) (c .enum-told2 .given .1))
+    let seen = seen-of c in
+    passed (turn-of seen .before .loop .inv) (turn-of seen .loop-test .taken) (seen .look-at .ensures) (ap neighbourAs (c .before .before .enum-told2 .given .1))
 
-returns-3 : tie.Need-returns-3 Inv-loop μ-loop
-returns-3 c = finished (c .before .loop .inv) (c .loop-test .left)
+add-at : tie.Need-add-at Inv-loop μ-loop
+add-at c = omega (arith, loop-again c .place .inside)
+
+loop-less : tie.Need-loop-less Inv-loop μ-loop
+loop-less c =
+    let turn = turn-of (seen-of c) in
+    omega (arith, turn .loop-test .taken, next-some (turn .before .loop .inv .place) (turn .loop-test .taken) (seen-of c .look-at .ensures))
 
 pub next-class-spec : {M : Type 1} → statement M
 next-class-spec =
@@ -82,18 +62,15 @@ next-class-spec =
     (tie.spec
     Inv-loop
     μ-loop
-    loop-holds
-    sub-opening
-    part-opening-start
-    part-opening-end
-    opening-requires
-    enum-told
+    (λ c. passing-start _ _ _ (c .before .pre .0))
+    (λ c. search needs)
+    (λ c. search needs)
+    (λ c. search needs)
+    look-at-requires
+    (λ c. search needs)
     returns
-    enum-known-o
-    class-of-requires
-    returns-2
-    enum-told-2
+    (λ c. search needs)
     add-at
     loop-less
     loop-again
-    returns-3)
+    (λ c. finished (c .before .loop .inv) (c .loop-test .left)))

@@ -1,13 +1,15 @@
--- The reading cycle meets its contracts: `read_list` calls `read_item`, that `read_noad`, that `read_field`, and that
+-- The reading cycle meets its contracts: `read_list` calls `read_item`, that `read_noad` or `read_choice`, these `read_field`, and that
 -- `read_list` on a shorter list. The measure is four times the length of what is read, and one more for each of them upward.
 -- Each need follows from what its calls say by a law of `VerdictLaws`. The loop's invariant: what the list says is what its
 -- rest from `at` on says, `at` later.
 -- Assumes nothing.
 use mathlib.Core.Path.{_≡_, sym, ap, _∙_}
+use mathlib.Core.Bool.{true, false}
 use Prim.Native.Nat.{ℕ, _+_, _-_, _*_, _≤_, _<_}
 use native.Mathlib.Omega.{arith}
 use lib.ListN.{length, take, drop}
 use borrow.Author.Needs.{needs}
+use borrow.Author.Tests.{not-true, not-false}
 use borrow.Fn.Kinds.{In}
 use borrow.Fn.PlainCycle.{Measures, is, falls, and}
 use Rattle.formula.specs.declared.Opening.{Opening}
@@ -18,29 +20,36 @@ use Rattle.formula.specs.declared.Verdict.the-variants.{Good, Faulty}
 use Rattle.formula.specs.declared.PartRead.the-variants.{Next}
 use Rattle.formula.specs.Tree.{openingBytes}
 use Rattle.formula.specs.Heads.{fieldHead}
-use Rattle.formula.specs.Reading.{fieldBy, fieldAt, openedBy, itemBy, read}
+use Rattle.formula.specs.Reading.{fieldBy, fieldAt, choiceAt, openedBy, itemBy, read}
 use Rattle.formula.specs.Values.{told, partReadOf}
 use Rattle.formula.specs.Places.{headBytes}
 use Rattle.formula.specs.HeadLaws.{list-opening, opening-fits}
-use Rattle.formula.proofs.VerdictLaws.{later, later-zero, fault-in, next-in, field-step, field-fits, field-deep, cut-deep, cut-short, field-list, noad-first, noad-second, noad-three, noad-two, item-step, list-next, list-stop, list-done}
-use Rattle.formula.proofs.reading.+read_field+read_item+read_list+read_noad.{statement}
-use Rattle.formula.proofs.reading.+read_field+read_item+read_list+read_noad.Tie.{close}
+use Rattle.formula.proofs.VerdictLaws.{later, later-zero, fault-in, next-in, field-step, field-fits, field-deep, cut-deep, cut-short, field-list, noad-first, noad-second, noad-third, list-yes, list-no, inTurn, listSays, choice-said, turn-next, turn-stop, turn-done, item-step, list-next, list-stop, list-done}
+use Rattle.formula.proofs.reading.+read_choice+read_field+read_item+read_list+read_noad.{statement}
+use Rattle.formula.proofs.reading.+read_choice+read_field+read_item+read_list+read_noad.Tie.{close}
+use Rattle.formula.proofs.reading.read_choice.Reads as read-choice
+use Rattle.formula.proofs.reading.read_choice.Kinds as read-choice-kinds
+use Rattle.formula.proofs.reading.+read_choice+read_field+read_item+read_list+read_noad.Lts-read_choice as read-choice-lts
 use Rattle.formula.proofs.reading.read_field.Reads as read-field
 use Rattle.formula.proofs.reading.read_field.Kinds as read-field-kinds
-use Rattle.formula.proofs.reading.+read_field+read_item+read_list+read_noad.Lts-read_field as read-field-lts
+use Rattle.formula.proofs.reading.+read_choice+read_field+read_item+read_list+read_noad.Lts-read_field as read-field-lts
 use Rattle.formula.proofs.reading.read_item.Reads as read-item
 use Rattle.formula.proofs.reading.read_item.Kinds as read-item-kinds
-use Rattle.formula.proofs.reading.+read_field+read_item+read_list+read_noad.Lts-read_item as read-item-lts
+use Rattle.formula.proofs.reading.+read_choice+read_field+read_item+read_list+read_noad.Lts-read_item as read-item-lts
 use Rattle.formula.proofs.reading.read_list.Reads as read-list
 use Rattle.formula.proofs.reading.read_list.Kinds as read-list-kinds
-use Rattle.formula.proofs.reading.+read_field+read_item+read_list+read_noad.Lts-read_list as read-list-lts
+use Rattle.formula.proofs.reading.+read_choice+read_field+read_item+read_list+read_noad.Lts-read_list as read-list-lts
 use Rattle.formula.proofs.reading.read_noad.Reads as read-noad
 use Rattle.formula.proofs.reading.read_noad.Kinds as read-noad-kinds
-use Rattle.formula.proofs.reading.+read_field+read_item+read_list+read_noad.Lts-read_noad as read-noad-lts
+use Rattle.formula.proofs.reading.+read_choice+read_field+read_item+read_list+read_noad.Lts-read_noad as read-noad-lts
 use Rattle.formula.proofs.heads.field_head.Reads as field-head-reads
 use Rattle.formula.proofs.heads.has_third.Reads as has-third-reads
+use Rattle.formula.proofs.heads.is_list.Reads as is-list-reads
 use Rattle.formula.proofs.heads.opening.Reads as opening-reads
 use Rattle.formula.proofs.heads.opening_bytes.Reads as opening-bytes-reads
+
+abbrev μ-read-choice : Measures 1 read-choice-kinds.ps ℕ
+μ-read-choice κs a = 4 * length (a .0 .now) + 1
 
 abbrev μ-read-field : Measures 1 read-field-kinds.ps ℕ
 μ-read-field κs a = 4 * length (a .0 .now)
@@ -53,6 +62,13 @@ abbrev μ-read-list : Measures 1 read-list-kinds.ps ℕ
 
 abbrev μ-read-noad : Measures 1 read-noad-kinds.ps ℕ
 μ-read-noad κs a = 4 * length (a .0 .now) + 1
+
+abbrev read-choice-at : ℕ → In 1 read-choice-kinds.ps
+read-choice-at t = and 1 read-choice-kinds.ps (is 1 read-choice-kinds.ps μ-read-choice t) read-choice.Pre
+
+abbrev read-choice-below : ℕ → In 1 read-choice-kinds.ps
+read-choice-below t =
+    and 1 read-choice-kinds.ps (falls 1 read-choice-kinds.ps _<_ μ-read-choice t) read-choice.Pre
 
 abbrev read-field-at : ℕ → In 1 read-field-kinds.ps
 read-field-at t =
@@ -83,17 +99,59 @@ abbrev read-noad-below : ℕ → In 1 read-noad-kinds.ps
 read-noad-below t =
     and 1 read-noad-kinds.ps (falls 1 read-noad-kinds.ps _<_ μ-read-noad t) read-noad.Pre
 
+abbrev read-choice-claims : ℕ → read-choice-lts.Claims
+read-choice-claims t = (is-list-reads.Asked, is-list-reads.Learnt, read-field-below t, read-field.Post)
+
 abbrev read-field-claims : ℕ → read-field-lts.Claims
 read-field-claims t = (field-head-reads.Asked, field-head-reads.Learnt, read-list-below t, read-list.Post)
 
 abbrev read-item-claims : ℕ → read-item-lts.Claims
-read-item-claims t = (opening-reads.Asked, opening-reads.Learnt, read-noad-below t, read-noad.Post)
+read-item-claims t = (opening-reads.Asked, opening-reads.Learnt, read-noad-below t, read-noad.Post, read-choice-below t, read-choice.Post)
 
 abbrev read-list-claims : ℕ → read-list-lts.Claims
 read-list-claims t = (read-item-below t, read-item.Post)
 
 abbrev read-noad-claims : ℕ → read-noad-lts.Claims
 read-noad-claims t = (opening-bytes-reads.Asked, opening-bytes-reads.Learnt, read-field-below t, read-field.Post, has-third-reads.Asked, has-third-reads.Learnt)
+
+-- ---- read_choice
+
+abbrev read-choice-Inv-loop : read-choice-lts.InvT-loop
+read-choice-Inv-loop s levels at₀ left₀ at left = (at ≤ length s) × (partReadOf (choiceAt read levels s) ≡ inTurn (listSays levels s) left at)
+
+abbrev read-choice-μ-loop : read-choice-lts.MeasureT-loop
+read-choice-μ-loop s levels at₀ left₀ at left = left
+
+-- what the list says that is read in a turn
+rc-said : (t : ℕ) (c : read-choice-lts.After-read-field (read-choice-claims t) (read-choice-at t) read-choice.Post read-choice-Inv-loop read-choice-μ-loop) →
+    let turn = c .before .before .before .before .before in
+    let a = turn .before .before .args in
+    listSays (a .levels) (a .s .now) (turn .loop .at) ≡ c .read-field .result
+rc-said t c =
+    let is = sym (c .before .before .is-list .ensures) ∙ not-false _ (c .before .if1 .left) in
+    list-yes _ _ _ is ∙ sym (c .read-field .ensures)
+
+read-choice-returns : (t : ℕ) → read-choice-lts.Need-returns (read-choice-claims t) (read-choice-at t) read-choice.Post read-choice-Inv-loop read-choice-μ-loop
+read-choice-returns t c =
+    let turn = c .before .before .before .before in
+    let no-list = sym (c .before .is-list .ensures) ∙ not-true _ (c .if1 .taken) in
+    sym (turn .loop .inv .1 ∙ turn-stop _ _ _ _ _ (omega arith) (list-no _ _ _ no-list))
+
+read-choice-returns-2 : (t : ℕ) → read-choice-lts.Need-returns-2 (read-choice-claims t) (read-choice-at t) read-choice.Post read-choice-Inv-loop read-choice-μ-loop
+read-choice-returns-2 t c =
+    let call = c .before .before in
+    let turn = call .before .before .before .before .before in
+    let says = c .enum-told .given .1 in
+    says ∙ sym (turn .loop .inv .1 ∙ turn-stop _ _ _ _ _ (omega arith) (rc-said t call ∙ says))
+
+read-choice-loop-again : (t : ℕ) → read-choice-lts.Need-loop-again (read-choice-claims t) (read-choice-at t) read-choice.Post read-choice-Inv-loop read-choice-μ-loop
+read-choice-loop-again t c =
+    let call = c .before .before .before in
+    let turn = call .before .before .before .before .before in
+    let says = c .before .r .given .1 in (
+      next-in _ _ _ _ (turn .loop .inv .0) (sym (call .read-field .ensures) ∙ says),
+      turn .loop .inv .1 ∙ turn-next _ _ _ _ (omega arith) (rc-said t call ∙ says),
+    )
 
 -- ---- read_field
 
@@ -176,6 +234,14 @@ read-item-returns-2 t c = let noad = c .before .before in c .read-noad .ensures 
 read-item-returns-3 : (t : ℕ) → read-item-lts.Need-returns-3 (read-item-claims t) (read-item-at t) read-item.Post
 unfolding openedBy partReadOf
 read-item-returns-3 t c = ri-says t (c .before .before) _ (c .enum-told2 .given .1)
+
+read-item-returns-4 : (t : ℕ) → read-item-lts.Need-returns-4 (read-item-claims t) (read-item-at t) read-item.Post
+unfolding openedBy partReadOf
+read-item-returns-4 t c = ri-says t (c .before .before) _ (c .enum-told3 .given .1)
+
+read-item-returns-5 : (t : ℕ) → read-item-lts.Need-returns-5 (read-item-claims t) (read-item-at t) read-item.Post
+unfolding openedBy
+read-item-returns-5 t c = let choice = c .before in c .read-choice .ensures ∙ ri-says t (choice .before .before) _ (choice .enum-told4 .given .1)
 
 -- ---- read_list
 
@@ -267,7 +333,7 @@ read-noad-returns-3 t c =
     let first = second .before .before .before .before in
     let a = first .before .before .before .before .before .args in
     let three = sym (c .before .before .has-third .ensures) ∙ c .before .if1 .taken in
-    c .read-field3 .ensures ∙ sym (noad-three (a .levels) (a .s .now) (a .kind) _ (rn-a t first .0) _ (rn-b t second .0) three)
+    c .read-field3 .ensures ∙ sym (noad-third (a .levels) (a .s .now) (a .kind) _ (rn-a t first .0) _ true (rn-b t second .0) three)
 
 read-noad-returns-4 : (t : ℕ) → read-noad-lts.Need-returns-4 (read-noad-claims t) (read-noad-at t) read-noad.Post
 read-noad-returns-4 t c =
@@ -275,11 +341,26 @@ read-noad-returns-4 t c =
     let first = second .before .before .before .before in
     let a = first .before .before .before .before .before .args in
     let two = sym (c .before .has-third .ensures) ∙ c .if1 .left in
-    sym (noad-two (a .levels) (a .s .now) (a .kind) _ (rn-a t first .0) _ (rn-b t second .0) two)
+    sym (noad-third (a .levels) (a .s .now) (a .kind) _ (rn-a t first .0) _ false (rn-b t second .0) two)
 
-pub +read-field+read-item+read-list+read-noad-spec : {M : Type 1} → statement M
-+read-field+read-item+read-list+read-noad-spec =
-    close μ-read-field μ-read-item μ-read-list μ-read-noad (λ t. read-field-lts.spec (read-field-claims t) (read-field-at t) read-field.Post
+pub +read-choice+read-field+read-item+read-list+read-noad-spec : {M : Type 1} → statement M
++read-choice+read-field+read-item+read-list+read-noad-spec =
+    close μ-read-choice μ-read-field μ-read-item μ-read-list μ-read-noad (λ t. read-choice-lts.spec (read-choice-claims t) (read-choice-at t) read-choice.Post read-choice-Inv-loop read-choice-μ-loop
+    (λ c. (omega (arith, opening-fits _ _ (c .before .pre .1)), choice-said _ _))
+    (λ c. search needs)
+    (λ c. search needs)
+    (λ c. search needs)
+    (λ c κs. search needs)
+    (read-choice-returns t)
+    (λ c κs. (omega arith, c .before .before .before .before .loop .inv .0))
+    (λ c. search needs)
+    (λ c. search needs)
+    (read-choice-returns-2 t)
+    (λ c. search needs)
+    (λ c. omega arith)
+    (read-choice-loop-again t)
+    (λ c. sym (c .before .loop .inv .1 ∙ turn-done _ _ _ (omega arith))))
+    (λ t. read-field-lts.spec (read-field-claims t) (read-field-at t) read-field.Post
     (λ c. search needs)
     (λ c. search needs)
     (λ c. search needs)
@@ -315,9 +396,14 @@ pub +read-field+read-item+read-list+read-noad-spec : {M : Type 1} → statement 
     (λ c. search needs)
     (λ c κs. (omega arith, sym (c .before .before .before .opening .ensures) ∙ c .before .o .given .1))
     (λ c. search needs)
+    (λ c. search needs)
+    (λ c. search needs)
+    (λ c κs. (omega arith, sym (c .before .before .opening .ensures) ∙ c .enum-told4 .given .1))
     (read-item-returns t)
     (read-item-returns-2 t)
-    (read-item-returns-3 t))
+    (read-item-returns-3 t)
+    (read-item-returns-4 t)
+    (read-item-returns-5 t))
     (λ t. read-list-lts.spec (read-list-claims t) (read-list-at t) read-list.Post read-list-Inv-loop read-list-μ-loop
     (λ c. (omega arith, sym (later-zero _)))
     (λ c. search needs)

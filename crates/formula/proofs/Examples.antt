@@ -1,0 +1,69 @@
+-- Short lists with a style and with a choice, as the definition reads them: one table under one statement, `examples-hold`.
+-- Assumes nothing.
+use mathlib.Core.Path.{_≡_, refl}
+use mathlib.Core.List.{List, [], _∷_, _++_, map}
+use Prim.Native.Nat.{ℕ}
+use Rattle.words.specs.Words.{littleEndian}
+use Rattle.formula.specs.declared.Fault.the-variants.{Unreadable, TooDeep}
+use Rattle.formula.specs.Tree.{Items, Item, nil, cons, restyle, choice}
+use Rattle.formula.specs.Marks.{markIn, markOf}
+use Rattle.formula.specs.Heads.{styleOpening, opens, openingOf, symbolHead, listHead, fieldHead}
+use Rattle.formula.specs.Reading.{Read, good, fault, listGot, fieldBy, onlyList, fieldAt, listAt, choiceAt, openedBy, itemBy, before, restBy, listBy, readBy, read}
+
+-- a style by its number; a choice by its four fields
+abbrev style : ℕ → List ℕ
+style n = 83 ∷ 84 ∷ n ∷ []
+
+abbrev choiceOf : List ℕ → List ℕ → List ℕ → List ℕ → List ℕ
+choiceOf d t sc ss = (67 ∷ 52 ∷ d) ++ (t ++ (sc ++ ss))
+
+-- a field: empty, a symbol, a list of fewer than 256 bytes
+abbrev noField : List ℕ
+noField = 0 ∷ []
+
+abbrev letter : List ℕ
+letter = 1 ∷ 1 ∷ 97 ∷ []
+
+abbrev listOf : ℕ → List ℕ → List ℕ
+listOf n s = 2 ∷ n ∷ 0 ∷ s
+
+abbrev none : List ℕ
+none = listOf 0 []
+
+one : Item → Items
+one i = cons i nil
+
+-- the levels that may be entered, the bytes, and what they read to
+record Row : Type 0 where
+  levels : ℕ
+  bytes : List ℕ
+  reading : Read
+
+abbrev row : ℕ → List ℕ → Read → Row
+row levels bytes reading = record { levels = levels; bytes = bytes; reading = reading }
+
+rows : List Row
+rows =
+    row 0 (style 7) (good (one (restyle 7)))
+    ∷ row 0 (style 8) (fault Unreadable 0)
+    ∷ row 0 (83 ∷ 84 ∷ []) (fault Unreadable 0)
+    ∷ row 1 (choiceOf none (listOf 3 (style 2)) none none) (good (one (choice nil (one (restyle 2)) nil nil)))
+    -- four lists, and no other field among them
+    ∷ row 1 (choiceOf none none none []) (fault Unreadable 0)
+    ∷ row 1 (choiceOf none letter none none) (fault Unreadable 0)
+    ∷ row 1 (choiceOf none none none noField) (fault Unreadable 0)
+    -- the kind comes before the depth
+    ∷ row 0 (choiceOf none none none none) (fault TooDeep 2)
+    ∷ row 0 (choiceOf letter none none none) (fault Unreadable 0)
+    ∷ row 0 (style 0 ++ (67 ∷ 52 ∷ 2 ∷ [])) (fault TooDeep 5)
+    -- a fault in a whole list comes before the item's missing tail, a length past the end before what the list holds
+    ∷ row 1 (choiceOf none (listOf 3 (style 8)) [] []) (fault Unreadable 8)
+    ∷ row 1 (choiceOf none none none (listOf 4 (style 8))) (fault Unreadable 0)
+    -- a list in a list of a choice is one deeper again
+    ∷ row 2 (choiceOf (listOf 14 (choiceOf none none none none)) none none none) (good (one (choice (one (choice nil nil nil nil)) nil nil nil)))
+    ∷ row 1 (choiceOf (listOf 14 (choiceOf none none none none)) none none none) (fault TooDeep 7)
+    ∷ []
+
+examples-hold : map (λ (r : Row). read (r .levels) (r .bytes)) rows ≡ map (λ (r : Row). r .reading) rows
+unfolding rows one littleEndian markIn markOf styleOpening opens openingOf symbolHead listHead fieldHead listGot fieldBy onlyList fieldAt listAt choiceAt openedBy itemBy before restBy listBy readBy read
+examples-hold = refl

@@ -1,0 +1,24 @@
+-- `is_empty` meets its contract: the kind byte, if there is one, is 0 or not.
+-- Assumes nothing.
+use mathlib.Core.Path.{refl, sym}
+use mathlib.Core.Bool.{false}
+use mathlib.Core.List.{List}
+use Prim.Native.Nat.{ℕ}
+use native.Mathlib.Omega.{arith}
+use borrow.Author.Needs.{needs}
+use Rattle.formula.specs.Heads.{fieldHead, isEmpty}
+use Rattle.formula.proofs.FirstBytes.{short-one, empty-said}
+use Rattle.formula.proofs.heads.is_empty.Statement.{statement}
+use Rattle.formula.proofs.heads.is_empty.Tie as tie
+
+returns : tie.Need-returns
+unfolding fieldHead
+returns c =
+    let s = c .before .args .s .now in
+    sym (short-one (λ (s : List ℕ). isEmpty (fieldHead s)) false refl s (c .if1 .taken))
+
+returns-2 : tie.Need-returns-2
+returns-2 c = sym (empty-said _ (omega arith))
+
+pub is-empty-spec : {M : Type 1} → statement M
+is-empty-spec = tie.close (tie.spec returns (λ c. search needs) returns-2)
