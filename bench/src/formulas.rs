@@ -1,8 +1,9 @@
 //! The formulas that are set, over letters that both tables have.
 
-use reference::compose::{atom, choice, fraction, kern, list, symbol, EMPTY};
+use reference::compose::{atom, choice, fraction, kern, list, root, symbol, EMPTY};
 
 /// Family and code of the signs that stand in other places in other tables.
+#[derive(Clone, Copy)]
 pub struct Alphabet {
     pub plus: (u8, u8),
     pub equals: (u8, u8),
@@ -113,4 +114,11 @@ pub fn chosen(letters: &Alphabet, most: usize, depth: usize) -> Vec<u8> {
     (0..levels).fold(innermost, |inner, _| {
         choice([&list(&inner), &NO_ITEMS, &NO_ITEMS, &NO_ITEMS])
     })
+}
+
+/// As many roots of nothing as there is room for; over a full table of chains
+/// each looks for its sign in two of them.
+pub fn searches(most: usize) -> Vec<u8> {
+    let item = root([(1, 0), (2, 17)], [EMPTY; 3]);
+    item.repeat(most / item.len())
 }

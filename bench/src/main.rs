@@ -10,6 +10,7 @@ mod formulas;
 mod instructions;
 mod rows;
 mod stack;
+mod tables;
 mod times;
 mod timing;
 mod work;

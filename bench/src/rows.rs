@@ -1,31 +1,10 @@
 //! What the tables of times and of instructions set, row by row.
 
-use crate::formulas::{chosen, empty_choices, flat, nested, typical, Alphabet, PHRASE_BYTES};
+use crate::formulas::{
+    chosen, empty_choices, flat, nested, searches, typical, Alphabet, PHRASE_BYTES,
+};
+use crate::tables::{Font, BENCH, CHAINED, FONTS, UNCHAINED};
 use crate::work::{Call, Work};
-
-pub struct Font {
-    pub name: &'static str,
-    pub table: &'static [u8],
-    pub alphabet: Alphabet,
-}
-
-pub const BENCH: Font = Font {
-    name: "bench.tab",
-    table: include_bytes!("../../data/bench.tab"),
-    alphabet: Alphabet {
-        plus: (2, b'+'),
-        equals: (2, b'='),
-    },
-};
-const CM: Font = Font {
-    name: "cm.tab",
-    table: include_bytes!("../../data/cm.tab"),
-    alphabet: Alphabet {
-        plus: (0, b'+'),
-        equals: (0, b'='),
-    },
-};
-pub const FONTS: [&Font; 2] = [&BENCH, &CM];
 
 pub const LONGEST: usize = 4096;
 pub const DEEPEST: usize = 16;
@@ -37,8 +16,11 @@ const FLAT: Formulas = |letters| vec![flat(letters, LONGEST)];
 const NESTED: Formulas = |letters| vec![nested(letters, LONGEST, DEEPEST)];
 const EMPTY_CHOICES: Formulas = |_| vec![empty_choices(LONGEST)];
 const CHOSEN: Formulas = |letters| vec![chosen(letters, LONGEST, DEEPEST)];
+const NOTHING: Formulas = |_| vec![Vec::new()];
+const SEARCHES: Formulas = |_| vec![searches(LONGEST)];
 
 type Row = (&'static str, Call, Formulas);
+type OneFont = fn() -> &'static Font;
 
 /// Over each of the fonts.
 const OVER_A_FONT: [Row; 6] = [
@@ -50,14 +32,23 @@ const OVER_A_FONT: [Row; 6] = [
     ("4,096 bytes, nested 16 deep", Call::Set, NESTED),
 ];
 
-/// Over the bench table alone.
-const OVER_BENCH: [Row; 2] = [
-    ("4,088 bytes, empty choices", Call::Set, EMPTY_CHOICES),
-    ("4,050 bytes, flat, in choices 16 deep", Call::Set, CHOSEN),
+/// Over one table each.
+const OVER_ONE: [(OneFont, Row); 5] = [
+    (
+        || &BENCH,
+        ("4,088 bytes, empty choices", Call::Set, EMPTY_CHOICES),
+    ),
+    (
+        || &BENCH,
+        ("4,050 bytes, flat, in choices 16 deep", Call::Set, CHOSEN),
+    ),
+    (|| &UNCHAINED, ("no bytes", Call::Set, NOTHING)),
+    (|| &CHAINED, ("no bytes", Call::Set, NOTHING)),
+    (|| &CHAINED, ("4,095 bytes, roots", Call::Set, SEARCHES)),
 ];
 
 const FONT_ROWS: usize = FONTS.len() * OVER_A_FONT.len();
-pub const ROWS: usize = FONT_ROWS + OVER_BENCH.len();
+pub const ROWS: usize = FONT_ROWS + OVER_ONE.len();
 
 /// The work of the row, counted from 0; it is named by the row's first cells.
 pub fn row(number: usize) -> Work {
@@ -66,7 +57,10 @@ pub fn row(number: usize) -> Work {
             FONTS[number / OVER_A_FONT.len()],
             OVER_A_FONT[number % OVER_A_FONT.len()],
         ),
-        Some(further) => (&BENCH, OVER_BENCH[further]),
+        Some(further) => {
+            let (font, row) = OVER_ONE[further];
+            (font(), row)
+        }
     };
     let name = format!("{what} | {} | {call:?}", font.name);
     Work::new(name, call, font.table, formulas(&font.alphabet))

@@ -6,7 +6,8 @@
 
 use crate::figures::grouped;
 use crate::formulas::nested;
-use crate::rows::{BENCH, DEEPEST, LONGEST};
+use crate::rows::{DEEPEST, LONGEST};
+use crate::tables::BENCH;
 use crate::work::{room, Call, DISPLAY};
 use std::arch::asm;
 use torfianka::sys;

@@ -2,7 +2,8 @@
 
 use crate::figures::grouped;
 use crate::formulas::{chosen, empty_choices, flat, typical, PHRASE_BYTES};
-use crate::rows::{row, Font, BENCH, DEEPEST, FONTS, LONGEST, ROWS};
+use crate::rows::{row, DEEPEST, LONGEST, ROWS};
+use crate::tables::{Font, BENCH, FONTS};
 use crate::timing::Job;
 use crate::work::{Call, Work};
 

@@ -2,13 +2,17 @@
 -- Assumes nothing.
 use Rattle.scaled.specs.Length.{pick, maxℤ, minℤ, half, atQuad}
 use Rattle.words.specs.Words.{littleEndian, signedWord, wordOf, fourBytes}
-use Rattle.font.specs.Table.{pieces, characterCount, parameterRecords, characterRecords, words, marked, parameterWords, metricWords, every, goodParameters, goodCharacter, before, rising, goodLength, goodTable}
+use Rattle.font.specs.Records.{pieces, characterCount, parameterRecords, characterRecords, words, marked, parameterWords, metricWords, every, goodParameters, goodCharacter, before, rising, goodLength, goodRecords}
 use Rattle.font.specs.Font.{successorOf, metricsOf, isOf, lookup, fontOf}
+use Rattle.font.specs.Chains.{next, goesOn, chainEnds}
+use Rattle.font.specs.Table.{goodTable}
 use Rattle.formula.specs.Tree.{itemsBytes, itemBytes, fieldBytes}
 use Rattle.formula.specs.Marks.{markIn, markOf}
-use Rattle.formula.specs.Heads.{atomOf, atomOpening, fractionOf, fractionOpening, kernWithin, kernOpening, styleOpening, opens, openingOf, symbolHead, listHead, fieldHead}
+use Rattle.formula.specs.Heads.{atomOf, atomOpening, fractionOf, fractionOpening, kernWithin, kernOpening, styleOpening, rootOf, rootOpening, opens, openingOf, symbolHead, listHead, fieldHead}
 use Rattle.formula.specs.Reading.{listGot, fieldBy, onlyList, fieldAt, thirdAt, noadAt, listAt, choiceAt, openedBy, itemBy, before as beforeReading, restBy, listBy, readBy, read, readFormula}
 use Rattle.boxes.specs.Styles.{styleOf}
+use Rattle.delimiters.specs.Delimiters.{chainBy, chain, inSizes, ofPair, candidates, extent, firstEnough, taller, tallest, taken, signFor, hasAny, hasSign}
+use Rattle.roots.specs.Roots.{root}
 use Rattle.spacing.specs.Classes.{changedClass}
 use Rattle.spacing.specs.Spacing.{row, chart, spaceBefore}
 use Rattle.scripts.specs.Scripts.{drops, greatest, subscriptCandidates, leastUp, superscriptCandidates, pairCandidates, gapDown, ψOf, lifted, spread, pairShifts, reach, scripted}
@@ -17,11 +21,11 @@ use Rattle.fractions.specs.Fractions.{fractionShifts, parted, shiftsWithoutBar,
 use Rattle.arrange.specs.Arrange.{nucleusOf, arrange}
 use Rattle.nodes.specs.Nodes.{moved, signedBytes, nodeBytes, bytesOf}
 use Rattle.nodes.specs.Bounds.{nodesFit}
-use Rattle.setting.specs.Setting.{found, successor, enlarged, symbolIn, symbolPart, ruleNodes, itemNodes, itemBox, styleAfter, styleBehind, nextClass, classAt, placed, setItems, setItem, setField, setList}
+use Rattle.setting.specs.Setting.{found, successor, enlarged, symbolIn, symbolPart, signIn, isSigned, ownNodes, itemNodes, itemBox, styleAfter, styleBehind, nextClass, classAt, placed, setItems, setItem, setField, setList}
 use Rattle.setting.specs.Missing.{later, absentAt, missingItems, missingItem, missingField}
 use Rattle.setting.specs.Fitting.{boxFits, itemsFit, itemFits, fieldFits, listFits}
 use Rattle.answers.specs.Answers.{ifFits, ifPresent, ifRead, ifGood, ifStyle, resultOf, measuredBy, measured, hasRoom, setBy, setting, bufferBy, bufferAfter}
 
 unfoldable pub definitions : Unit {0}
-unfolding pick maxℤ minℤ half atQuad littleEndian signedWord wordOf fourBytes pieces characterCount parameterRecords characterRecords words marked parameterWords metricWords every goodParameters goodCharacter before rising goodLength goodTable successorOf metricsOf isOf lookup fontOf itemsBytes itemBytes fieldBytes markIn markOf atomOf atomOpening fractionOf fractionOpening kernWithin kernOpening styleOpening opens openingOf symbolHead listHead fieldHead listGot fieldBy onlyList fieldAt thirdAt noadAt listAt choiceAt openedBy itemBy beforeReading restBy listBy readBy read readFormula styleOf changedClass row chart spaceBefore limited drops greatest subscriptCandidates leastUp superscriptCandidates pairCandidates gapDown ψOf lifted spread pairShifts reach scripted fractionShifts parted shiftsWithoutBar cleared shiftsWithBar fraction nucleusOf arrange moved signedBytes nodeBytes bytesOf found successor enlarged symbolIn symbolPart ruleNodes itemNodes itemBox styleAfter styleBehind nextClass classAt placed setItems setItem setField setList later absentAt missingItems missingItem missingField nodesFit boxFits itemsFit itemFits fieldFits listFits ifFits ifPresent ifRead ifGood ifStyle resultOf measuredBy measured hasRoom setBy setting bufferBy bufferAfter
+unfolding pick maxℤ minℤ half atQuad littleEndian signedWord wordOf fourBytes pieces characterCount parameterRecords characterRecords words marked parameterWords metricWords every goodParameters goodCharacter before rising goodLength goodRecords successorOf metricsOf isOf lookup fontOf next goesOn chainEnds goodTable itemsBytes itemBytes fieldBytes markIn markOf atomOf atomOpening fractionOf fractionOpening kernWithin kernOpening styleOpening rootOf rootOpening opens openingOf symbolHead listHead fieldHead listGot fieldBy onlyList fieldAt thirdAt noadAt listAt choiceAt openedBy itemBy beforeReading restBy listBy readBy read readFormula styleOf chainBy chain inSizes ofPair candidates extent firstEnough taller tallest taken signFor hasAny hasSign root changedClass row chart spaceBefore limited drops greatest subscriptCandidates leastUp superscriptCandidates pairCandidates gapDown ψOf lifted spread pairShifts reach scripted fractionShifts parted shiftsWithoutBar cleared shiftsWithBar fraction nucleusOf arrange moved signedBytes nodeBytes bytesOf found successor enlarged symbolIn symbolPart signIn isSigned ownNodes itemNodes itemBox styleAfter styleBehind nextClass classAt placed setItems setItem setField setList later absentAt missingItems missingItem missingField nodesFit boxFits itemsFit itemFits fieldFits listFits ifFits ifPresent ifRead ifGood ifStyle resultOf measuredBy measured hasRoom setBy setting bufferBy bufferAfter
 definitions = tt

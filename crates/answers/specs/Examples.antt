@@ -1,6 +1,7 @@
 -- The worked examples of document 01, computed by the definition from bytes: P1 to P12 as one table under one statement,
 -- `examples-hold`, and the underlined a with the 36 bytes of its two nodes, `underlined-set` and `underlined-buffer`. Of change
--- request 2, `display-from-here`: in T, an ST in the list that a C4 takes makes the operator behind it that of P12.
+-- request 2, `display-from-here`: in T, an ST in the list that a C4 takes makes the operator behind it that of P12. Of request 3,
+-- `roots-hold`: the bench's sum is tall enough for the root of a, and its successor for the root of that; a root without a sign.
 -- Assumes nothing.
 use mathlib.Core.Path.{_≡_, refl}
 use mathlib.Core.List.{List, [], _∷_, _++_, map}
@@ -157,6 +158,38 @@ display-from-here :
     }
 unfolding definitions benchTable
 display-from-here = refl
+
+-- ---- roots
+
+-- R, D with the sum, or with no symbol, for its sign
+abbrev root : List ℕ → List ℕ → List ℕ
+root nucleus subscript = 82 ∷ 68 ∷ 3 ∷ 80 ∷ 3 ∷ 80 ∷ (nucleus ++ empty ++ subscript)
+
+abbrev signless : List ℕ → List ℕ
+signless nucleus = 82 ∷ 68 ∷ 0 ∷ 0 ∷ 0 ∷ 0 ∷ (nucleus ++ empty ++ empty)
+
+roots : List Example
+roots =
+    example (root a a) T (pos 34768) (pos 740) (pos 310)
+    (glyph (pos 0) (pos 740) 0 3 80
+    ∷ rule (pos 1000) (pos 740) (pos 500) (pos 0)
+    ∷ glyph (pos 1000) (pos 0) 0 1 97
+    ∷ glyph (pos 1500) (minus 310) 1 1 97
+    ∷ [])
+    ∷ example (root (sublist 11 (root a empty)) empty) T (pos 2900) (pos 965) (pos 435)
+    (glyph (pos 0) (pos 965) 0 3 88
+    ∷ rule (pos 1400) (pos 965) (pos 1500) (pos 0)
+    ∷ glyph (pos 1400) (pos 740) 0 3 80
+    ∷ rule (pos 2400) (pos 740) (pos 500) (pos 0)
+    ∷ glyph (pos 2400) (pos 0) 0 1 97
+    ∷ [])
+    ∷ example (signless a) S (pos 79143) (pos 480) (pos 0)
+    (rule (pos 78643) (pos 480) (pos 500) (pos 0) ∷ glyph (pos 78643) (pos 0) 1 1 97 ∷ [])
+    ∷ []
+
+roots-hold : map computed roots ≡ map stated roots
+unfolding definitions benchTable roots computed stated
+roots-hold = refl
 
 -- ---- the underlined a, in T, with a buffer that has two bytes more than its nodes need
 

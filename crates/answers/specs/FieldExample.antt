@@ -4,6 +4,8 @@
 -- By the place of its kind byte it is the list field at 16 (`superscript-by-place`); `nested-at` is one a level deeper.
 -- A C4 takes its list for T, an ST that says D; the C4 behind it takes its list for D, `a^{a}`. The superscript there is the list field at
 -- 29 (`chosen-by-place`), in the style S, and moved 500 across and 420 up, as in D.
+-- The nucleus of a root is the list field at 6 (`nucleus-by-place`), in the style T'; the sign that reaches over it and the rule stand
+-- before it, and it is moved 1000 across, as wide as the sign is.
 -- Assumes nothing.
 use mathlib.Core.Path.{_≡_, refl}
 use mathlib.Core.List.{List, [], _∷_, _++_}
@@ -13,15 +15,16 @@ use lib.ListN.{take, drop}
 use Rattle.words.specs.Words.{littleEndian}
 use Rattle.formula.specs.declared.Class.the-variants.{Ord}
 use Rattle.formula.specs.declared.Limits.the-variants.{DisplayOnly}
-use Rattle.formula.specs.declared.Base.the-variants.{Atom, Under}
+use Rattle.formula.specs.declared.Base.the-variants.{Atom, Under, Root}
 use Rattle.formula.specs.declared.Kind.{Kind}
 use Rattle.formula.specs.declared.Kind.the-variants.{Scripted}
+use Rattle.formula.specs.Heads.{delimiter}
 use Rattle.formula.specs.Tree.{Items, Field, nil, cons, noad, restyle, choice, empty, symbol}
 use Rattle.boxes.specs.declared.styles.Level.the-variants.{Display, Text, Script}
 use Rattle.boxes.specs.declared.styles.Style.{Style}
-use Rattle.boxes.specs.Styles.{plain}
-use Rattle.nodes.specs.Nodes.{glyph}
-use Rattle.setting.specs.Paths.{inSecond, among, within, Step, whole, into, fill}
+use Rattle.boxes.specs.Styles.{plain, cramp}
+use Rattle.nodes.specs.Nodes.{glyph, rule}
+use Rattle.setting.specs.Paths.{inFirst, inSecond, among, within, Step, whole, into, fill}
 use Rattle.answers.specs.Answers.{measured}
 use Rattle.answers.specs.BenchTable.{benchTable}
 use Rattle.answers.specs.Definitions.{definitions}
@@ -195,3 +198,51 @@ unfolding definitions
 chosen-by-place =
     demand-3-at T benchTable chosen (chosen-accepted .room) (chosen-accepted .is-accepted) (plain Text) refl 29 (plain Script) atomBytes
     chosen-at
+
+-- ---- in a root
+
+-- the root of the list a, with the sum for its sign
+abbrev rooted : List ℕ
+rooted = 82 ∷ 68 ∷ 3 ∷ 80 ∷ 3 ∷ 80 ∷ 2 ∷ 9 ∷ 0 ∷ (atomBytes ++ (0 ∷ 0 ∷ []))
+
+abbrev root : Kind
+root = Scripted (Root (delimiter 3 80 3 80))
+
+abbrev nucleus : Step
+nucleus = record { spot = among nil nil; kind = root; arm = inFirst empty empty }
+
+rooted-accepted : Accepted T benchTable rooted (plain Text) (fill (plain Text) (into whole nucleus) aAlone)
+unfolding definitions benchTable
+rooted-accepted = record { style-is = refl; reads = refl; room = 54; is-accepted = refl }
+
+pub nucleus-frame :
+    around benchTable (plain Text) whole nucleus (measured 3 benchTable atomBytes .size)
+    ≡ record {
+      before = glyph (pos 0) (pos 740) 0 3 80 ∷ rule (pos 1000) (pos 740) (pos 500) (pos 0) ∷ [];
+      distance = record { across = pos 1000; up = pos 0 };
+      after = [];
+    }
+unfolding definitions benchTable
+nucleus-frame = refl
+
+nucleus-at : ListFieldAt (plain Text) rooted 6 (cramp Text) atomBytes
+unfolding definitions
+nucleus-at =
+    own (record {
+      item-place = 0;
+      item-style = plain Text;
+      item = rooted;
+      is-set = inList first;
+      kind = root;
+      opens = refl;
+      field-place = 6;
+      in-item = inOne;
+      place-is = refl;
+      is-list = listField 9 0 (atomBytes ++ (0 ∷ 0 ∷ []));
+    })
+
+pub nucleus-by-place : ListFieldAsAlone T benchTable rooted (plain Text) 6 (cramp Text) atomBytes
+unfolding definitions
+nucleus-by-place =
+    demand-3-at T benchTable rooted (rooted-accepted .room) (rooted-accepted .is-accepted) (plain Text) refl 6 (cramp Text) atomBytes
+    nucleus-at

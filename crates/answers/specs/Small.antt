@@ -15,13 +15,12 @@ use lib.ListN.{length, length-append}
 use borrow.Author.Tests.{ltb-false}
 use Rattle.font.specs.Table.{goodTable}
 use Rattle.font.specs.Font.{Font, fontOf}
-use Rattle.formula.specs.declared.Base.the-variants.{Atom, Over, Under}
 use Rattle.formula.specs.declared.Fault.the-variants.{Unreadable}
 use Rattle.formula.specs.declared.Kind.{Kind}
-use Rattle.formula.specs.declared.Kind.the-variants.{Scripted, Fraction}
 use Rattle.formula.specs.Tree.{Items, Item, Field, cons, noad, kern, restyle, choice, empty, symbol, list, openingBytes, kernBytes, restyleBytes, choiceOpeningBytes, listOpeningBytes, sublistBytes, thirdBytes, itemsBytes, itemBytes, fieldBytes}
 use Rattle.formula.specs.Reading.{Read, good, fault, formulaLimit, depthLimit, read, readFormula}
 use Rattle.formula.specs.ReadIn.{Parts, Closed, ReadIn, read-in}
+use Rattle.formula.specs.PlacesLaws.{opening-long}
 use Rattle.boxes.specs.declared.styles.Level.{Level}
 use Rattle.boxes.specs.declared.styles.Level.the-variants.{Display, Text, Script, Scriptscript}
 use Rattle.boxes.specs.declared.styles.Style.{Style}
@@ -30,8 +29,8 @@ use Rattle.spacing.specs.Classes.{Neighbour}
 use Rattle.arrange.specs.Arrange.{firstStyle, secondStyle, thirdStyle, enlarges}
 use Rattle.arrange.proofs.ArrangeLaws.{own-before, own-behind, few-own}
 use Rattle.nodes.specs.NodeLaws.{length-moved}
-use Rattle.setting.specs.Setting.{Box, Line, Symbol, Part, symbolIn, symbolPart, itemNodes, itemBox, taken, styleBehind, nextClass, start, placed, setItems, setItem, setField, setList}
-use Rattle.setting.specs.SettingLaws.{length-rules, setItem-choice, missingItem-choice}
+use Rattle.setting.specs.Setting.{Box, Line, Symbol, Part, symbolIn, symbolPart, signIn, isSigned, itemNodes, itemBox, taken, styleBehind, nextClass, start, placed, setItems, setItem, setField, setList}
+use Rattle.setting.specs.SettingLaws.{length-own, sign-found, setItem-choice, missingItem-choice}
 use Rattle.setting.specs.Missing.{_orElse_, later, absentAt, missingItems, missingItem, missingField}
 use Rattle.setting.specs.Fitting.{listFits}
 use Rattle.answers.specs.Answers.{Answered, Result, boxed, refused, refusal, accepted, noRoomNumber, ifFits, ifPresent, ifRead, ifGood, ifStyle, resultOf, measuredBy, measured, hasRoom, setBy, setting}
@@ -120,21 +119,18 @@ either-place : (n place : ℕ) (x y : Option ℕ) → ((p : ℕ) → x ≡ some 
 either-place n place none y f g e = g place e
 either-place n place (some p) y f g e = f place e
 
-opened : (kind : Kind) → 2 ≤ openingBytes kind
-opened (Scripted (Atom class limits)) = omega arith
-opened (Scripted Over) = omega arith
-opened (Scripted Under) = omega arith
-opened (Fraction bar) = omega arith
-
 -- an item's own nodes are no more than the bytes that it opens with
 item-few : (F : Font) (s : Style) (kind : Kind) (x y z : Part) →
     length (itemBox F s kind x y z .nodes) ≤ openingBytes kind + length (x .nodes) + length (y .nodes) + length (z .nodes)
 unfolding itemBox itemNodes
 item-few F s kind x y z =
     let p = F .parameter in
-    let ahead = own-before p s kind (x .shape) (y .shape) (z .shape) in
-    let owned = own-behind p s kind (x .shape) (y .shape) (z .shape) in
-    simp (length-append, length-moved, length-rules) (omega (arith, ahead, owned, few-own p s kind, opened kind))
+    let sign = signIn F s kind (x .shape) in
+    let found = sign-found F s kind (x .shape) in
+    let ahead = own-before p s kind sign (x .shape) (y .shape) (z .shape) found in
+    let owned = own-behind p s kind sign (x .shape) (y .shape) (z .shape) found in
+    simp (length-append, length-moved, length-own)
+    (omega (arith, ahead, owned, few-own p s kind (isSigned F s kind), opening-long kind))
 
 module _ (kind : Kind) (x y z : Field) (m₁ m₂ m₃ : ℕ) (a : FieldIn (openingBytes kind) m₁ (fieldBytes x) x)
     (b : FieldIn m₁ m₂ (fieldBytes y) y) (c : FieldIn m₂ m₃ (thirdBytes kind (fieldBytes z)) z) where

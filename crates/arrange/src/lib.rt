@@ -7,6 +7,7 @@ use boxes::parameters::AXIS_HEIGHT;
 use boxes::parameters::Parameters;
 use boxes::parameters::parameter;
 use boxes::parameters::rule_thickness;
+use boxes::signed_before;
 use boxes::size_of;
 use boxes::styles::Style;
 use boxes::styles::cramped_style;
@@ -16,6 +17,9 @@ use boxes::styles::is_display;
 use boxes::styles::numerator_style;
 use boxes::styles::subscript_style;
 use boxes::styles::superscript_style;
+use delimiters::Chosen;
+use delimiters::sign_at;
+use delimiters::sign_size;
 use formula::Base;
 use formula::Kind;
 use formula::heads::is_op;
@@ -28,15 +32,21 @@ use nucleus::Nucleus;
 use nucleus::atom_nucleus;
 use nucleus::overline;
 use nucleus::underline;
+use roots::Radical;
+use roots::root;
+use scaled::Sp;
 use scripts::scripted;
 ghost use mathlib.Core.Path.{_≡_};
 ghost use Prim.Native.Nat.{_≤_};
-ghost use Rattle.arrange.specs.Arrange.{baseStyle, firstStyle, secondStyle, thirdStyle, baseEnlarges, isGiven, setsLimits, nucleusOf, countsBehind, baseCounts, barCounts};
+ghost use Rattle.arrange.specs.Arrange.{baseStyle, firstStyle, secondStyle, thirdStyle, baseEnlarges, isGiven, setsLimits, rootNucleus, nucleusOf, countsBehind, countsBefore, rootCounts, baseCounts, barCounts};
 ghost use Rattle.arrange.specs.Arrange as rule;
 ghost use Rattle.boxes.specs.Values.{parametersIn, shapeAs, scriptAs, arrangedAs};
+ghost use Rattle.delimiters.specs.Values.{chosenAs};
+ghost use Rattle.roots.specs.Values.{radicalAs};
 ghost use Rattle.nucleus.specs.Values.{nucleusAs};
 ghost use Rattle.arrange.specs.Values.{CountsAre, OwnCountsAre};
 ghost use Rattle.boxes.specs.Bounds.{ModerateShape, Bounded};
+ghost use Rattle.roots.specs.Bounds.{ModerateRadical};
 ghost use Rattle.nucleus.specs.Bounds.{ModerateNucleus};
 
 // The style of the first field of an item in a style.
@@ -56,6 +66,7 @@ fn base_style(base: Base, style: Style) -> Style
         Base::Atom(_, _) => style,
         Base::Over => cramped_style(style),
         Base::Under => style,
+        Base::Root(_) => cramped_style(style),
     }
 }
 
@@ -97,18 +108,28 @@ fn base_enlarges(base: Base, style: Style) -> bool
         }
         Base::Over => false,
         Base::Under => false,
+        Base::Root(_) => false,
     }
 }
 
-pub fn arrange(p: &Parameters, style: Style, kind: Kind, x: Shape, y: Shape, z: Shape) -> Arranged
+// The sign that was found for the item is a root's.
+pub fn arrange(
+    p: &Parameters,
+    style: Style,
+    kind: Kind,
+    sign: Chosen,
+    x: Shape,
+    y: Shape,
+    z: Shape,
+) -> Arranged
     requires { ⌜ ModerateShape x × ModerateShape y × ModerateShape z ⌝ }
-    ensures { λ r. ⌜ (arrangedAs r ≡ rule.arrange (parametersIn (now (p .entry))) style kind (shapeAs x) (shapeAs y) (shapeAs z)) × Bounded r ⌝ }
+    ensures { λ r. ⌜ (arrangedAs r ≡ rule.arrange (parametersIn (now (p .entry))) style kind (chosenAs sign) (shapeAs x) (shapeAs y) (shapeAs z)) × Bounded r ⌝ }
 {
     match kind {
         Kind::Scripted(base) => {
             let superscript = given(y);
             let subscript = given(z);
-            let n = nucleus_of(p, style, base, is_given(subscript), x);
+            let n = nucleus_of(p, style, base, sign, is_given(subscript), x);
             if sets_limits(style, base) {
                 limited(p, font_size(style), n, superscript, subscript)
             } else {
@@ -127,13 +148,21 @@ fn sets_limits(style: Style, base: Base) -> bool
         Base::Atom(class, limits) => has_limits(style, class, limits),
         Base::Over => false,
         Base::Under => false,
+        Base::Root(_) => false,
     }
 }
 
 // What the scripts are set to; the test is whether there is a subscript.
-fn nucleus_of(p: &Parameters, style: Style, base: Base, subscript: bool, x: Shape) -> Nucleus
+fn nucleus_of(
+    p: &Parameters,
+    style: Style,
+    base: Base,
+    sign: Chosen,
+    subscript: bool,
+    x: Shape,
+) -> Nucleus
     requires { ⌜ ModerateShape x ⌝ }
-    ensures { λ r. ⌜ (nucleusAs r ≡ nucleusOf (parametersIn (now (p .entry))) style base subscript (shapeAs x)) × ModerateNucleus r ⌝ }
+    ensures { λ r. ⌜ (nucleusAs r ≡ nucleusOf (parametersIn (now (p .entry))) style base (chosenAs sign) subscript (shapeAs x)) × ModerateNucleus r ⌝ }
 {
     match base {
         Base::Atom(class, limits) => {
@@ -143,6 +172,23 @@ fn nucleus_of(p: &Parameters, style: Style, base: Base, subscript: bool, x: Shap
         }
         Base::Over => overline(rule_thickness(p, style), size_of(x)),
         Base::Under => underline(rule_thickness(p, style), size_of(x)),
+        Base::Root(_) => root_nucleus(root(p, style, size_of(x), sign_size(sign)), sign),
+    }
+}
+
+// Rule 11: a root's sign, if there is one, and its rule stand before its field.
+fn root_nucleus(radical: Radical, sign: Chosen) -> Nucleus
+    requires { ⌜ ModerateRadical radical ⌝ }
+    ensures { λ r. ⌜ (nucleusAs r ≡ rootNucleus (radicalAs radical) (chosenAs sign)) × ModerateNucleus r ⌝ }
+{
+    let size = radical.size;
+    let first = radical.nucleus;
+    Nucleus {
+        size,
+        first,
+        delta: Sp(0),
+        plain: false,
+        own: signed_before(sign_at(radical.sign, sign), radical.rule),
     }
 }
 
@@ -161,23 +207,36 @@ pub struct OwnCounts {
     pub behind: usize,
 }
 
-pub fn own_counts(p: &Parameters, style: Style, kind: Kind) -> OwnCounts
-    ensures { λ r. ⌜ OwnCountsAre (parametersIn (now (p .entry))) style kind r ⌝ }
+// The test is whether a sign was found for the item.
+pub fn own_counts(p: &Parameters, style: Style, kind: Kind, found: bool) -> OwnCounts
+    ensures { λ r. ⌜ OwnCountsAre (parametersIn (now (p .entry))) style kind found r ⌝ }
 {
     match kind {
-        Kind::Scripted(base) => base_counts(base),
+        Kind::Scripted(base) => base_counts(base, found),
         Kind::Fraction(bar) => bar_counts(has_bar(bar_thickness(p, font_size(style), bar))),
     }
 }
 
 // A line always.
-fn base_counts(base: Base) -> OwnCounts
-    ensures { λ r. ⌜ CountsAre (baseCounts base) r ⌝ }
+fn base_counts(base: Base, found: bool) -> OwnCounts
+    ensures { λ r. ⌜ CountsAre (baseCounts base found) r ⌝ }
 {
     match base {
         Base::Atom(_, _) => counts_behind(0),
         Base::Over => counts_behind(1),
         Base::Under => counts_behind(1),
+        Base::Root(_) => root_counts(found),
+    }
+}
+
+// A sign where one was found, and a rule always.
+fn root_counts(found: bool) -> OwnCounts
+    ensures { λ r. ⌜ CountsAre (rootCounts found) r ⌝ }
+{
+    if found {
+        counts_before(2)
+    } else {
+        counts_before(1)
     }
 }
 
@@ -189,6 +248,16 @@ fn bar_counts(thick: bool) -> OwnCounts
         counts_behind(1)
     } else {
         counts_behind(0)
+    }
+}
+
+fn counts_before(n: usize) -> OwnCounts
+    requires { ⌜ n ≤ 2 ⌝ }
+    ensures { λ r. ⌜ CountsAre (countsBefore n) r ⌝ }
+{
+    OwnCounts {
+        before: n,
+        behind: 0,
     }
 }
 

@@ -1,7 +1,8 @@
 -- What the rules see of a field and say of an item (document 01, "Fields"): sizes and places, and no node within a field.
 -- Assumes nothing.
-use mathlib.Core.List.{List, [], _∷_}
+use mathlib.Core.List.{List, [], _∷_, _++_}
 use mathlib.Core.Option.{Option, none, some}
+use Prim.Native.Nat.{ℕ}
 use lib.IntN.{ℤ, pos, _+ℤ_, _-ℤ_}
 use Rattle.scaled.specs.Length.{half}
 use Rattle.font.specs.Font.{Metrics}
@@ -23,6 +24,13 @@ pub data Shape : Type 0 where
 -- a symbol with its italic correction in its width
 abbrev pub charSize : Metrics → Size
 charSize m = record { width = pos (m .width) +ℤ pos (m .italic); height = pos (m .height); depth = pos (m .depth) }
+
+-- an absent delimiter is blank, with a width alone
+abbrev pub nullDelimiterWidth : ℤ
+nullDelimiterWidth = pos 78_643
+
+abbrev pub blankSize : Size
+blankSize = record { width = nullDelimiterWidth; height = pos 0; depth = pos 0 }
 
 -- "Set box x to the so-and-so field" of Appendix G
 abbrev pub sizeOf : Shape → Size
@@ -58,16 +66,31 @@ pub record Rule : Type 0 where
   pub width : ℤ
   pub thickness : ℤ
 
+-- the symbol of a delimiter at its place, with the size in which it was found
+pub record Glyph : Type 0 where
+  pub place : Offset
+  pub size : ℕ
+  pub family : ℕ
+  pub code : ℕ
+
+pub data OwnNode : Type 0 where
+  ruled : Rule → OwnNode
+  signed : Glyph → OwnNode
+
 -- an item's own nodes: some before its first field, some behind it
 pub record Own : Type 0 where
-  pub before : List Rule
-  pub behind : List Rule
+  pub before : List OwnNode
+  pub behind : List OwnNode
 
 abbrev pub noOwn : Own
 noOwn = record { before = []; behind = [] }
 
 abbrev pub ruledBehind : Rule → Own
-ruledBehind r = record { before = []; behind = r ∷ [] }
+ruledBehind r = record { before = []; behind = ruled r ∷ [] }
+
+-- a delimiter's symbol, if there is one, and a rule
+abbrev pub signedBefore : List OwnNode → Rule → Own
+signedBefore sign r = record { before = sign ++ (ruled r ∷ []); behind = [] }
 
 -- an item: its size, where its three fields stand, and its own nodes
 pub record Arranged : Type 0 where

@@ -1,6 +1,6 @@
 -- What the values of the code stand for in the definitions: each struct and enum is read by a function of its own.
 -- Assumes nothing.
-use mathlib.Core.List.{List, [], _∷_}
+use mathlib.Core.List.{List, [], _∷_, _++_}
 use mathlib.Core.Option.{Option, none, some}
 use Prim.Native.Nat.{ℕ}
 use lib.ListN.{getD}
@@ -18,11 +18,15 @@ use Rattle.boxes.specs.declared.Shifts.{Shifts}
 use Rattle.boxes.specs.declared.Rule.{Rule}
 use Rattle.boxes.specs.declared.Ruling.{Ruling}
 use Rattle.boxes.specs.declared.Ruling.the-variants.{Unruled, Ruled}
+use Rattle.boxes.specs.declared.Glyph.{Glyph}
+use Rattle.boxes.specs.declared.Signing.{Signing}
+use Rattle.boxes.specs.declared.Signing.the-variants.{Unsigned, Signed}
+use Rattle.boxes.specs.declared.Owned.{Owned}
 use Rattle.boxes.specs.declared.Own.{Own}
 use Rattle.boxes.specs.declared.Arranged.{Arranged}
 use Rattle.boxes.specs.Parameters.{Parameters}
-use Rattle.boxes.specs.Boxes.{nothing, char, box}
-use Rattle.boxes.specs.Boxes.{Size as SizeOf, Shape as ShapeOf, Offset as OffsetOf, Shifts as ShiftsOf, Rule as RuleOf, Own as OwnOf, Arranged as ArrangedOf}
+use Rattle.boxes.specs.Boxes.{nothing, char, box, OwnNode, ruled, signed}
+use Rattle.boxes.specs.Boxes.{Size as SizeOf, Shape as ShapeOf, Offset as OffsetOf, Shifts as ShiftsOf, Rule as RuleOf, Glyph as GlyphOf, Own as OwnOf, Arranged as ArrangedOf}
 
 -- three rows of thirty-five words, read by size and number
 unfoldable pub parametersIn : List (List ℕ) → Parameters
@@ -53,12 +57,23 @@ shiftsAs t = record { up = t .up .0; down = t .down .0 }
 abbrev pub ruleAs : Rule → RuleOf
 ruleAs r = record { corner = offsetAs (r .corner); width = r .width .0; thickness = r .thickness .0 }
 
-abbrev pub rulingAs : Ruling → List RuleOf
+abbrev pub rulingAs : Ruling → List OwnNode
 rulingAs Unruled = []
-rulingAs (Ruled r) = ruleAs r ∷ []
+rulingAs (Ruled r) = ruled (ruleAs r) ∷ []
+
+abbrev pub glyphAs : Glyph → GlyphOf
+glyphAs g = record { place = offsetAs (g .place); size = g .size; family = g .family; code = g .code }
+
+abbrev pub signingAs : Signing → List OwnNode
+signingAs Unsigned = []
+signingAs (Signed g) = signed (glyphAs g) ∷ []
+
+-- a sign stands before a rule
+abbrev pub ownedAs : Owned → List OwnNode
+ownedAs o = signingAs (o .sign) ++ rulingAs (o .ruling)
 
 abbrev pub ownAs : Own → OwnOf
-ownAs o = record { before = rulingAs (o .before); behind = rulingAs (o .behind) }
+ownAs o = record { before = ownedAs (o .before); behind = ownedAs (o .behind) }
 
 abbrev pub arrangedAs : Arranged → ArrangedOf
 arrangedAs a =

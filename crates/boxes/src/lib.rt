@@ -9,8 +9,8 @@ ghost use mathlib.Core.Path.{_≡_};
 ghost use Rattle.scaled.specs.Signed.{Within};
 ghost use Rattle.font.specs.Values.{metricsAs};
 ghost use Rattle.boxes.specs.Boxes as boxes;
-ghost use Rattle.boxes.specs.Values.{sizeAs, shapeAs, scriptAs, offsetAs, ruleAs, ownAs};
-ghost use Rattle.boxes.specs.Bounds.{words, itemWords, Moderate, ModerateShape, ModerateScript, OffsetWithin, RuleWithin, OwnWithin};
+ghost use Rattle.boxes.specs.Values.{sizeAs, shapeAs, scriptAs, offsetAs, ruleAs, signingAs, ownAs};
+ghost use Rattle.boxes.specs.Bounds.{words, itemWords, Moderate, ModerateShape, ModerateScript, OffsetWithin, RuleWithin, SigningWithin, OwnWithin};
 
 pub struct Size {
     pub width: Sp,
@@ -50,16 +50,36 @@ pub struct Rule {
     pub thickness: Sp,
 }
 
-// Own nodes that stand together: none, or a rule.
+// The symbol of a delimiter at its place, with the size in which it was found.
+pub struct Glyph {
+    pub place: Offset,
+    pub size: u8,
+    pub family: u8,
+    pub code: u8,
+}
+
+// A line or a bar, if there is one.
 pub enum Ruling {
     Unruled,
     Ruled(Rule),
 }
 
+// A delimiter's symbol, if there is one.
+pub enum Signing {
+    Unsigned,
+    Signed(Glyph),
+}
+
+// Own nodes that stand together: a sign, and behind it a rule.
+pub struct Owned {
+    pub sign: Signing,
+    pub ruling: Ruling,
+}
+
 // An item's own nodes: before its first field, and behind it.
 pub struct Own {
-    pub before: Ruling,
-    pub behind: Ruling,
+    pub before: Owned,
+    pub behind: Owned,
 }
 
 // An item: its size, where its three fields stand, and its own nodes.
@@ -113,6 +133,20 @@ pub fn zero_size() -> Size
     }
 }
 
+// The width of an absent delimiter.
+pub const NULL_DELIMITER_WIDTH: i64 = 78_643;
+
+// An absent delimiter is blank, with a width alone.
+pub fn blank_size() -> Size
+    ensures { λ r. ⌜ (sizeAs r ≡ boxes.blankSize) × Moderate r ⌝ }
+{
+    Size {
+        width: Sp(NULL_DELIMITER_WIDTH),
+        height: Sp(0),
+        depth: Sp(0),
+    }
+}
+
 pub fn origin() -> Offset
     ensures { λ r. ⌜ (offsetAs r ≡ boxes.origin) × OffsetWithin 0 r ⌝ }
 {
@@ -122,12 +156,17 @@ pub fn origin() -> Offset
     }
 }
 
-pub fn unruled() -> Own
+const NONE_OWNED: Owned = Owned {
+    sign: Signing::Unsigned,
+    ruling: Ruling::Unruled,
+};
+
+pub fn no_own() -> Own
     ensures { λ r. ⌜ (ownAs r ≡ boxes.noOwn) × OwnWithin itemWords r ⌝ }
 {
     Own {
-        before: Ruling::Unruled,
-        behind: Ruling::Unruled,
+        before: NONE_OWNED,
+        behind: NONE_OWNED,
     }
 }
 
@@ -135,16 +174,35 @@ pub fn ruled_behind(rule: Rule) -> Own
     requires { ⌜ RuleWithin itemWords rule ⌝ }
     ensures { λ r. ⌜ (ownAs r ≡ boxes.ruledBehind (ruleAs rule)) × OwnWithin itemWords r ⌝ }
 {
+    let behind = Owned {
+        sign: Signing::Unsigned,
+        ruling: Ruling::Ruled(rule),
+    };
     Own {
-        before: Ruling::Unruled,
-        behind: Ruling::Ruled(rule),
+        before: NONE_OWNED,
+        behind,
+    }
+}
+
+// A delimiter's symbol, if there is one, and a rule.
+pub fn signed_before(sign: Signing, rule: Rule) -> Own
+    requires { ⌜ SigningWithin itemWords sign × RuleWithin itemWords rule ⌝ }
+    ensures { λ r. ⌜ (ownAs r ≡ boxes.signedBefore (signingAs sign) (ruleAs rule)) × OwnWithin itemWords r ⌝ }
+{
+    let before = Owned {
+        sign,
+        ruling: Ruling::Ruled(rule),
+    };
+    Own {
+        before,
+        behind: NONE_OWNED,
     }
 }
 
 // How far a box of width w is moved right to stand in the middle of the width all.
 pub fn centred(all: Sp, w: Sp) -> Sp
-    requires { ⌜ Within (words 2) (all .0) × Within (words 2) (w .0) ⌝ }
-    ensures { λ r. ⌜ (r .0 ≡ boxes.centred (all .0) (w .0)) × Within (words 3) (r .0) ⌝ }
+    requires { ⌜ Within (words 4) (all .0) × Within (words 4) (w .0) ⌝ }
+    ensures { λ r. ⌜ (r .0 ≡ boxes.centred (all .0) (w .0)) × Within (words 5) (r .0) ⌝ }
 {
     all.minus(w).half()
 }

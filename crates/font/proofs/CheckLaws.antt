@@ -1,6 +1,6 @@
 -- The check of a table, test by test.
 --     pass, stop                            tests joined by `&&`, after one that holds, or does not
---     good-table, length-..                 the tests of a table, for `is_good`
+--     good-bytes, good-table, length-..     the tests of a table, for `is_good`
 --     soundFrom, sound-pass                 the CH records in one pass that carries the least key for the next, for `are_characters`
 --     good-character                        the tests of a CH record, for `is_character`
 -- The idea: each definition is brought into the order of the code's tests, as a && (b && ..), and is then followed by
@@ -14,9 +14,12 @@ use native.Mathlib.Omega.{arith}
 use borrow.Author.Tests.{le-leb, lt-leb, eq-eqb, ne-eqb}
 use lib.Dec.{leb, eqb}
 use lib.ListN.{length}
-use Rattle.font.specs.Table.{headerBytes, characterBytes, mostCharacters, greatestSize, greatestFamily}
-use Rattle.font.specs.Table.{parameterRecords, characterRecords, characterCount, metricWords, sizeByte, familyByte, flagByte, successorByte}
-use Rattle.font.specs.Table.{every, marked, goodWord, goodParameters, goodCharacter, before, rising, goodLength, goodTable}
+use Rattle.font.specs.Records.{headerBytes, characterBytes, mostCharacters, greatestSize, greatestFamily}
+use Rattle.font.specs.Records.{parameterRecords, characterRecords, characterCount, metricWords, sizeByte, familyByte, flagByte, successorByte}
+use Rattle.font.specs.Records.{every, marked, goodWord, goodParameters, goodCharacter, before, rising, goodLength, goodRecords}
+use Rattle.font.specs.Font.{fontOf}
+use Rattle.font.specs.Chains.{chainEnds}
+use Rattle.font.specs.Table.{goodTable}
 use Rattle.font.specs.Values.{soundCharacters}
 use Rattle.font.specs.Keys.{keyIn, InBytes, AllInBytes, before-key}
 
@@ -35,10 +38,21 @@ in-order false p c o = refl
 in-order true false c o = refl
 in-order true true c o = refl
 
-pub good-table : (t : List ℕ) →
-    goodTable t ≡ (goodLength t && (every goodParameters (parameterRecords t) && soundCharacters (characterRecords t)))
-unfolding goodTable soundCharacters
-good-table t = in-order (goodLength t) (every goodParameters (parameterRecords t)) _ _
+module _ (t : List ℕ) where
+  pub good-bytes : goodRecords t ≡ (goodLength t && (every goodParameters (parameterRecords t) && soundCharacters (characterRecords t)))
+  unfolding goodRecords soundCharacters
+  good-bytes = in-order (goodLength t) (every goodParameters (parameterRecords t)) _ _
+
+  pub good-table :
+      goodTable t
+      ≡ (goodLength t
+      && (every goodParameters (parameterRecords t)
+      && (soundCharacters (characterRecords t) && every (chainEnds (fontOf t)) (characterRecords t))))
+  unfolding goodTable
+  good-table =
+      ap (λ (bytes : Bool). bytes && every (chainEnds (fontOf t)) (characterRecords t)) good-bytes
+      ∙ and-assoc (goodLength t) _ _
+      ∙ ap (λ (rest : Bool). goodLength t && rest) (and-assoc (every goodParameters (parameterRecords t)) _ _)
 
 -- how many CH records fit, as the code counts them, and the length that a table of so many has
 abbrev pub count : List ℕ → ℕ

@@ -1,6 +1,6 @@
 -- A range of the records of a good table that is halved, for `symbol`.
 --     recorded, record-at, in-bytes    the CH records of a table: how many, where each stands, and that they hold bytes
---     key-at            the key of a record, by its bytes in the table
+--     byte-at, key-at    a byte and the key of a record, by its bytes in the table
 --     Halved            the range in which a symbol's record can be, and the steps that are enough for it: the loop's invariant
 --     twelve-enough     twelve steps are enough for the most records that a table may have
 --     step-left         a range that is not empty has a step left
@@ -16,7 +16,7 @@ use mir.Syntax.{w8}
 use mir.Val.{Fits}
 use lib.ListN.{length, getD, take, drop}
 use lib.Seq.{drop-drop, getD-take, getD-drop}
-use Rattle.font.specs.Table.{headerBytes, characterBytes, mostCharacters, pieces, characterRecords, characterCount, goodTable}
+use Rattle.font.specs.Records.{headerBytes, characterBytes, mostCharacters, pieces, characterRecords, characterCount, goodRecords}
 use Rattle.font.specs.Font.{metricsOf, fontOf}
 use Rattle.font.specs.FontLaws.{whole-records, few-records, records-rise}
 use Rattle.font.specs.Keys.{keyOf, keyIn, Bytes, AllInBytes}
@@ -56,13 +56,14 @@ in-bytes k n t byte i =
     let each : (j : ℕ) → getD (getD (pieces k n t) i []) j 0 < 256 = piece-byte k n t (λ (i : ℕ). omega (arith, byte i)) i in
     record { family-byte = each 3; code-byte = each 4 }
 
--- ---- a key, read from a table
+-- ---- a byte and a key of a record, read from a table
 
-pub key-at : (s : List ℕ) (at : ℕ) → keyOf (getD s (at + 2) 0) (getD s (at + 3) 0) (getD s (at + 4) 0) ≡ keyIn (take characterBytes (drop at s))
-key-at s at = rw (byte 2 (omega arith), byte 3 (omega arith), byte 4 (omega arith))
-  where
-    byte : (k : ℕ) → k < characterBytes → getD (take characterBytes (drop at s)) k 0 ≡ getD s (at + k) 0
-    byte k h = getD-take characterBytes (drop at s) k 0 h ∙ getD-drop at s k 0
+module _ (s : List ℕ) (at : ℕ) where
+  pub byte-at : (k : ℕ) → k < characterBytes → getD (take characterBytes (drop at s)) k 0 ≡ getD s (at + k) 0
+  byte-at k h = getD-take characterBytes (drop at s) k 0 h ∙ getD-drop at s k 0
+
+  pub key-at : keyOf (getD s (at + 2) 0) (getD s (at + 3) 0) (getD s (at + 4) 0) ≡ keyIn (take characterBytes (drop at s))
+  key-at = rw (byte-at 2 (omega arith), byte-at 3 (omega arith), byte-at 4 (omega arith))
 
 -- ---- how many steps are enough
 
@@ -91,7 +92,7 @@ pub record Halved (t : List ℕ) (key from to steps : ℕ) : Type 0 where
 abbrev pub middle : List ℕ → ℕ → ℕ → List ℕ
 middle t from to = take characterBytes (drop (headerBytes + characterBytes * ((from + to) / 2)) t)
 
-module _ (t : List ℕ) (good : goodTable t ≡ true) where
+module _ (t : List ℕ) (good : goodRecords t ≡ true) where
   pub counted : length t ≡ headerBytes + characterBytes * count t
   unfolding characterCount
   counted = whole-records t good
@@ -147,16 +148,20 @@ module _ (t : List ℕ) (good : goodTable t ≡ true) where
           }
 
     module _ (size family code : ℕ) (b : Bytes family code) where
-      pub halved-there : (from to steps : ℕ) → from < to → Halved t (keyOf size family code) from to steps →
-          keyIn (middle t from to) ≡ keyOf size family code →
-          fontOf t .symbol size family code ≡ some (metricsOf (middle t from to))
+      -- the record of a number that has the symbol's key
+      pub numbered-there : (m : ℕ) → m < count t →
+          let r = take characterBytes (drop (headerBytes + characterBytes * m) t) in
+          keyIn r ≡ keyOf size family code → fontOf t .symbol size family code ≡ some (metricsOf r)
       unfolding fontOf
-      halved-there from to steps more h same =
-          let m = (from + to) / 2 in
-          let inside : m < count t = omega (arith, h .within) in
+      numbered-there m inside same =
           let is = record-at t m inside in
           found-there (characterRecords t) in-table size family code b (records-rise t good) m (omega (arith, recorded t)) (ap keyIn is ∙ same)
           ∙ ap (λ (r : List ℕ). some (metricsOf r)) is
+
+      pub halved-there : (from to steps : ℕ) → from < to → Halved t (keyOf size family code) from to steps →
+          keyIn (middle t from to) ≡ keyOf size family code →
+          fontOf t .symbol size family code ≡ some (metricsOf (middle t from to))
+      halved-there from to steps more h same = numbered-there ((from + to) / 2) (omega (arith, h .within)) same
 
       pub halved-nowhere : (from to steps : ℕ) → to ≤ from → Halved t (keyOf size family code) from to steps →
           fontOf t .symbol size family code ≡ none

@@ -1,5 +1,7 @@
--- Laws that the proofs of the table share: of words, of the check, of the lookup. Assumes nothing.
+-- Laws that the proofs of the table share: of words, of the check, of the lookup, of chains; and worked tables. Assumes nothing.
 mod WordLaws
 mod CheckLaws
 mod RecordLaws
 mod HalvingLaws
+mod ChainLaws
+mod Examples

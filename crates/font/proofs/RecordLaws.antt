@@ -9,7 +9,7 @@ use borrow.Author.Tests.{eq-eqb, ne-eqb}
 use lib.ListN.{drop}
 use lib.Seq.{drop-drop}
 use Rattle.words.specs.Words.{littleEndian}
-use Rattle.font.specs.Table.{wordBytes, words, metricWords, flagByte, successorByte}
+use Rattle.font.specs.Records.{wordBytes, words, metricWords, flagByte, successorByte}
 use Rattle.font.specs.Font.{metricsOf, successorOf}
 
 -- ---- what a record says

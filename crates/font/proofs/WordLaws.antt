@@ -14,7 +14,7 @@ use lib.ListN.{length, getD, take, drop, length-drop, length-map, List·getD-eq-
 use lib.Seq.{take-all, drop-drop}
 use Rattle.words.specs.Words.{littleEndian}
 use Rattle.words.specs.WordLaws.{word-take}
-use Rattle.font.specs.Table.{wordBytes, markBytes, parameterBytes, parameterCount, sizeCount, pieces, words, parameterRecords, parameterWords}
+use Rattle.font.specs.Records.{wordBytes, markBytes, parameterBytes, parameterCount, sizeCount, pieces, words, parameterRecords, parameterWords}
 use Rattle.font.specs.Font.{fontOf}
 
 -- ---- a part of a slice, as the code takes it

@@ -9,7 +9,7 @@ use mathlib.Core.Option.{Option, none, some}
 use Prim.Native.Nat.{ℕ}
 use lib.Dec.{eqb}
 use lib.ListN.{getD}
-use Rattle.font.specs.Table.{parameterRecords, parameterWords, characterRecords, sizeByte, familyByte, codeByte, flagByte, successorByte, metricWords}
+use Rattle.font.specs.Records.{parameterRecords, parameterWords, characterRecords, sizeByte, familyByte, codeByte, flagByte, successorByte, metricWords}
 
 pub record Metrics : Type 0 where
   pub width : ℕ

@@ -14,7 +14,7 @@ use native.Mathlib.Omega.{arith}
 use borrow.Author.Tests.{eq-eqb, ne-eqb, ltb-true, ltb-false}
 use lib.Dec.{ltb}
 use lib.ListN.{length, getD}
-use Rattle.font.specs.Table.{rising}
+use Rattle.font.specs.Records.{rising}
 use Rattle.font.specs.Font.{Metrics, isOf, lookup, metricsOf}
 use Rattle.font.specs.Keys.{keyOf, keyIn, Bytes, AllInBytes, is-of-key, rising-keys}
 

@@ -12,7 +12,7 @@ use native.Mathlib.Omega.{arith}
 use borrow.Author.Tests.{lt-ltb, le-ltb, eq-eqb, ne-eqb, ltb-true, ltb-false, eqb-true, eqb-false}
 use lib.Dec.{ltb, eqb}
 use lib.ListN.{length, getD}
-use Rattle.font.specs.Table.{sizeByte, familyByte, codeByte, before, rising}
+use Rattle.font.specs.Records.{sizeByte, familyByte, codeByte, before, rising}
 use Rattle.font.specs.Font.{isOf}
 
 abbrev pub keyOf : ℕ → ℕ → ℕ → ℕ

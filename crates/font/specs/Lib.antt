@@ -1,7 +1,9 @@
 -- The font table: its bytes and rules, the font it holds, what the functions answer, and laws for the crates above.
 -- Assumes nothing.
-pub mod Table
+pub mod Records
 pub mod Font
+pub mod Chains
+pub mod Table
 pub mod Values
 pub mod FontLaws
 pub mod Keys

@@ -14,7 +14,7 @@ use Rattle.font.specs.declared.Successor.{Successor}
 use Rattle.font.specs.declared.Successor.the-variants.{Nothing, Code}
 use Rattle.font.specs.declared.Found.{Found}
 use Rattle.font.specs.declared.Found.the-variants.{Symbol, Absent}
-use Rattle.font.specs.Table.{every, goodCharacter, rising}
+use Rattle.font.specs.Records.{every, goodCharacter, rising}
 use Rattle.font.specs.Font.{Metrics, fontOf}
 
 -- ---- a lookup

@@ -1,5 +1,6 @@
 // The font table: its bytes, its parameters and its characters. What a good table is, and the font that it holds,
 // is defined in specs/Table.antt and specs/Font.antt; what these functions answer, in specs/Values.antt.
+mod chains;
 mod format;
 mod records;
 
@@ -7,7 +8,8 @@ ghost use mathlib.Core.Path.{_≡_};
 ghost use mathlib.Core.Bool.{true};
 ghost use Prim.Native.Nat.{_<_, _≤_};
 ghost use lib.ListN.{length};
-ghost use Rattle.font.specs.Table.{sizeCount, headerBytes, characterBytes, goodTable};
+ghost use Rattle.font.specs.Records.{sizeCount, headerBytes, characterBytes, goodRecords};
+ghost use Rattle.font.specs.Table.{goodTable};
 ghost use Rattle.font.specs.Font.{fontOf, metricsOf, successorOf};
 ghost use Rattle.font.specs.Values.{foundAs, metricsAs, successorAs, HoldsRow, HoldsParameters};
 
@@ -32,6 +34,9 @@ pub enum Found {
     Absent,
 }
 
+// Steps of a chain, each to a symbol's successor.
+pub const LONGEST_CHAIN: usize = 16;
+
 // Whether the table breaks no rule.
 pub fn is_good(table: &[u8]) -> bool
     ensures { λ answer. ⌜ answer ≡ goodTable (now (table .entry)) ⌝ }
@@ -49,7 +54,10 @@ pub fn is_good(table: &[u8]) -> bool
     if !records::are_parameters(table) {
         return false;
     }
-    records::are_characters(&table[format::HEADER_BYTES..], n)
+    if !records::are_characters(&table[format::HEADER_BYTES..], n) {
+        return false;
+    }
+    chains::all_end(table, n)
 }
 
 // The parameters of the three sizes.
@@ -81,7 +89,7 @@ fn row(table: &[u8], size: usize) -> [u32; 35]
 // The symbol of a size, family and code. The records of a good table rise, so that each step halves the range `from` to `to`
 // in which its record can be. `steps` only counts: that it never falls below 0 is proved, so that twelve are enough.
 pub fn symbol(table: &[u8], size: u8, family: u8, code: u8) -> Found
-    requires { ⌜ goodTable (now table) ≡ true ⌝ }
+    requires { ⌜ goodRecords (now table) ≡ true ⌝ }
     ensures { λ answer. ⌜ foundAs answer ≡ fontOf (now (table .entry)) .symbol size family code ⌝ }
 {
     let key = records::key_of(size, family, code);
@@ -104,6 +112,21 @@ pub fn symbol(table: &[u8], size: u8, family: u8, code: u8) -> Found
         }
     }
     Found::Absent
+}
+
+// The same, with the record of a number tried first. Where that is the symbol's, nothing is halved.
+pub fn symbol_near(table: &[u8], number: usize, size: u8, family: u8, code: u8) -> Found
+    requires { ⌜ goodRecords (now table) ≡ true ⌝ }
+    ensures { λ answer. ⌜ foundAs answer ≡ fontOf (now (table .entry)) .symbol size family code ⌝ }
+{
+    if number < (table.len() - format::HEADER_BYTES) / format::CHARACTER_BYTES {
+        let at = format::HEADER_BYTES + format::CHARACTER_BYTES * number;
+        if records::key_at(table, at) == records::key_of(size, family, code) {
+            let end = at + format::CHARACTER_BYTES;
+            return Found::Symbol(metrics_of(&table[at..end]));
+        }
+    }
+    symbol(table, size, family, code)
 }
 
 // The metrics in a record.

@@ -5,7 +5,7 @@ ghost use mathlib.Core.Bool.{_&&_, _||_};
 ghost use Prim.Native.Nat.{_+_, _*_, _<_, _≤_};
 ghost use lib.Dec.{leb, eqb};
 ghost use lib.ListN.{length, take, drop};
-ghost use Rattle.font.specs.Table.{wordBytes, markBytes, parameterBytes, headerBytes, characterBytes, parameterRecords, pieces, words, marked, every, goodWord, goodParameters, goodCharacter};
+ghost use Rattle.font.specs.Records.{wordBytes, markBytes, parameterBytes, headerBytes, characterBytes, parameterRecords, pieces, words, marked, every, goodWord, goodParameters, goodCharacter};
 ghost use Rattle.font.specs.Values.{soundCharacters};
 ghost use Rattle.font.specs.Keys.{keyOf, keyIn, keyRange, Bytes};
 

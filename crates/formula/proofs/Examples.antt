@@ -1,14 +1,16 @@
--- Short lists with a style and with a choice, as the definition reads them: one table under one statement, `examples-hold`.
+-- Short lists with a style, with a choice and with a root, as the definition reads them: one table under one statement, `examples-hold`.
 -- Assumes nothing.
 use mathlib.Core.Path.{_≡_, refl}
 use mathlib.Core.List.{List, [], _∷_, _++_, map}
 use Prim.Native.Nat.{ℕ}
 use Rattle.words.specs.Words.{littleEndian}
 use Rattle.formula.specs.declared.Fault.the-variants.{Unreadable, TooDeep}
-use Rattle.formula.specs.Tree.{Items, Item, nil, cons, restyle, choice}
+use Rattle.formula.specs.declared.Base.the-variants.{Root}
+use Rattle.formula.specs.declared.Kind.the-variants.{Scripted}
+use Rattle.formula.specs.Tree.{Items, Item, nil, cons, noad, restyle, choice, empty, symbol}
 use Rattle.formula.specs.Marks.{markIn, markOf}
-use Rattle.formula.specs.Heads.{styleOpening, opens, openingOf, symbolHead, listHead, fieldHead}
-use Rattle.formula.specs.Reading.{Read, good, fault, listGot, fieldBy, onlyList, fieldAt, listAt, choiceAt, openedBy, itemBy, before, restBy, listBy, readBy, read}
+use Rattle.formula.specs.Heads.{styleOpening, delimiter, rootOf, rootOpening, opens, openingOf, symbolHead, listHead, fieldHead}
+use Rattle.formula.specs.Reading.{Read, good, fault, listGot, fieldBy, onlyList, fieldAt, thirdAt, noadAt, listAt, choiceAt, openedBy, itemBy, before, restBy, listBy, readBy, read}
 
 -- a style by its number; a choice by its four fields
 abbrev style : ℕ → List ℕ
@@ -16,6 +18,10 @@ style n = 83 ∷ 84 ∷ n ∷ []
 
 abbrev choiceOf : List ℕ → List ℕ → List ℕ → List ℕ → List ℕ
 choiceOf d t sc ss = (67 ∷ 52 ∷ d) ++ (t ++ (sc ++ ss))
+
+-- a root's opening by two families and codes
+abbrev sign : ℕ → ℕ → ℕ → ℕ → List ℕ
+sign a b c d = 82 ∷ 68 ∷ a ∷ b ∷ c ∷ d ∷ []
 
 -- a field: empty, a symbol, a list of fewer than 256 bytes
 abbrev noField : List ℕ
@@ -62,8 +68,14 @@ rows =
     -- a list in a list of a choice is one deeper again
     ∷ row 2 (choiceOf (listOf 14 (choiceOf none none none none)) none none none) (good (one (choice (one (choice nil nil nil nil)) nil nil nil)))
     ∷ row 1 (choiceOf (listOf 14 (choiceOf none none none none)) none none none) (fault TooDeep 7)
+    -- a root: its sign, its nucleus, its scripts; a pair of zero bytes is no fault, a family of 16 is one in either pair
+    ∷ row 0 (sign 15 112 0 0 ++ (letter ++ (noField ++ noField))) (good (one (noad (Scripted (Root (delimiter 15 112 0 0))) (symbol 1 97) empty empty)))
+    ∷ row 0 (sign 16 112 0 0 ++ (letter ++ (noField ++ noField))) (fault Unreadable 0)
+    ∷ row 0 (sign 0 112 16 112 ++ (letter ++ (noField ++ noField))) (fault Unreadable 0)
+    ∷ row 0 (82 ∷ 68 ∷ 2 ∷ 112 ∷ 3 ∷ []) (fault Unreadable 0)
+    ∷ row 0 (sign 2 112 3 112 ++ (letter ++ noField)) (fault Unreadable 0)
     ∷ []
 
 examples-hold : map (λ (r : Row). read (r .levels) (r .bytes)) rows ≡ map (λ (r : Row). r .reading) rows
-unfolding rows one littleEndian markIn markOf styleOpening opens openingOf symbolHead listHead fieldHead listGot fieldBy onlyList fieldAt listAt choiceAt openedBy itemBy before restBy listBy readBy read
+unfolding rows one littleEndian markIn markOf styleOpening rootOf rootOpening opens openingOf symbolHead listHead fieldHead listGot fieldBy onlyList fieldAt thirdAt noadAt listAt choiceAt openedBy itemBy before restBy listBy readBy read
 examples-hold = refl

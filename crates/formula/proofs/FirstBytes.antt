@@ -1,5 +1,5 @@
 -- The code goes by a list's length and reads its first bytes, where the definitions go by the list's cases. In order:
---     one, two             a list that is long enough, as its first bytes and the rest
+--     one, two, four       a list that is long enough, as its first bytes and the rest
 --     short-one ..         a function that says the same of every shorter list
 --     past, up, last       numbers that stand in a list of values, or past it
 --     kern-said .. kern-under     a kern: of its bytes, and in its range or on either side of it
@@ -34,6 +34,13 @@ pub two : (s : List ℕ) → 2 ≤ length s → s ≡ getD s 0 0 ∷ getD s 1 0 
 two [] h = absurd (omega arith)
 two (a ∷ []) h = absurd (omega arith)
 two (a ∷ b ∷ s) h = refl
+
+pub four : (s : List ℕ) → 4 ≤ length s → s ≡ getD s 0 0 ∷ getD s 1 0 ∷ getD s 2 0 ∷ getD s 3 0 ∷ drop 4 s
+four [] h = absurd (omega arith)
+four (a ∷ []) h = absurd (omega arith)
+four (a ∷ b ∷ []) h = absurd (omega arith)
+four (a ∷ b ∷ c ∷ []) h = absurd (omega arith)
+four (a ∷ b ∷ c ∷ d ∷ s) h = refl
 
 module _ {A : Type 0} (f : List ℕ → A) (x : A) where
   pub short-one : f [] ≡ x → (s : List ℕ) → length s ≡ 0 → f s ≡ x

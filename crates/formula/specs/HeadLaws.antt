@@ -22,15 +22,16 @@ use Rattle.words.specs.Words.{littleEndian, signedWord}
 use Rattle.formula.specs.declared.Class.{Class}
 use Rattle.formula.specs.declared.Limits.{Limits}
 use Rattle.formula.specs.declared.Bar.{Bar}
+use Rattle.formula.specs.declared.Delimiter.{Delimiter}
 use Rattle.formula.specs.declared.Mark.{Mark}
-use Rattle.formula.specs.declared.Mark.the-variants.{AT, OV, UN, FR, KN, ST, C4, Unknown}
+use Rattle.formula.specs.declared.Mark.the-variants.{AT, OV, UN, FR, KN, ST, C4, RD, Unknown}
 use Rattle.formula.specs.declared.Opening.{Opening}
 use Rattle.formula.specs.declared.Opening.the-variants.{NoItem, Fields, Kern, Restyle, Choice}
 use Rattle.formula.specs.declared.FieldHead.{FieldHead}
 use Rattle.formula.specs.declared.FieldHead.the-variants.{NoField, Empty, Symbol, Sublist, CutSublist}
 use Rattle.formula.specs.Tree.{kernBytes, restyleBytes, listOpeningBytes}
 use Rattle.formula.specs.Marks.{markOf}
-use Rattle.formula.specs.Heads.{classes, limitKinds, bars, isOp, isDisplayOnly, atomOf, atomOpening, fractionOf, fractionOpening, greatestKern, kernWithin, kernOpening, greatestStyle, styleOpening, opens, openingOf, greatestFamily, symbolHead, listHead, fieldHead}
+use Rattle.formula.specs.Heads.{classes, limitKinds, bars, isOp, isDisplayOnly, atomOf, atomOpening, fractionOf, fractionOpening, greatestKern, kernWithin, kernOpening, greatestStyle, styleOpening, greatestFamily, goodDelimiter, rootOf, delimiter, rootOpening, opens, openingOf, symbolHead, listHead, fieldHead}
 use Rattle.formula.specs.Places.{headBytes, contents, openedBytes}
 
 -- a choice by a test
@@ -130,8 +131,12 @@ unfolding OpeningIn NumberIn
 style-in s n h =
     either (OpeningIn s) (leb n greatestStyle) (λ e. (h, leb-true n greatestStyle e)) (λ e. (omega arith, tt))
 
+root-in : (s : List ℕ) (sign : Delimiter) → 6 ≤ length s → OpeningIn s (rootOf sign)
+unfolding rootOf OpeningIn NumberIn
+root-in s sign h = either (OpeningIn s) (goodDelimiter sign) (λ e. (h, tt)) (λ e. (omega arith, tt))
+
 opens-in : (a b : ℕ) (m : Mark) (s : List ℕ) → OpeningIn (a ∷ b ∷ s) (opens m s)
-unfolding opens atomOpening fractionOpening kernOpening styleOpening OpeningIn NumberIn
+unfolding opens atomOpening fractionOpening kernOpening styleOpening rootOpening OpeningIn NumberIn
 opens-in a b AT [] = (omega arith, tt)
 opens-in a b AT (c ∷ []) = (omega arith, tt)
 opens-in a b AT (c ∷ d ∷ s) =
@@ -149,6 +154,11 @@ opens-in a b KN (c ∷ d ∷ e ∷ f ∷ s) =
 opens-in a b ST [] = (omega arith, tt)
 opens-in a b ST (c ∷ s) = style-in (a ∷ b ∷ c ∷ s) c (omega arith)
 opens-in a b C4 s = (omega arith, tt)
+opens-in a b RD [] = (omega arith, tt)
+opens-in a b RD (c ∷ []) = (omega arith, tt)
+opens-in a b RD (c ∷ d ∷ []) = (omega arith, tt)
+opens-in a b RD (c ∷ d ∷ e ∷ []) = (omega arith, tt)
+opens-in a b RD (c ∷ d ∷ e ∷ f ∷ s) = root-in (a ∷ b ∷ c ∷ d ∷ e ∷ f ∷ s) (delimiter c d e f) (omega arith)
 opens-in a b Unknown s = (omega arith, tt)
 
 opening-in : (s : List ℕ) → OpeningIn s (openingOf s)

@@ -3,7 +3,7 @@
 --     fieldHead    what a field says at its kind byte; isEmpty, isList    that it is empty, or a list, cut or not
 -- Both are total: bytes that can be neither are `NoItem` and `NoField`.
 -- Assumes nothing.
-use mathlib.Core.Bool.{Bool, true, false, _||_}
+use mathlib.Core.Bool.{Bool, true, false, _&&_, _||_}
 use mathlib.Core.List.{List, [], _∷_}
 use mathlib.Core.Option.{Option, none, some}
 use Prim.Native.Nat.{ℕ}
@@ -17,10 +17,11 @@ use Rattle.formula.specs.declared.Limits.{Limits}
 use Rattle.formula.specs.declared.Limits.the-variants.{DisplayOnly, Always, Never}
 use Rattle.formula.specs.declared.Bar.{Bar}
 use Rattle.formula.specs.declared.Bar.the-variants.{Default, Without}
-use Rattle.formula.specs.declared.Base.the-variants.{Atom, Over, Under}
+use Rattle.formula.specs.declared.Delimiter.{Delimiter}
+use Rattle.formula.specs.declared.Base.the-variants.{Atom, Over, Under, Root}
 use Rattle.formula.specs.declared.Kind.the-variants.{Scripted, Fraction}
 use Rattle.formula.specs.declared.Mark.{Mark}
-use Rattle.formula.specs.declared.Mark.the-variants.{AT, OV, UN, FR, KN, ST, C4, Unknown}
+use Rattle.formula.specs.declared.Mark.the-variants.{AT, OV, UN, FR, KN, ST, C4, RD, Unknown}
 use Rattle.formula.specs.declared.FieldHead.{FieldHead}
 use Rattle.formula.specs.declared.FieldHead.the-variants.{NoField, Empty, Symbol, Sublist, CutSublist}
 use Rattle.formula.specs.declared.Opening.{Opening}
@@ -96,6 +97,28 @@ unfoldable pub styleOpening : List ℕ → Opening
 styleOpening [] = NoItem
 styleOpening (style ∷ s) = elim (leb style greatestStyle) [ true ↦ Restyle style | false ↦ NoItem ]
 
+-- families are numbered to 15
+abbrev pub greatestFamily : ℕ
+greatestFamily = 15
+
+-- even a family that is never searched
+abbrev pub goodDelimiter : Delimiter → Bool
+goodDelimiter d = leb (d .small .family) greatestFamily && leb (d .large .family) greatestFamily
+
+unfoldable pub rootOf : Delimiter → Opening
+rootOf sign = elim (goodDelimiter sign) [ true ↦ Fields (Scripted (Root sign)) | false ↦ NoItem ]
+
+-- the families and codes of two symbols, small and large
+abbrev pub delimiter : ℕ → ℕ → ℕ → ℕ → Delimiter
+delimiter a b c d = record { small = record { family = a; code = b }; large = record { family = c; code = d } }
+
+unfoldable pub rootOpening : List ℕ → Opening
+rootOpening [] = NoItem
+rootOpening (a ∷ []) = NoItem
+rootOpening (a ∷ b ∷ []) = NoItem
+rootOpening (a ∷ b ∷ c ∷ []) = NoItem
+rootOpening (a ∷ b ∷ c ∷ d ∷ s) = rootOf (delimiter a b c d)
+
 -- what opens behind a mark, from the bytes behind the mark
 unfoldable pub opens : Mark → List ℕ → Opening
 opens AT s = atomOpening s
@@ -105,6 +128,7 @@ opens FR s = fractionOpening s
 opens KN s = kernOpening s
 opens ST s = styleOpening s
 opens C4 s = Choice
+opens RD s = rootOpening s
 opens Unknown s = NoItem
 
 unfoldable pub openingOf : List ℕ → Opening
@@ -113,9 +137,6 @@ openingOf (a ∷ []) = NoItem
 openingOf (a ∷ b ∷ s) = opens (markOf a b) s
 
 -- ---- a field
-
-abbrev pub greatestFamily : ℕ
-greatestFamily = 15
 
 unfoldable pub symbolHead : List ℕ → FieldHead
 symbolHead [] = NoField

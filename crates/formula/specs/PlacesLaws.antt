@@ -15,7 +15,7 @@ use native.Mathlib.Omega.{arith}
 use lib.Dec.{ltb}
 use lib.ListN.{length, drop, length-drop}
 use borrow.Author.Tests.{ltb-false}
-use Rattle.formula.specs.declared.Base.the-variants.{Atom, Over, Under}
+use Rattle.formula.specs.declared.Base.the-variants.{Atom, Over, Under, Root}
 use Rattle.formula.specs.declared.Kind.{Kind}
 use Rattle.formula.specs.declared.Kind.the-variants.{Scripted, Fraction}
 use Rattle.formula.specs.declared.Opening.{Opening}
@@ -146,6 +146,14 @@ pub third-good : (s : List ℕ) (has : Bool) (at : ℕ) → has ≡ true → Goo
 third-good s true at e g = g
 third-good s false at e g = let z : _≡_ {A = ℕ} 0 1 = cc in absurd (omega arith)
 
+-- it opens with a mark
+pub opening-long : (kind : Kind) → 2 ≤ openingBytes kind
+opening-long (Scripted (Atom class limits)) = omega arith
+opening-long (Scripted Over) = omega arith
+opening-long (Scripted Under) = omega arith
+opening-long (Scripted (Root sign)) = omega arith
+opening-long (Fraction bar) = omega arith
+
 -- its fields and what stands behind it are good, and they stand one behind the other
 pub record Noad (s : List ℕ) (kind : Kind) : Type 0 where
   pub x : GoodFieldAt s (openingBytes kind)
@@ -161,7 +169,7 @@ pub record Noad (s : List ℕ) (kind : Kind) : Type 0 where
 
 pub noad-at : (s : List ℕ) (kind : Kind) → openingOf s ≡ Fields kind → Readable s → Noad s kind
 noad-at s kind e readable =
-    let two = opened kind in
+    let two = opening-long kind in
     let p = step s (Fields kind) e readable (omega (arith, opening-fits s (Fields kind) e)) in
     let a = some (openingBytes kind) (p .item .0) in
     let b = some (second s kind) (p .item .1) in
@@ -181,19 +189,13 @@ noad-at s kind e readable =
     some : (at : ℕ) → GoodFieldAt s at → 0 < headBytes (headAt s at)
     some at = good-some (drop at s) (headAt s at) refl
 
-    opened : (kind : Kind) → 2 ≤ openingBytes kind
-    opened (Scripted (Atom class limits)) = omega arith
-    opened (Scripted Over) = omega arith
-    opened (Scripted Under) = omega arith
-    opened (Fraction bar) = omega arith
-
     from : (has : Bool) (at : ℕ) → at ≤ thirdEnd s has at
     from true at = omega arith
     from false at = omega arith
 
     five : (kind : Kind) → openingBytes kind < second s kind → second s kind < third s kind →
         GoodThird s (hasThird kind) (third s kind) → 5 ≤ end s kind
-    five (Scripted base) a b g = omega (arith, opened (Scripted base), some (third s (Scripted base)) g)
+    five (Scripted base) a b g = omega (arith, opening-long (Scripted base), some (third s (Scripted base)) g)
     five (Fraction bar) a b g = omega arith
 
 -- ---- a choice

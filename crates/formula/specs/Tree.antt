@@ -1,12 +1,13 @@
 -- A formula as a tree (document 01, "Bytes of a formula"), and the number of bytes that each part of it is written in.
 -- An item with fields is a noad, TeX's word: it has a kind and three fields, which are nucleus, superscript and
--- subscript, or numerator, denominator and an empty one. A style change (ST) has the style's number, a choice (C4) four lists.
+-- subscript, or numerator, denominator and an empty one. The kind of a root (RD) has the delimiter that is its sign. A style change
+-- (ST) has the style's number, a choice (C4) four lists.
 -- A tree holds no places: each part is written in one way, so that a place follows from the bytes of what stands before it.
 -- Assumes nothing.
 use Prim.Native.Nat.{ℕ, _+_}
 use lib.IntN.{ℤ}
 use Rattle.formula.specs.declared.Base.{Base}
-use Rattle.formula.specs.declared.Base.the-variants.{Atom, Over, Under}
+use Rattle.formula.specs.declared.Base.the-variants.{Atom, Over, Under, Root}
 use Rattle.formula.specs.declared.Kind.{Kind}
 use Rattle.formula.specs.declared.Kind.the-variants.{Scripted, Fraction}
 
@@ -26,11 +27,12 @@ mutual
     symbol : ℕ → ℕ → Field  -- family, code
     list : Items → Field
 
--- mark and what stands before the fields: class and limits, nothing, or the bar
+-- mark and what stands before the fields: class and limits, nothing, two families and codes, or the bar
 abbrev pub baseBytes : Base → ℕ
 baseBytes (Atom class limits) = 4
 baseBytes Over = 2
 baseBytes Under = 2
+baseBytes (Root sign) = 6
 
 abbrev pub openingBytes : Kind → ℕ
 openingBytes (Scripted base) = baseBytes base

@@ -8,17 +8,19 @@ ghost use lib.Dec.{eqb};
 ghost use lib.ListN.{length, getElem?};
 ghost use Rattle.formula.specs.Tree.{baseBytes, openingBytes};
 ghost use Rattle.formula.specs.Marks.{markOf};
-ghost use Rattle.formula.specs.Heads.{classes, limitKinds, isOp, isDisplayOnly, atomOf, atomOpening, fractionOpening, kernWithin, kernOpening, styleOpening, opens, openingOf, symbolHead, listHead, fieldHead, isEmpty, isList};
+ghost use Rattle.formula.specs.Heads.{classes, limitKinds, isOp, isDisplayOnly, atomOf, atomOpening, fractionOpening, kernWithin, kernOpening, styleOpening, goodDelimiter, rootOf, rootOpening, opens, openingOf, symbolHead, listHead, fieldHead, isEmpty, isList};
 ghost use Rattle.formula.specs.declared.Opening.the-variants.{Fields, Choice};
 ghost use Rattle.formula.specs.Places.{headBytes, hasThird, fieldEnd, end, listPlace};
 use crate::Bar;
 use crate::Base;
 use crate::Class;
+use crate::Delimiter;
 use crate::FieldHead;
 use crate::Kind;
 use crate::Limits;
 use crate::Mark;
 use crate::Opening;
+use crate::Pair;
 use scaled::Sp;
 
 // A kern's mark and its four bytes.
@@ -51,7 +53,7 @@ const LIST_KIND: u8 = 2;
 const LIST_OPENING_BYTES: usize = 3;
 
 // The letters of the marks, and the marks in the same order; most items are atoms.
-const LETTERS: [[u8; 2]; 7] = [
+const LETTERS: [[u8; 2]; 8] = [
     [b'A', b'T'],
     [b'O', b'V'],
     [b'U', b'N'],
@@ -59,9 +61,10 @@ const LETTERS: [[u8; 2]; 7] = [
     [b'K', b'N'],
     [b'S', b'T'],
     [b'C', b'4'],
+    [b'R', b'D'],
 ];
 
-const MARKS: [Mark; 7] = [
+const MARKS: [Mark; 8] = [
     Mark::AT,
     Mark::OV,
     Mark::UN,
@@ -69,6 +72,7 @@ const MARKS: [Mark; 7] = [
     Mark::KN,
     Mark::ST,
     Mark::C4,
+    Mark::RD,
 ];
 
 // What opens with the first byte of s.
@@ -93,6 +97,7 @@ fn opened(mark: Mark, s: &[u8]) -> Opening
         Mark::KN => kern_opening(s),
         Mark::ST => style_opening(s),
         Mark::C4 => Opening::Choice,
+        Mark::RD => root_opening(s),
         Mark::Unknown => Opening::NoItem,
     }
 }
@@ -114,6 +119,7 @@ fn base_bytes(base: Base) -> usize
         Base::Atom(_, _) => 4,
         Base::Over => 2,
         Base::Under => 2,
+        Base::Root(_) => 6,
     }
 }
 
@@ -277,6 +283,40 @@ fn style_opening(s: &[u8]) -> Opening
         return Opening::NoItem;
     }
     Opening::Restyle(style)
+}
+
+fn root_opening(s: &[u8]) -> Opening
+    ensures { λ r. ⌜ r ≡ rootOpening (now (s .entry)) ⌝ }
+{
+    if s.len() < 4 {
+        return Opening::NoItem;
+    }
+    let small = Pair {
+        family: s[0],
+        code: s[1],
+    };
+    let large = Pair {
+        family: s[2],
+        code: s[3],
+    };
+    root(Delimiter { small, large })
+}
+
+fn root(sign: Delimiter) -> Opening
+    ensures { λ r. ⌜ r ≡ rootOf sign ⌝ }
+{
+    if is_good_delimiter(sign) {
+        Opening::Fields(Kind::Scripted(Base::Root(sign)))
+    } else {
+        Opening::NoItem
+    }
+}
+
+// Both families are those of symbols, though one may never be searched.
+fn is_good_delimiter(d: Delimiter) -> bool
+    ensures { λ r. ⌜ r ≡ goodDelimiter d ⌝ }
+{
+    (d.small.family <= GREATEST_FAMILY) & (d.large.family <= GREATEST_FAMILY)
 }
 
 // The number that two bytes make, the least significant first.

@@ -31,11 +31,24 @@ pub enum Bar {
     Without,
 }
 
-// What the scripts of an item are set to.
+// The family and the code of a symbol of a delimiter; zero and zero where there is none.
+pub struct Pair {
+    pub family: u8,
+    pub code: u8,
+}
+
+// A variable delimiter: where its small symbol does not suffice, its large one is tried.
+pub struct Delimiter {
+    pub small: Pair,
+    pub large: Pair,
+}
+
+// What the scripts of an item are set to. A root has its sign.
 pub enum Base {
     Atom(Class, Limits),
     Over,
     Under,
+    Root(Delimiter),
 }
 
 // What an item with fields is: a base with scripts, or a fraction.
@@ -53,6 +66,7 @@ pub enum Mark {
     KN,
     ST,
     C4,
+    RD,
     Unknown,
 }
 

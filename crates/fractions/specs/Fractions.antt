@@ -10,7 +10,7 @@ use Rattle.formula.specs.declared.Bar.the-variants.{Default, Without}
 use Rattle.boxes.specs.declared.styles.Style.{Style}
 use Rattle.boxes.specs.Styles.{isDisplay, fontSize}
 use Rattle.boxes.specs.Parameters.{Parameters, num1, num2, num3, denom1, denom2, axisHeight, ruleThickness}
-use Rattle.boxes.specs.Boxes.{Size, Shifts, Own, noOwn, ruledBehind, Arranged, at, origin, centred}
+use Rattle.boxes.specs.Boxes.{Size, Shifts, Own, noOwn, ruledBehind, Arranged, at, origin, centred, nullDelimiterWidth}
 
 -- ---- 15: the thickness of the bar; with thickness 0 there is none
 
@@ -74,9 +74,6 @@ shiftsWithBar axis θ φ x z t =
     }
 
 -- ---- 15e: the whole stands between two delimiters; an absent one is blank, with a width alone
-
-abbrev pub nullDelimiterWidth : ℤ
-nullDelimiterWidth = pos 78_643
 
 abbrev pub enclosed : ℤ → ℤ
 enclosed w = (nullDelimiterWidth +ℤ w) +ℤ nullDelimiterWidth

@@ -1,11 +1,13 @@
 // Fractions (rules 15 to 15e): numerator x, denominator z, bar thickness θ.
 use boxes::Arranged;
+use boxes::NULL_DELIMITER_WIDTH;
 use boxes::Offset;
 use boxes::Own;
 use boxes::Rule;
 use boxes::Shifts;
 use boxes::Size;
 use boxes::centred;
+use boxes::no_own;
 use boxes::origin;
 use boxes::parameters::AXIS_HEIGHT;
 use boxes::parameters::DENOM1;
@@ -21,7 +23,6 @@ use boxes::ruled_behind;
 use boxes::styles::Style;
 use boxes::styles::font_size;
 use boxes::styles::is_display;
-use boxes::unruled;
 use formula::Bar;
 use scaled::Sp;
 ghost use mathlib.Core.Path.{_≡_};
@@ -34,9 +35,6 @@ ghost use Rattle.fractions.specs.Fractions.{barThickness, hasBar, numera
 ghost use Rattle.fractions.specs.Fractions as rule;
 ghost use Rattle.boxes.specs.Values.{parametersIn, sizeAs, shiftsAs, ownAs, arrangedAs};
 ghost use Rattle.boxes.specs.Bounds.{words, itemWords, Moderate, ShiftsWithin, OwnWithin, Bounded};
-
-// 15e: the blank on each side, where a delimiter is absent.
-const NULL_DELIMITER_WIDTH: i64 = 78_643;
 
 pub fn fraction(p: &Parameters, style: Style, bar: Bar, x: Size, z: Size) -> Arranged
     requires { ⌜ Moderate x × Moderate z ⌝ }
@@ -218,7 +216,7 @@ fn bar_of(axis: Sp, theta: Sp, w: Sp) -> Own
         };
         ruled_behind(rule)
     } else {
-        unruled()
+        no_own()
     }
 }
 
@@ -234,7 +232,7 @@ fn enclosed(w: Sp) -> Sp
 // Where a part stands in the middle of the width w, behind the blank.
 fn across_of(w: Sp, z: Size) -> Sp
     requires { ⌜ Within (words 2) (w .0) × Moderate z ⌝ }
-    ensures { λ r. ⌜ (r .0 ≡ acrossOf (w .0) (sizeAs z)) × Within (words 4) (r .0) ⌝ }
+    ensures { λ r. ⌜ (r .0 ≡ acrossOf (w .0) (sizeAs z)) × Within (words 6) (r .0) ⌝ }
 {
     Sp(NULL_DELIMITER_WIDTH).plus(centred(w, z.width))
 }

@@ -80,7 +80,7 @@ abbrev pub stacked : Nucleus → ℤ → Side → Side → Arranged
 stacked n w over under =
     record {
       size = record { width = w; height = over .reach; depth = under .reach };
-      first = at (centred w (n .size .width)) (n .raise);
+      first = at (centred w (n .size .width) +ℤ n .first .across) (n .first .up);
       second = at (over .across) (over .shift);
       third = at (under .across) (negℤ (under .shift));
       own = n .own;

@@ -6,7 +6,7 @@ use mathlib.Core.Path.{_≡_, refl}
 use lib.IntN.{pos}
 use Rattle.scaled.specs.Length.{pick, maxℤ, half}
 use Rattle.boxes.specs.Parameters.{axisHeight}
-use Rattle.boxes.specs.Boxes.{char, noOwn}
+use Rattle.boxes.specs.Boxes.{char, at, noOwn}
 use Rattle.boxes.proofs.Bench.{bench, largeSum}
 use Rattle.nucleus.specs.Nucleus.{Nucleus, atomNucleus}
 
@@ -17,7 +17,7 @@ sum limits = atomNucleus (axisHeight bench 0) true limits true (char largeSum)
 sum-is : sum true
     ≡ record {
       size = record { width = pos 1_400; height = pos 950; depth = pos 450 };
-      raise = pos 950;
+      first = at (pos 0) (pos 950);
       δ = pos 0;
       isPlain = false;
       own = noOwn;

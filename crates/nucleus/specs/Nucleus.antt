@@ -4,18 +4,18 @@ use mathlib.Core.Bool.{Bool, true, false, _&&_, not}
 use lib.IntN.{ℤ, pos, negℤ, _+ℤ_, _-ℤ_, _*ℤ_}
 use Rattle.scaled.specs.Length.{maxℤ, half}
 use Rattle.font.specs.Font.{Metrics}
-use Rattle.boxes.specs.Boxes.{Size, Shape, nothing, char, box, charSize, zeroSize, Own, noOwn, ruledBehind, at}
+use Rattle.boxes.specs.Boxes.{Size, Shape, nothing, char, box, charSize, zeroSize, Offset, at, origin, Own, noOwn, ruledBehind}
 
 -- A nucleus as the limits and the scripts see it.
 pub record Nucleus : Type 0 where
   pub size : Size
-  pub raise : ℤ  -- how far its symbol stands above the baseline
+  pub first : Offset  -- where its field stands
   pub δ : ℤ  -- the italic correction that a superscript of a pair, or the limits, still have to heed
   pub isPlain : Bool  -- whether the drops of rule 18a are 0
-  pub own : Own  -- its line, if it has one
+  pub own : Own  -- its line, or its sign and its rule
 
 abbrev pub boxNucleus : Size → Nucleus
-boxNucleus z = record { size = z; raise = pos 0; δ = pos 0; isPlain = false; own = noOwn }
+boxNucleus z = record { size = z; first = origin; δ = pos 0; isPlain = false; own = noOwn }
 
 -- ---- rule 17: a symbol of a class other than Op; its italic correction is space behind it unless a subscript follows
 
@@ -23,12 +23,12 @@ abbrev pub symbolNucleus : Metrics → Bool → Nucleus
 symbolNucleus m true =
     record {
       size = record { width = pos (m .width); height = pos (m .height); depth = pos (m .depth) };
-      raise = pos 0;
+      first = origin;
       δ = pos (m .italic);
       isPlain = true;
       own = noOwn;
     }
-symbolNucleus m false = record { size = charSize m; raise = pos 0; δ = pos 0; isPlain = true; own = noOwn }
+symbolNucleus m false = record { size = charSize m; first = origin; δ = pos 0; isPlain = true; own = noOwn }
 
 -- ---- rule 13: an operator's symbol stands centred on the axis
 
@@ -55,7 +55,7 @@ operatorNucleus axis m subscriptBeside =
     let down = operatorShift axis m in
     record {
       size = operatorSize m subscriptBeside down;
-      raise = negℤ down;
+      first = at (pos 0) (negℤ down);
       δ = pos (m .italic);
       isPlain = false;  -- centred on the axis, it counts as a box
       own = noOwn;
@@ -75,7 +75,7 @@ abbrev pub lined : Size → ℤ → ℤ → Nucleus
 lined z θ up =
     record {
       size = z;
-      raise = pos 0;
+      first = origin;
       δ = pos 0;
       isPlain = false;
       own = ruledBehind record { corner = at (pos 0) up; width = z .width; thickness = θ };

@@ -5,8 +5,9 @@ use boxes::Rule;
 use boxes::Shape;
 use boxes::Size;
 use boxes::char_size;
+use boxes::no_own;
+use boxes::origin;
 use boxes::ruled_behind;
-use boxes::unruled;
 use boxes::zero_size;
 use font::Metrics;
 use scaled::Sp;
@@ -24,13 +25,13 @@ ghost use Rattle.nucleus.specs.Bounds.{ModerateNucleus};
 // A nucleus as the limits and the scripts see it.
 pub struct Nucleus {
     pub size: Size,
-    // How far its symbol stands above the baseline.
-    pub raise: Sp,
+    // Where its field stands.
+    pub first: Offset,
     // The italic correction that a superscript of a pair, or the limits, still have to heed.
     pub delta: Sp,
     // Whether the drops of rule 18a are 0.
     pub plain: bool,
-    // Its line, if it has one.
+    // Its line, or its sign and its rule.
     pub own: Own,
 }
 
@@ -57,10 +58,10 @@ fn box_nucleus(size: Size) -> Nucleus
 {
     Nucleus {
         size,
-        raise: Sp(0),
+        first: origin(),
         delta: Sp(0),
         plain: false,
-        own: unruled(),
+        own: no_own(),
     }
 }
 
@@ -76,18 +77,18 @@ fn symbol_nucleus(m: Metrics, subscript: bool) -> Nucleus
         };
         Nucleus {
             size,
-            raise: Sp(0),
+            first: origin(),
             delta: Sp::of_word(m.italic),
             plain: true,
-            own: unruled(),
+            own: no_own(),
         }
     } else {
         Nucleus {
             size: char_size(m),
-            raise: Sp(0),
+            first: origin(),
             delta: Sp(0),
             plain: true,
-            own: unruled(),
+            own: no_own(),
         }
     }
 }
@@ -100,10 +101,13 @@ fn operator_nucleus(axis: Sp, m: Metrics, beside: bool) -> Nucleus
     let down = operator_shift(axis, m);
     Nucleus {
         size: operator_size(m, beside, down),
-        raise: down.negated(),
+        first: Offset {
+            across: Sp(0),
+            up: down.negated(),
+        },
         delta: Sp::of_word(m.italic),
         plain: false,
-        own: unruled(),
+        own: no_own(),
     }
 }
 
@@ -120,7 +124,7 @@ fn operator_shift(axis: Sp, m: Metrics) -> Sp
 
 fn operator_size(m: Metrics, beside: bool, down: Sp) -> Size
     requires { ⌜ Within (words 2) (down .0) ⌝ }
-    ensures { λ r. ⌜ (sizeAs r ≡ operatorSize (metricsAs m) beside (down .0)) × SizeWithin 3 r ⌝ }
+    ensures { λ r. ⌜ (sizeAs r ≡ operatorSize (metricsAs m) beside (down .0)) × SizeWithin 2 3 r ⌝ }
 {
     Size {
         width: operator_width(m, beside),
@@ -182,7 +186,7 @@ pub fn underline(theta: Sp, x: Size) -> Nucleus
 
 // A line of thickness theta as wide as the nucleus, whose lower edge is up from the baseline.
 fn lined(size: Size, theta: Sp, up: Sp) -> Nucleus
-    requires { ⌜ SizeWithin 7 size × Within (words 1) (theta .0) × Within (words 7) (up .0) ⌝ }
+    requires { ⌜ SizeWithin 2 7 size × Within (words 1) (theta .0) × Within (words 7) (up .0) ⌝ }
     ensures { λ r. ⌜ (nucleusAs r ≡ rule.lined (sizeAs size) (theta .0) (up .0)) × ModerateNucleus r ⌝ }
 {
     let width = size.width;
@@ -193,7 +197,7 @@ fn lined(size: Size, theta: Sp, up: Sp) -> Nucleus
     };
     Nucleus {
         size,
-        raise: Sp(0),
+        first: origin(),
         delta: Sp(0),
         plain: false,
         own: ruled_behind(rule),

@@ -134,7 +134,7 @@ assembled n second third w top bottom =
             height = maxℤ (n .size .height) top;
             depth = maxℤ (n .size .depth) bottom;
           };
-      first = at (pos 0) (n .raise);
+      first = n .first;
       second = second;
       third = third;
       own = n .own;

@@ -333,7 +333,7 @@ fn assembled(n: Nucleus, second: Offset, third: Offset, w: Sp, top: Sp, bottom: 
     requires { ⌜ ModerateNucleus n × OffsetWithin itemWords second × OffsetWithin itemWords third × Within (words 4) (w .0) × Within (words itemWords) (top .0) × Within (words itemWords) (bottom .0) ⌝ }
     ensures { λ r. ⌜ (arrangedAs r ≡ rule.assembled (nucleusAs n) (offsetAs second) (offsetAs third) (w .0) (top .0) (bottom .0)) × Bounded r ⌝ }
 {
-    let raise = n.raise;
+    let first = n.first;
     let own = n.own;
     Arranged {
         size: Size {
@@ -341,10 +341,7 @@ fn assembled(n: Nucleus, second: Offset, third: Offset, w: Sp, top: Sp, bottom: 
             height: n.size.height.max(top),
             depth: n.size.depth.max(bottom),
         },
-        first: Offset {
-            across: Sp(0),
-            up: raise,
-        },
+        first,
         second,
         third,
         own,

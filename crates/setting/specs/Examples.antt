@@ -9,28 +9,36 @@
 --     space-of-its-style     between Ord and Rel there is none in the style S, though the list starts in T
 --     fits-around-choice     a taken list is no list of answer 6: wider than the bound by itself, it fits with the kern behind the choice
 --     missing-in-taken       a symbol that the font lacks is looked for only in the taken list; the place is that of its kind byte
+-- Of roots:
+--     sign-by-nucleus        the sign is searched from the current size up, and reaches over the nucleus; a symbol too low is passed over
 -- Assumes nothing.
 use mathlib.Core.Path.{_≡_, refl}
-use mathlib.Core.Bool.{true, false}
+use mathlib.Core.Bool.{true, false, _&&_}
 use mathlib.Core.List.{List, [], _∷_}
-use mathlib.Core.Option.{none, some}
-use Prim.Native.Nat.{ℕ, zero, suc}
+use mathlib.Core.Option.{Option, none, some}
+use Prim.Native.Nat.{ℕ, zero, suc, _*_, _-_}
+use lib.Dec.{eqb}
 use lib.IntN.{pos, negsuc}
-use Rattle.font.specs.Font.{Font}
-use Rattle.formula.specs.declared.Base.the-variants.{Atom}
+use Rattle.scaled.specs.Length.{pick}
+use Rattle.font.specs.Font.{Font, Metrics}
+use Rattle.formula.specs.declared.Base.the-variants.{Atom, Root}
 use Rattle.formula.specs.declared.Class.{Class}
 use Rattle.formula.specs.declared.Class.the-variants.{Ord, Bin, Rel}
+use Rattle.formula.specs.declared.Kind.{Kind}
 use Rattle.formula.specs.declared.Kind.the-variants.{Scripted}
 use Rattle.formula.specs.declared.Limits.the-variants.{DisplayOnly}
+use Rattle.formula.specs.Heads.{delimiter}
 use Rattle.formula.specs.Tree.{Items, Item, nil, cons, noad, kern, restyle, choice, empty, symbol, itemsBytes, itemBytes, fieldBytes}
 use Rattle.boxes.specs.declared.styles.Level.the-variants.{Display, Text, Script}
 use Rattle.boxes.specs.declared.styles.Style.{Style}
 use Rattle.boxes.specs.Styles.{plain, styleOf}
+use Rattle.boxes.specs.Boxes.{Shape, box}
+use Rattle.delimiters.specs.Delimiters.{Sign, chainBy, chain, inSizes, ofPair, candidates, extent, firstEnough, taller, tallest, taken, signFor}
 use Rattle.spacing.specs.Classes.{Neighbour, changedClass}
 use Rattle.spacing.specs.Spacing.{spaceBefore}
 use Rattle.nodes.specs.Nodes.{glyph, moved}
 use Rattle.nodes.specs.Bounds.{nodesFit}
-use Rattle.setting.specs.Setting.{Box, Line, found, enlarged, symbolIn, emptyPart, itemBox, emptyBox, start, beside, placed, styleAfter, styleBehind, nextClass, classAt, setItems, setItem, setField, setList}
+use Rattle.setting.specs.Setting.{Box, Line, found, enlarged, symbolIn, emptyPart, signIn, itemBox, emptyBox, start, beside, placed, styleAfter, styleBehind, nextClass, classAt, setItems, setItem, setField, setList}
 use Rattle.setting.specs.Missing.{later, absentAt, missingItems, missingItem, missingField}
 use Rattle.setting.specs.Fitting.{boxFits, itemsFit, itemFits, listFits}
 
@@ -118,3 +126,36 @@ fits-around-choice :
     ≡ false ∷ true ∷ []
 unfolding wide listFits boxFits itemsFit itemFits setList setItems setItem nodesFit
 fits-around-choice = refl
+
+-- ---- roots
+
+-- one symbol, family 3 and code 80, in each size, lower in the smaller ones
+signMetrics : ℕ → Metrics
+signMetrics size = record { width = 10; height = 0; depth = 300 - 100 * size; italic = 0; successor = none }
+
+abbrev signs : Font
+signs =
+    record {
+      parameter = λ size number. 0;
+      symbol = λ size family code. elim (eqb family 3 && eqb code 80) [ true ↦ some (signMetrics size) | false ↦ none ];
+    }
+
+abbrev aRoot : Kind
+aRoot = Scripted (Root (delimiter 3 80 0 0))
+
+-- a nucleus so high
+abbrev high : ℕ → Shape
+high n = box record { width = pos 0; height = pos n; depth = pos 0 }
+
+abbrev signOf : ℕ → Option Sign
+signOf size = some record { size = size; family = 3; code = 80; metrics = signMetrics size }
+
+sign-by-nucleus :
+    signIn signs (plain Text) aRoot (high 0)
+    ∷ signIn signs (plain Script) aRoot (high 0)
+    ∷ signIn signs (plain Script) aRoot (high 200)
+    ∷ signIn signs (plain Script) aRoot (high 201)
+    ∷ []
+    ≡ signOf 0 ∷ signOf 1 ∷ signOf 1 ∷ signOf 0 ∷ []
+unfolding signMetrics chainBy chain inSizes ofPair candidates extent firstEnough taller tallest taken signFor signIn pick
+sign-by-nucleus = refl

@@ -3,8 +3,8 @@
 --                      nothing else of the list
 --     field-in-place   the whole's nodes are a frame around the nodes of the list set alone; the frame goes by the path and
 --                      the size of that list, so that another list of that size has the same frame (`same-frame`)
--- The proof looks at the three fields of an item and never at its kind: an item comes from three shapes by `arrange`, and its
--- nodes come in one order. What a list adds behind an item goes by the item's class and size alone (`setItems-after`). An item in the
+-- The proof looks at the three fields of an item and never at its kind: an item comes from three shapes by `arrangedIn`, a root's sign
+-- too, and its nodes come in one order. What a list adds behind an item goes by the item's class and size alone (`setItems-after`). An item in the
 -- taken list of a choice is set as if it stood in the choice's place (`spot-in-place` of `Lines`), so that a choice moves nothing.
 -- Assumes nothing.
 use mathlib.Core.Path.{_≡_, refl, sym, ap, ap₂, _∙_}
@@ -19,9 +19,9 @@ use Rattle.boxes.specs.declared.styles.Style.{Style}
 use Rattle.spacing.specs.Classes.{Neighbour, classOf, changedClass}
 use Rattle.spacing.specs.Spacing.{spaceBefore}
 use Rattle.boxes.specs.Boxes.{Size, box, Offset, Arranged, at}
-use Rattle.arrange.specs.Arrange.{arrange, firstStyle, secondStyle, thirdStyle, enlarges}
+use Rattle.arrange.specs.Arrange.{firstStyle, secondStyle, thirdStyle, enlarges}
 use Rattle.nodes.specs.Nodes.{Node}
-use Rattle.setting.specs.Setting.{Box, Part, Line, styleBehind, nextClass, classAt, emptyBox, start, movedTo, ruleNodes, itemNodes, itemBox, placed, setItems, setItem, setField, setList}
+use Rattle.setting.specs.Setting.{Box, Part, Line, styleBehind, nextClass, classAt, emptyBox, start, movedTo, ownNodes, itemNodes, arrangedIn, itemBox, placed, setItems, setItem, setField, setList}
 use Rattle.setting.specs.SettingLaws.{taken-all, setItems-style}
 use Rattle.setting.specs.Frames.{Frame, movedBy, framed, bare, nest, framed-bare, framed-nest}
 use Rattle.setting.specs.Paths.{Arm, inFirst, inSecond, inThird, holding, fieldStyle, itemsBefore, itemsAfter, Step, holder, listWith, itemStyle, stepStyle, Path, whole, into, fill, styleAt}
@@ -49,25 +49,25 @@ module _ (F : Font) (s : Style) (kind : Kind) where
   -- what the rules make of it: the list is its size to them
   abbrev pub arrangedAround : Arm → Size → Arranged
   arrangedAround (inFirst y z) size =
-      arrange (F .parameter) s kind (box size) (secondPart y .shape) (thirdPart z .shape)
+      arrangedIn F s kind (box size) (secondPart y .shape) (thirdPart z .shape)
   arrangedAround (inSecond x z) size =
-      arrange (F .parameter) s kind (firstPart x .shape) (box size) (thirdPart z .shape)
+      arrangedIn F s kind (firstPart x .shape) (box size) (thirdPart z .shape)
   arrangedAround (inThird x y) size =
-      arrange (F .parameter) s kind (firstPart x .shape) (secondPart y .shape) (box size)
+      arrangedIn F s kind (firstPart x .shape) (secondPart y .shape) (box size)
 
   -- its own nodes, and those of its other fields, around the list's
   abbrev pub itemFrame : Arm → Size → Frame
   itemFrame (inFirst y z) size =
       let a = arrangedAround (inFirst y z) size in
       record {
-        before = ruleNodes (a .own .before);
+        before = ownNodes (a .own .before);
         distance = a .first;
-        after = ruleNodes (a .own .behind) ++ movedTo (a .second) (secondPart y .nodes) ++ movedTo (a .third) (thirdPart z .nodes);
+        after = ownNodes (a .own .behind) ++ movedTo (a .second) (secondPart y .nodes) ++ movedTo (a .third) (thirdPart z .nodes);
       }
   itemFrame (inSecond x z) size =
       let a = arrangedAround (inSecond x z) size in
       record {
-        before = ruleNodes (a .own .before) ++ movedTo (a .first) (firstPart x .nodes) ++ ruleNodes (a .own .behind);
+        before = ownNodes (a .own .before) ++ movedTo (a .first) (firstPart x .nodes) ++ ownNodes (a .own .behind);
         distance = a .second;
         after = movedTo (a .third) (thirdPart z .nodes);
       }
@@ -75,9 +75,9 @@ module _ (F : Font) (s : Style) (kind : Kind) where
       let a = arrangedAround (inThird x y) size in
       record {
         before =
-            ruleNodes (a .own .before)
+            ownNodes (a .own .before)
             ++ movedTo (a .first) (firstPart x .nodes)
-            ++ ruleNodes (a .own .behind)
+            ++ ownNodes (a .own .behind)
             ++ movedTo (a .second) (secondPart y .nodes);
         distance = a .third;
         after = [];

@@ -1,6 +1,6 @@
 -- What change request 2 leaves as it was: a formula with no style change ST and no choice C4 in it, at any depth, is set as document 01
--- says, in one style from a list's first item to its last. The definitions of document 01 alone stand here for that; what they give
--- an ST or a C4 means nothing.
+-- says (a root as request 3 does), in one style from a list's first item to its last. The definitions without ST and C4 stand here for
+-- that; what they give an ST or a C4 means nothing.
 --     Plain             no ST and no C4, in list fields neither
 --     PlainLine         what stands so far, with no style; setPlain, missingPlain, plainFits   the box, what is missing, what fits
 --     set-as-before, missing-as-before, fits-as-before     of a plain list these are `setList`, `missingItems`, `listFits`

@@ -1,5 +1,6 @@
 -- The box of a list (document 01, "List" and "Fields"; rule 20): items left to right, each from the shapes of its fields.
 --     setField    a field alone, at its own reference point: its shape and its nodes
+--     signIn      the sign of a root, searched as its nucleus asks for it
 --     setItem     an item, placed behind what stands so far
 --     setItems    items, one behind the other; a list starts at `start` with no neighbour on either side
 -- The style is a part of the line (change request 2): a style change ST sets it, and a choice C4 goes on with the line through the
@@ -14,14 +15,19 @@ use lib.IntN.{ℤ, pos, _+ℤ_}
 use Rattle.scaled.specs.Length.{maxℤ}
 use Rattle.font.specs.Font.{Font, Metrics}
 use Rattle.formula.specs.declared.Class.{Class}
+use Rattle.formula.specs.declared.Base.{Base}
+use Rattle.formula.specs.declared.Base.the-variants.{Atom, Over, Under, Root}
 use Rattle.formula.specs.declared.Kind.{Kind}
+use Rattle.formula.specs.declared.Kind.the-variants.{Scripted, Fraction}
 use Rattle.formula.specs.Tree.{Items, Item, Field, nil, cons, noad, kern, restyle, choice, empty, symbol, list}
 use Rattle.boxes.specs.declared.styles.Level.the-variants.{Display, Text, Script, Scriptscript}
 use Rattle.boxes.specs.declared.styles.Style.{Style}
 use Rattle.boxes.specs.Styles.{styleOf, fontSize}
 use Rattle.spacing.specs.Classes.{Neighbour, classOf, changedClass}
 use Rattle.spacing.specs.Spacing.{spaceBefore}
-use Rattle.boxes.specs.Boxes.{Size, Shape, nothing, char, box, Offset, Rule, Arranged, zeroSize}
+use Rattle.boxes.specs.Boxes.{Size, Shape, nothing, char, box, sizeOf, Offset, OwnNode, ruled, signed, Arranged, zeroSize}
+use Rattle.delimiters.specs.Delimiters.{Sign, signFor, hasSign}
+use Rattle.roots.specs.Roots.{signExtent}
 use Rattle.arrange.specs.Arrange.{arrange, firstStyle, secondStyle, thirdStyle, enlarges}
 use Rattle.nodes.specs.Nodes.{Node, glyph, rule, moved}
 
@@ -67,29 +73,56 @@ symbolPart size family none = emptyPart
 symbolPart size family (some s) =
     record { shape = char (s .metrics); nodes = glyph (pos 0) (pos 0) size family (s .code) ∷ [] }
 
+-- ---- the sign of a root, which goes by the shape of its nucleus; whether there is one does not (`sign-found`)
+
+abbrev pub baseSign : Font → Style → Base → Shape → Option Sign
+baseSign F s (Atom class limits) x = none
+baseSign F s Over x = none
+baseSign F s Under x = none
+baseSign F s (Root d) x = signFor F (fontSize s) d (signExtent (F .parameter) s (sizeOf x))
+
+abbrev pub baseSigned : Font → Style → Base → Bool
+baseSigned F s (Atom class limits) = false
+baseSigned F s Over = false
+baseSigned F s Under = false
+baseSigned F s (Root d) = hasSign F (fontSize s) d
+
+unfoldable pub signIn : Font → Style → Kind → Shape → Option Sign
+signIn F s (Scripted base) x = baseSign F s base x
+signIn F s (Fraction bar) x = none
+
+unfoldable pub isSigned : Font → Style → Kind → Bool
+isSigned F s (Scripted base) = baseSigned F s base
+isSigned F s (Fraction bar) = false
+
 -- ---- an item, at its own reference point: its own nodes stand before and behind field 1, and fields 2 and 3 behind them
 
 abbrev pub movedTo : Offset → List Node → List Node
 movedTo p ns = moved (p .across) (p .up) ns
 
-abbrev pub ruleNode : Rule → Node
-ruleNode r = rule (r .corner .across) (r .corner .up) (r .width) (r .thickness)
+abbrev pub ownNode : OwnNode → Node
+ownNode (ruled r) = rule (r .corner .across) (r .corner .up) (r .width) (r .thickness)
+ownNode (signed g) = glyph (g .place .across) (g .place .up) (g .size) (g .family) (g .code)
 
-unfoldable pub ruleNodes : List Rule → List Node
-ruleNodes [] = []
-ruleNodes (r ∷ rs) = ruleNode r ∷ ruleNodes rs
+unfoldable pub ownNodes : List OwnNode → List Node
+ownNodes [] = []
+ownNodes (o ∷ os) = ownNode o ∷ ownNodes os
 
 unfoldable pub itemNodes : Arranged → Part → Part → Part → List Node
 itemNodes a x y z =
-    ruleNodes (a .own .before)
+    ownNodes (a .own .before)
     ++ movedTo (a .first) (x .nodes)
-    ++ ruleNodes (a .own .behind)
+    ++ ownNodes (a .own .behind)
     ++ movedTo (a .second) (y .nodes)
     ++ movedTo (a .third) (z .nodes)
 
+-- what the rules make of three shapes
+abbrev pub arrangedIn : Font → Style → Kind → Shape → Shape → Shape → Arranged
+arrangedIn F s kind x y z = arrange (F .parameter) s kind (signIn F s kind x) x y z
+
 unfoldable pub itemBox : Font → Style → Kind → Part → Part → Part → Box
 itemBox F s kind x y z =
-    let a = arrange (F .parameter) s kind (x .shape) (y .shape) (z .shape) in
+    let a = arrangedIn F s kind (x .shape) (y .shape) (z .shape) in
     record { size = a .size; nodes = itemNodes a x y z }
 
 -- ---- the style current at an item

@@ -1,5 +1,6 @@
 -- Laws of the box of a list.
---     length-rules     an item's own rules are as many nodes
+--     length-own       an item's own nodes are as many in the whole
+--     sign-found       whether a root has a sign does not depend on its nucleus
 --     taken-all        what holds of each of a choice's four lists holds of the taken one
 --     styleBehind-choice, classAt-choice, setItem-choice, missingItem-choice, itemFits-choice
 --                      a choice is asked for what its taken list is
@@ -10,20 +11,32 @@ use mathlib.Core.List.{List, [], _∷_}
 use Prim.Native.Nat.{suc, _+_}
 use lib.ListN.{length}
 use Rattle.font.specs.Font.{Font}
+use Rattle.formula.specs.declared.Base.the-variants.{Atom, Over, Under, Root}
+use Rattle.formula.specs.declared.Kind.{Kind}
+use Rattle.formula.specs.declared.Kind.the-variants.{Scripted, Fraction}
 use Rattle.formula.specs.Tree.{Items, Item, nil, cons, noad, kern, restyle, choice, choiceOpeningBytes, listOpeningBytes, sublistBytes, itemsBytes}
 use Rattle.boxes.specs.declared.styles.Level.{Level}
 use Rattle.boxes.specs.declared.styles.Level.the-variants.{Display, Text, Script, Scriptscript}
 use Rattle.boxes.specs.declared.styles.Style.{Style}
-use Rattle.boxes.specs.Boxes.{Rule}
+use Rattle.boxes.specs.Boxes.{Shape, OwnNode}
+use Rattle.delimiters.specs.DelimiterLaws.{isFound, found-anyway}
 use Rattle.spacing.specs.Classes.{Neighbour}
-use Rattle.setting.specs.Setting.{ruleNodes, taken, styleAfter, styleBehind, nextClass, classAt, Line, placed, setItems, setItem}
+use Rattle.setting.specs.Setting.{signIn, isSigned, ownNodes, taken, styleAfter, styleBehind, nextClass, classAt, Line, placed, setItems, setItem}
 use Rattle.setting.specs.Missing.{later, missingItems, missingItem}
 use Rattle.setting.specs.Fitting.{itemsFit, itemFits}
 
-pub length-rules : (rs : List Rule) → length (ruleNodes rs) ≡ length rs
-unfolding ruleNodes
-length-rules [] = refl
-length-rules (r ∷ rs) = ap suc (length-rules rs)
+pub length-own : (os : List OwnNode) → length (ownNodes os) ≡ length os
+unfolding ownNodes
+length-own [] = refl
+length-own (o ∷ os) = ap suc (length-own os)
+
+pub sign-found : (F : Font) (s : Style) (kind : Kind) (x : Shape) → isFound (signIn F s kind x) ≡ isSigned F s kind
+unfolding signIn isSigned
+sign-found F s (Scripted (Atom class limits)) x = refl
+sign-found F s (Scripted Over) x = refl
+sign-found F s (Scripted Under) x = refl
+sign-found F s (Scripted (Root d)) x = found-anyway F _ d _
+sign-found F s (Fraction bar) x = refl
 
 module _ {A B : Type 0} (f : A → B) (s : Style) where
   pub taken-all : {d t sc ss : A} {d′ t′ sc′ ss′ : B} → f d ≡ d′ → f t ≡ t′ → f sc ≡ sc′ → f ss ≡ ss′ →

@@ -23,7 +23,7 @@ pub fn class_of(kind: Kind) -> Class
     }
 }
 
-// Lines count as Ord (rule 16).
+// Lines and roots count as Ord (rule 16).
 fn base_class(base: Base) -> Class
     ensures { λ r. ⌜ r ≡ baseClass base ⌝ }
 {
@@ -31,6 +31,7 @@ fn base_class(base: Base) -> Class
         Base::Atom(class, _) => class,
         Base::Over => Class::Ord,
         Base::Under => Class::Ord,
+        Base::Root(_) => Class::Ord,
     }
 }
 

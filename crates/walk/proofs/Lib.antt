@@ -2,6 +2,7 @@
 mod PartLaws
 mod FieldLaws
 mod PlaceLaws
+mod SignLaws
 mod ItemLaws
 mod Laid
 mod ListLaws

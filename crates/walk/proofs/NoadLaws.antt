@@ -31,13 +31,16 @@ use Rattle.boxes.specs.Boxes.{Arranged}
 use Rattle.arrange.specs.Arrange.{arrange, ownCounts, firstStyle, secondStyle, thirdStyle, enlarges}
 use Rattle.arrange.proofs.ArrangeLaws.{own-before, own-behind, few-own}
 use Rattle.spacing.specs.Values.{neighbourAs}
-use Rattle.boxes.specs.Values.{sizeAs}
+use Rattle.boxes.specs.Values.{sizeAs, shapeAs}
 use Rattle.nodes.specs.Nodes.{Node, bytesInNode, bytesOf, moved}
 use Rattle.nodes.specs.Buffer.{roomFor}
 use Rattle.nodes.specs.Drawn.{Drawn}
 use Rattle.nodes.specs.Kept.{Kept, kept-more, kept-then}
 use Rattle.nodes.specs.Values.{isLarge}
-use Rattle.setting.specs.Setting.{Part, styleBehind, nextClass, itemNodes, itemBox, placed, setField, setItem}
+use Rattle.delimiters.specs.Delimiters.{Sign}
+use Rattle.delimiters.specs.DelimiterLaws.{isFound}
+use Rattle.setting.specs.Setting.{Part, signIn, isSigned, styleBehind, nextClass, itemNodes, itemBox, placed, setField, setItem}
+use Rattle.setting.specs.SettingLaws.{sign-found}
 use Rattle.setting.specs.Missing.{_orElse_, missingField, missingItem}
 use Rattle.setting.specs.Fitting.{fieldFits, itemFits}
 use Rattle.walk.specs.declared.parts.Part as parts
@@ -67,10 +70,10 @@ head-as F bytes b b′ {st} {st′} {e} {e′} {at} {at′} {r} {r′} style enl
     (subst (λ (e : Bool). HeadDone F st′ e bytes at b r b′) enlarge (subst (λ (st : Style). HeadDone F st e bytes at b r b′) style d)))
 
 -- an item that was finished by the parameters P, where these are Q
-pub finished-by : {P Q : Parameters} {s : Style} {kind : Kind} {right : Neighbour} {l r : lines.Line} {a b c : parts.Part} {v v′ : List ℕ} →
-    P ≡ Q → Finished P s kind right l a b c r v v′ → Finished Q s kind right l a b c r v v′
-finished-by {s = s} {kind} {right} {l} {r} {a} {b} {c} {v} {v′} e d =
-    subst (λ (P : Parameters). Finished P s kind right l a b c r v v′) e d
+pub finished-by : {P Q : Parameters} {s : Style} {kind : Kind} {sign : Option Sign} {right : Neighbour} {l r : lines.Line} {a b c : parts.Part} {v v′ : List ℕ} →
+    P ≡ Q → Finished P s kind sign right l a b c r v v′ → Finished Q s kind sign right l a b c r v v′
+finished-by {s = s} {kind} {sign} {right} {l} {r} {a} {b} {c} {v} {v′} e d =
+    subst (λ (P : Parameters). Finished P s kind sign right l a b c r v v′) e d
 
 -- the fields of the item at the head of some bytes, each set alone
 module _ (F : Font) (s : Style) (kind : Kind) (bytes : List ℕ) where
@@ -151,16 +154,16 @@ module _ (F : Font) (s : Style) (kind : Kind) (bytes : List ℕ) where
   -- what stands so far in the buffer v, which was b₀, with room for the item's own nodes: the first field a
   pub record One (o₁ o₂ : ℕ) (b₀ : List ℕ) (a : parts.Part) (v : List ℕ) : Type 0 where
     pub noad : Noad bytes kind
-    pub own₁ : o₁ ≡ ownCounts (F .parameter) s kind .before
-    pub own₂ : o₂ ≡ ownCounts (F .parameter) s kind .behind
+    pub own₁ : o₁ ≡ ownCounts (F .parameter) s kind (isSigned F s kind) .before
+    pub own₂ : o₂ ≡ ownCounts (F .parameter) s kind (isSigned F s kind) .behind
     pub wx : WholeX a
     pub so : Laid b₀ (second bytes kind) (o₁ + a .run .count + o₂) fitsX ((gap₁ a o₁ o₂ b₀ ++ bytesOf (partX .nodes)) ++ gap₂ a o₁ o₂ b₀) v
 
   -- and the second, b
   pub record Two (o₁ o₂ : ℕ) (b₀ : List ℕ) (a b : parts.Part) (v : List ℕ) : Type 0 where
     pub noad : Noad bytes kind
-    pub own₁ : o₁ ≡ ownCounts (F .parameter) s kind .before
-    pub own₂ : o₂ ≡ ownCounts (F .parameter) s kind .behind
+    pub own₁ : o₁ ≡ ownCounts (F .parameter) s kind (isSigned F s kind) .before
+    pub own₂ : o₂ ≡ ownCounts (F .parameter) s kind (isSigned F s kind) .behind
     pub wx : WholeX a
     pub wy : WholeY b
     pub so : Laid b₀ (third bytes kind) (o₁ + a .run .count + o₂ + b .run .count) (fitsX && fitsY)
@@ -169,8 +172,8 @@ module _ (F : Font) (s : Style) (kind : Kind) (bytes : List ℕ) where
   -- and the third, c
   pub record Three (o₁ o₂ : ℕ) (b₀ : List ℕ) (a b c : parts.Part) (v : List ℕ) : Type 0 where
     pub noad : Noad bytes kind
-    pub own₁ : o₁ ≡ ownCounts (F .parameter) s kind .before
-    pub own₂ : o₂ ≡ ownCounts (F .parameter) s kind .behind
+    pub own₁ : o₁ ≡ ownCounts (F .parameter) s kind (isSigned F s kind) .before
+    pub own₂ : o₂ ≡ ownCounts (F .parameter) s kind (isSigned F s kind) .behind
     pub wx : WholeX a
     pub wy : WholeY b
     pub wz : WholeZ c
@@ -184,12 +187,12 @@ module _ (F : Font) (s : Style) (kind : Kind) (bytes : List ℕ) where
       Kept (end bytes kind) b₀ v × (lacksZ ≡ some place) × (place ≤ end bytes kind)
 
   -- before its fields an item has two own nodes at most, and at least so many bytes
-  own-few : {o₁ o₂ : ℕ} → Noad bytes kind → o₁ ≡ ownCounts (F .parameter) s kind .before →
-      o₂ ≡ ownCounts (F .parameter) s kind .behind → o₁ + o₂ ≤ openingBytes kind
-  own-few n own₁ own₂ = omega (arith, few-own (F .parameter) s kind, n .opened)
+  own-few : {o₁ o₂ : ℕ} → Noad bytes kind → o₁ ≡ ownCounts (F .parameter) s kind (isSigned F s kind) .before →
+      o₂ ≡ ownCounts (F .parameter) s kind (isSigned F s kind) .behind → o₁ + o₂ ≤ openingBytes kind
+  own-few n own₁ own₂ = omega (arith, few-own (F .parameter) s kind (isSigned F s kind), n .opened)
 
-  module _ {o₁ o₂ j : ℕ} (b₀ r : List ℕ) (n : Noad bytes kind) (own₁ : o₁ ≡ ownCounts (F .parameter) s kind .before)
-      (own₂ : o₂ ≡ ownCounts (F .parameter) s kind .behind) (at : j ≡ roomFor o₁ (length b₀)) where
+  module _ {o₁ o₂ j : ℕ} (b₀ r : List ℕ) (n : Noad bytes kind) (own₁ : o₁ ≡ ownCounts (F .parameter) s kind (isSigned F s kind) .before)
+      (own₂ : o₂ ≡ ownCounts (F .parameter) s kind (isSigned F s kind) .behind) (at : j ≡ roomFor o₁ (length b₀)) where
     -- the first field's part of the buffer, and what its setter came to
     abbrev FirstSet : FieldSet → Type 0
     FirstSet x =
@@ -304,9 +307,11 @@ module _ (F : Font) (s : Style) (kind : Kind) (bytes : List ℕ) where
   -- the item is finished: the line l, of the style s, became r, and the buffer v′
   pub record NoadSet (beyond right : Neighbour) (l r : lines.Line) (o₁ o₂ : ℕ) (b₀ : List ℕ) (a b c : parts.Part) (v v′ : List ℕ) : Type 0 where
     pub here : l .style ≡ s
+    pub sign : Option Sign
+    pub sign-is : sign ≡ signIn F s kind (shapeAs (a .shape))
     pub fields : Three o₁ o₂ b₀ a b c v
     pub alike : ChangesAlike kind right beyond
-    pub done : Finished (F .parameter) s kind right l a b c r v v′
+    pub done : Finished (F .parameter) s kind sign right l a b c r v v′
 
   module _ {beyond right : Neighbour} {l r : lines.Line} {a b c : parts.Part} {o₁ o₂ : ℕ} {b₀ v v′ : List ℕ}
       (q : NoadSet beyond right l r o₁ o₂ b₀ a b c v v′) where
@@ -324,7 +329,7 @@ module _ (F : Font) (s : Style) (kind : Kind) (bytes : List ℕ) where
     at = l .size .width .0 +ℤ spaceBefore P s left class
 
     abbrev A : Arranged
-    A = arrange P s kind (partX .shape) (partY .shape) (partZ .shape)
+    A = arrange P s kind (signIn F s kind (partX .shape)) (partX .shape) (partY .shape) (partZ .shape)
 
     abbrev nodes : List Node
     nodes = moved at (pos 0) (itemNodes A partX partY partZ)
@@ -353,14 +358,23 @@ module _ (F : Font) (s : Style) (kind : Kind) (bytes : List ℕ) where
     arranged-is : Fits → q .done .arranged ≡ A
     arranged-is h =
         q .done .arranged-is
-        ∙ rw (q .fields .wx .is (x-fits h) .shape-is, q .fields .wy .is (y-fits h) .shape-is, q .fields .wz .is (z-fits h) .shape-is)
+        ∙ rw (q .sign-is, q .fields .wx .is (x-fits h) .shape-is, q .fields .wy .is (y-fits h) .shape-is, q .fields .wz .is (z-fits h) .shape-is)
 
-    -- how many own nodes there are, whatever the fields hold
+    -- how many own nodes there are, whatever the fields hold: whether there is a sign does not depend on the nucleus
+    found-is : isFound (q .sign) ≡ isSigned F s kind
+    found-is = ap isFound (q .sign-is) ∙ sign-found F s kind (shapeAs (a .shape))
+
     own-before-is : length (q .done .arranged .own .before) ≡ o₁
-    own-before-is = ap (λ (B : Arranged). length (B .own .before)) (q .done .arranged-is) ∙ own-before P s kind _ _ _ ∙ sym (q .fields .own₁)
+    own-before-is =
+        ap (λ (B : Arranged). length (B .own .before)) (q .done .arranged-is)
+        ∙ own-before P s kind (q .sign) _ _ _ found-is
+        ∙ sym (q .fields .own₁)
 
     own-behind-is : length (q .done .arranged .own .behind) ≡ o₂
-    own-behind-is = ap (λ (B : Arranged). length (B .own .behind)) (q .done .arranged-is) ∙ own-behind P s kind _ _ _ ∙ sym (q .fields .own₂)
+    own-behind-is =
+        ap (λ (B : Arranged). length (B .own .behind)) (q .done .arranged-is)
+        ∙ own-behind P s kind (q .sign) _ _ _ found-is
+        ∙ sym (q .fields .own₂)
 
     few : itemCount (q .done .x) (q .done .arranged) (a .run .count) (b .run .count) (c .run .count) ≤ end bytes kind
     few = omega (arith, q .fields .so .few, own-before-is, own-behind-is)

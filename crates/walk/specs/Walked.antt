@@ -8,7 +8,7 @@
 use mathlib.Core.Path.{_≡_}
 use mathlib.Core.Bool.{Bool, true, not, _&&_, _||_}
 use mathlib.Core.List.{List, [], _∷_}
-use mathlib.Core.Option.{none, some}
+use mathlib.Core.Option.{Option, none, some}
 use Prim.Native.Nat.{ℕ, _+_, _-_, _^_, _≤_, _<_}
 use lib.IntN.{ℤ, pos, _+ℤ_}
 use lib.ListN.{length, drop}
@@ -28,16 +28,19 @@ use Rattle.boxes.specs.declared.Shape.the-variants.{Nothing, Box}
 use Rattle.boxes.specs.declared.Offset.{Offset as CodeOffset}
 use Rattle.boxes.specs.declared.Size.{Size as CodeSize}
 use Rattle.boxes.specs.declared.Ruling.{Ruling}
+use Rattle.boxes.specs.declared.Signing.{Signing}
+use Rattle.boxes.specs.declared.Owned.{Owned}
 use Rattle.boxes.specs.declared.Arranged.{Arranged as CodeArranged}
 use Rattle.spacing.specs.declared.classes.Neighbour.the-variants.{End, Atom}
 use Rattle.boxes.specs.Parameters.{Parameters}
 use Rattle.spacing.specs.Classes.{Neighbour, classOf, changedClass}
 use Rattle.spacing.specs.Spacing.{spaceBefore}
-use Rattle.boxes.specs.Boxes.{Size, zeroSize, Offset, Rule, Arranged}
+use Rattle.boxes.specs.Boxes.{Size, zeroSize, Offset, OwnNode, Arranged}
+use Rattle.delimiters.specs.Delimiters.{Sign}
 use Rattle.arrange.specs.Arrange.{arrange}
 use Rattle.boxes.specs.Values.{parametersIn, sizeAs, shapeAs, arrangedAs}
 use Rattle.spacing.specs.Values.{neighbourAs}
-use Rattle.boxes.specs.Bounds.{words, itemWords, ModerateShape, OffsetWithin, RulingWithin, Bounded}
+use Rattle.boxes.specs.Bounds.{words, itemWords, ModerateShape, OffsetWithin, SigningWithin, RulingWithin, OwnedWithin, Bounded}
 use Rattle.nodes.specs.declared.run.Run.{Run}
 use Rattle.nodes.specs.Nodes.{movedNode, moved}
 use Rattle.nodes.specs.Bounds.{greatestLength}
@@ -46,7 +49,7 @@ use Rattle.nodes.specs.Drawn.{Drawn}
 use Rattle.nodes.specs.Kept.{Kept}
 use Rattle.nodes.specs.Hull.{Hull, none as unreached, joined, movedHull, hull, HullWithin}
 use Rattle.nodes.specs.Values.{hullOf, isLarge, RunIs, EmptyRun, JoinedRun}
-use Rattle.setting.specs.Setting.{Line, start, ruleNode, ruleNodes, styleAfter, styleBehind, nextClass, setField, setItem, setItems, setList}
+use Rattle.setting.specs.Setting.{Line, start, ownNode, ownNodes, styleAfter, styleBehind, nextClass, setField, setItem, setItems, setList}
 use Rattle.setting.specs.Missing.{later, missingField, missingItem, missingItems}
 use Rattle.setting.specs.Fitting.{fieldFits, itemFits, itemsFit}
 use Rattle.walk.specs.declared.parts.Part as parts
@@ -176,21 +179,31 @@ pub record FieldMoved (before part : Run) (x : ℤ) (p : Offset) (r : Run) (b b�
   pub hull-is : hullOf r ≡ joined (hullOf before) (movedHull (x +ℤ p .across) (p .up) (hullOf part))
   pub buffer-is : b′ ≡ behindNodes (before .count) (movedFront (x +ℤ p .across) (p .up) (part .count)) b
 
--- an item's own rules behind n nodes, where the item stands at x
-unfoldable pub rulesPut : ℤ → ℕ → List Rule → List ℕ → List ℕ
-rulesPut x n [] b = b
-rulesPut x n (r ∷ rs) b = rulesPut x (n + 1) rs (behindNodes n (put (movedNode x (pos 0) (ruleNode r))) b)
+-- an item's own nodes behind n others, where the item stands at x
+unfoldable pub ownPut : ℤ → ℕ → List OwnNode → List ℕ → List ℕ
+ownPut x n [] b = b
+ownPut x n (o ∷ os) b = ownPut x (n + 1) os (behindNodes n (put (movedNode x (pos 0) (ownNode o))) b)
 
-pub record RulesGiven (before : Run) (own : Ruling) (x : ℤ) : Type 0 where
+pub record SigningGiven (before : Run) (own : Signing) (x : ℤ) : Type 0 where
+  pub few : before .count + 1 < 2 ^ 64
+  pub sign : SigningWithin itemWords own
+  pub x-small : Within (2 ^ 54) x
+
+pub record RulingGiven (before : Run) (own : Ruling) (x : ℤ) : Type 0 where
   pub few : before .count + 1 < 2 ^ 64
   pub rules : RulingWithin itemWords own
   pub x-small : Within (2 ^ 54) x
 
-pub record RulesPut (before : Run) (rs : List Rule) (x : ℤ) (r : Run) (b b′ : List ℕ) : Type 0 where
-  pub count-is : r .count ≡ before .count + length rs
+pub record OwnGiven (before : Run) (own : Owned) (x : ℤ) : Type 0 where
+  pub few : before .count + 2 < 2 ^ 64
+  pub near : OwnedWithin itemWords own
+  pub x-small : Within (2 ^ 54) x
+
+pub record OwnPut (before : Run) (os : List OwnNode) (x : ℤ) (r : Run) (b b′ : List ℕ) : Type 0 where
+  pub count-is : r .count ≡ before .count + length os
   pub large-is : isLarge r ≡ isLarge before
-  pub hull-is : hullOf r ≡ joined (hullOf before) (hull (moved x (pos 0) (ruleNodes rs)))
-  pub buffer-is : b′ ≡ rulesPut x (before .count) rs b
+  pub hull-is : hullOf r ≡ joined (hullOf before) (hull (moved x (pos 0) (ownNodes os)))
+  pub buffer-is : b′ ≡ ownPut x (before .count) os b
 
 -- an item arranged as A at x, whose fields have i, j and k nodes
 module _ (x : ℤ) (A : Arranged) (i j k : ℕ) where
@@ -214,9 +227,9 @@ module _ (x : ℤ) (A : Arranged) (i j k : ℕ) where
   itemBuffer b =
       behindNodes thirdAt (movedFront (x +ℤ A .third .across) (A .third .up) k)
       (behindNodes secondAt (movedFront (x +ℤ A .second .across) (A .second .up) j)
-      (rulesPut x behindAt (A .own .behind)
+      (ownPut x behindAt (A .own .behind)
       (behindNodes firstAt (movedFront (x +ℤ A .first .across) (A .first .up) i)
-      (rulesPut x 0 (A .own .before) b))))
+      (ownPut x 0 (A .own .before) b))))
 
 -- how far its nodes reach, from how far its fields do
 abbrev pub itemHull : ℤ → Arranged → Hull → Hull → Hull → Hull
@@ -224,9 +237,9 @@ itemHull x A f g h =
     joined
     (joined
     (joined
-    (joined (joined unreached (hull (moved x (pos 0) (ruleNodes (A .own .before)))))
+    (joined (joined unreached (hull (moved x (pos 0) (ownNodes (A .own .before)))))
     (movedHull (x +ℤ A .first .across) (A .first .up) f))
-    (hull (moved x (pos 0) (ruleNodes (A .own .behind)))))
+    (hull (moved x (pos 0) (ownNodes (A .own .behind)))))
     (movedHull (x +ℤ A .second .across) (A .second .up) g))
     (movedHull (x +ℤ A .third .across) (A .third .up) h)
 
@@ -253,12 +266,12 @@ pub record FinishGiven (l : lines.Line) (a b c : parts.Part) : Type 0 where
   pub second : PartWithin (a .end) b
   pub third : PartWithin (b .end) c
 
-pub record Finished (P : Parameters) (s : Style) (kind : Kind) (right : Neighbour) (l : lines.Line) (a b c : parts.Part) (r : lines.Line) (v v′ : List ℕ) : Type 0 where
+pub record Finished (P : Parameters) (s : Style) (kind : Kind) (sign : Option Sign) (right : Neighbour) (l : lines.Line) (a b c : parts.Part) (r : lines.Line) (v v′ : List ℕ) : Type 0 where
   pub class : Class
   pub arranged : Arranged
   pub x : ℤ
   pub class-is : class ≡ changedClass (neighbourAs (l .left)) (classOf kind) right
-  pub arranged-is : arranged ≡ arrange P s kind (shapeAs (a .shape)) (shapeAs (b .shape)) (shapeAs (c .shape))
+  pub arranged-is : arranged ≡ arrange P s kind sign (shapeAs (a .shape)) (shapeAs (b .shape)) (shapeAs (c .shape))
   pub x-is : x ≡ l .size .width .0 +ℤ spaceBefore P s (neighbourAs (l .left)) class
   pub left-is : r .left ≡ Atom class
   pub style-is : r .style ≡ l .style

@@ -1,24 +1,30 @@
 // An item whose fields have been set, arranged and put at its place in the list. Nothing here calls a setter.
 
 ghost use Rattle.arrange.specs.Arrange as definition;
-ghost use Rattle.boxes.specs.Values.{parametersIn, shapeAs, offsetAs, rulingAs, arrangedAs};
+ghost use Rattle.boxes.specs.Values.{parametersIn, shapeAs, offsetAs, signingAs, rulingAs, ownedAs, arrangedAs};
 ghost use Rattle.spacing.specs.Values.{neighbourAs};
+ghost use Rattle.delimiters.specs.Values.{chosenAs};
 ghost use Rattle.boxes.specs.Bounds.{ModerateShape};
 ghost use Rattle.walk.specs.Bounds.{longest, LineWithin};
-ghost use Rattle.walk.specs.Walked.{PlacingIs, MoveGiven, FieldMoved, RulesGiven, RulesPut, PutGiven, ItemPut, FinishGiven, Finished};
+ghost use Rattle.walk.specs.Walked.{PlacingIs, MoveGiven, FieldMoved, OwnGiven, SigningGiven, RulingGiven, OwnPut, PutGiven, ItemPut, FinishGiven, Finished};
 use crate::growing::extended;
 use crate::lines::Line;
 use crate::parts::Part;
 use arrange::arrange;
 use boxes::Arranged;
 use boxes::Offset;
+use boxes::Owned;
 use boxes::Ruling;
 use boxes::Shape;
+use boxes::Signing;
 use boxes::parameters::Parameters;
+use delimiters::Chosen;
 use formula::Class;
 use formula::Kind;
 use nodes::move_nodes;
+use nodes::put_glyph;
 use nodes::put_rule;
+use nodes::room;
 use nodes::run::Run;
 use scaled::Sp;
 use spacing::classes::Neighbour;
@@ -37,6 +43,7 @@ pub struct Placing {
 fn placing_of(
     p: &Parameters,
     kind: Kind,
+    sign: Chosen,
     right: Neighbour,
     line: Line,
     x: Shape,
@@ -44,7 +51,7 @@ fn placing_of(
     z: Shape,
 ) -> Placing
     requires { ⌜ LineWithin longest line × ModerateShape x × ModerateShape y × ModerateShape z ⌝ }
-    ensures { λ r. ⌜ PlacingIs (parametersIn (now (p .entry))) (line .style) kind (neighbourAs right) (neighbourAs (line .left)) (line .size .width .0) (definition.arrange (parametersIn (now (p .entry))) (line .style) kind (shapeAs x) (shapeAs y) (shapeAs z)) r ⌝ }
+    ensures { λ r. ⌜ PlacingIs (parametersIn (now (p .entry))) (line .style) kind (neighbourAs right) (neighbourAs (line .left)) (line .size .width .0) (definition.arrange (parametersIn (now (p .entry))) (line .style) kind (chosenAs sign) (shapeAs x) (shapeAs y) (shapeAs z)) r ⌝ }
 {
     let left = line.left;
     let style = line.style;
@@ -52,7 +59,7 @@ fn placing_of(
     let width = size.width;
     let class = changed_class(left, class_of(kind), right);
     let across = width.plus(space_before(p, style, left, class));
-    let arranged = arrange(p, style, kind, x, y, z);
+    let arranged = arrange(p, style, kind, sign, x, y, z);
     Placing {
         class,
         x: across,
@@ -72,12 +79,40 @@ fn move_field(before: Run, field: Run, x: Sp, offset: Offset, buf: &mut [u8]) ->
     before.joined(field.moved(dx, dy))
 }
 
-// Puts an item's own rule, if it is one, behind the nodes of `before`.
-fn put_own(before: Run, own: Ruling, x: Sp, buf: &mut [u8]) -> Run
-    requires { ⌜ RulesGiven before own (x .0) ⌝ }
-    ensures { λ r. ⌜ RulesPut before (rulingAs own) (x .0) r (now (buf .entry)) (now (buf .exit)) ⌝ }
+// Puts an item's own nodes that stand together behind those of `before`.
+fn put_own(before: Run, own: Owned, x: Sp, buf: &mut [u8]) -> Run
+    requires { ⌜ OwnGiven before own (x .0) ⌝ }
+    ensures { λ r. ⌜ OwnPut before (ownedAs own) (x .0) r (now (buf .entry)) (now (buf .exit)) ⌝ }
 {
-    match own {
+    let sign = own.sign;
+    let ruling = own.ruling;
+    let signed = put_sign(before, sign, x, buf);
+    put_ruling(signed, ruling, x, buf)
+}
+
+fn put_sign(before: Run, sign: Signing, x: Sp, buf: &mut [u8]) -> Run
+    requires { ⌜ SigningGiven before sign (x .0) ⌝ }
+    ensures { λ r. ⌜ OwnPut before (signingAs sign) (x .0) r (now (buf .entry)) (now (buf .exit)) ⌝ }
+{
+    match sign {
+        Signing::Unsigned => before,
+        Signing::Signed(g) => {
+            let place = g.place;
+            let across = place.across;
+            let dx = x.plus(across);
+            let dy = place.up;
+            let j = room(before.count, buf.len());
+            put_glyph(&mut buf[j..], dx, dy, g.size, g.family, g.code);
+            before.joined(Run::point(dx, dy))
+        }
+    }
+}
+
+fn put_ruling(before: Run, ruling: Ruling, x: Sp, buf: &mut [u8]) -> Run
+    requires { ⌜ RulingGiven before ruling (x .0) ⌝ }
+    ensures { λ r. ⌜ OwnPut before (rulingAs ruling) (x .0) r (now (buf .entry)) (now (buf .exit)) ⌝ }
+{
+    match ruling {
         Ruling::Unruled => before,
         Ruling::Ruled(r) => {
             let corner = r.corner;
@@ -110,6 +145,7 @@ fn put_item(x: Sp, arranged: Arranged, a: Run, b: Run, c: Run, buf: &mut [u8]) -
 pub fn finished(
     p: &Parameters,
     kind: Kind,
+    sign: Chosen,
     right: Neighbour,
     line: Line,
     a: Part,
@@ -118,12 +154,12 @@ pub fn finished(
     buf: &mut [u8],
 ) -> Line
     requires { ⌜ FinishGiven line a b c ⌝ }
-    ensures { λ r. ⌜ Finished (parametersIn (now (p .entry))) (line .style) kind (neighbourAs right) line a b c r (now (buf .entry)) (now (buf .exit)) ⌝ }
+    ensures { λ r. ⌜ Finished (parametersIn (now (p .entry))) (line .style) kind (chosenAs sign) (neighbourAs right) line a b c r (now (buf .entry)) (now (buf .exit)) ⌝ }
 {
     let first = a.shape;
     let second = b.shape;
     let third = c.shape;
-    let placing = placing_of(p, kind, right, line, first, second, third);
+    let placing = placing_of(p, kind, sign, right, line, first, second, third);
     let class = placing.class;
     let x = placing.x;
     let arranged = placing.arranged;

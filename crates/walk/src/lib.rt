@@ -10,4 +10,5 @@ pub mod lines;
 pub mod lists;
 mod parts;
 mod places;
+mod signs;
 mod symbols;

@@ -24,6 +24,8 @@ use crate::parts::empty_part;
 use crate::parts::symbol_part;
 use crate::places::beyond_choice;
 use crate::places::right_of;
+use crate::signs::is_signed;
+use crate::signs::sign_in;
 use arrange::enlarges;
 use arrange::first_style;
 use arrange::own_counts;
@@ -236,7 +238,8 @@ fn set_noad(
     ensures { λ r. ⌜ ItemDone (fontOf (now (table .entry))) (neighbourAs beyond) (now (s .entry)) line (now (buf .entry)) r (now (buf .exit)) ⌝ }
 {
     let style = line.style;
-    let own = own_counts(p, style, kind);
+    let signed = is_signed(table, style, kind);
+    let own = own_counts(p, style, kind, signed);
     let i = room(own.before, buf.len());
     let first = first_style(kind, style);
     let large = enlarges(kind, style);
@@ -272,7 +275,9 @@ fn set_noad(
     };
     let end = c.end;
     let right = right_of(kind, style, beyond, &s[end..]);
-    ItemSet::Next(end, finished(p, kind, right, line, a, b, c, buf))
+    let nucleus = a.shape;
+    let sign = sign_in(table, p, style, kind, nucleus);
+    ItemSet::Next(end, finished(p, kind, sign, right, line, a, b, c, buf))
 }
 
 // Sets the field whose kind byte stands at `at` of its item alone, at its own reference point, into the front of buf. Most are

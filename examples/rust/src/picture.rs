@@ -87,6 +87,8 @@ enum Letter {
     Italic(char),
     /// Its box hangs from the baseline, so it is fitted into the box.
     Operator(char),
+    /// The sign of a root: two strokes in its box, the second up to the rule.
+    Radical,
 }
 
 impl Letter {
@@ -99,6 +101,9 @@ impl Letter {
                 let bottom = y + points(metrics.depth);
                 (letter, "normal", reach, bottom - OPERATOR_DEPTH * reach)
             }
+            Letter::Radical => {
+                return radical(x, y - points(metrics.height), points(metrics.width), reach);
+            }
         };
         let middle = x + points(metrics.width) / 2.0;
         format!(
@@ -106,6 +111,18 @@ impl Letter {
              font-style=\"{slope}\">{letter}</text>\n"
         )
     }
+}
+
+/// The strokes of a root's sign, in the box whose upper left corner is given.
+fn radical(x: f64, top: f64, width: f64, reach: f64) -> String {
+    format!(
+        "<path d=\"M{:.3} {:.3}L{:.3} {:.3}L{:.3} {top:.3}\" fill=\"none\" stroke=\"black\" stroke-width=\"0.4\"/>\n",
+        x + 0.2 * width,
+        top + 0.6 * reach,
+        x + 0.5 * width,
+        top + reach,
+        x + width,
+    )
 }
 
 /// The letters of Computer Modern's layout that can be shown with usual fonts.
@@ -122,6 +139,7 @@ fn letter(family: u8, code: u8) -> Option<Letter> {
             letter.map(Letter::Italic)
         }
         (3, 80 | 88) => Some(Letter::Operator('∑')),
+        (2, 112) | (3, 112..=115) => Some(Letter::Radical),
         _ => None,
     }
 }

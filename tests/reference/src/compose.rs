@@ -76,6 +76,16 @@ pub fn fraction(bar: u8, numerator: &[u8], denominator: &[u8]) -> Vec<u8> {
     [b"FR", &[bar][..], numerator, denominator].concat()
 }
 
+/// The small symbol and the large one to look for the sign among, by family
+/// and code; two zeros are none.
+pub fn root(sign: [(u8, u8); 2], fields: [&[u8]; 3]) -> Vec<u8> {
+    [b"RD", &delimiter(sign)[..], &fields.concat()].concat()
+}
+
+fn delimiter([small, large]: [(u8, u8); 2]) -> [u8; 4] {
+    [small.0, small.1, large.0, large.1]
+}
+
 pub fn kern(length: i32) -> Vec<u8> {
     [b"KN", &length.to_le_bytes()[..]].concat()
 }

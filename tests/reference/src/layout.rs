@@ -75,6 +75,14 @@ impl<'a, P: Pen> Layout<'a, P> {
                 numerator,
                 denominator,
             } => self.fraction(*barred, numerator, denominator, style),
+            Item::Root {
+                sign,
+                nucleus,
+                scripts,
+            } => {
+                let nucleus = self.root(sign, nucleus, style)?;
+                self.attach_scripts(nucleus, scripts, style)
+            }
             Item::Kern(kern) => Ok(MathBox {
                 width: i64::from(*kern),
                 ..MathBox::default()

@@ -5,6 +5,7 @@
 
 mod answer;
 mod boxes;
+mod chains;
 pub mod compose;
 pub mod generate;
 mod layout;
@@ -17,6 +18,7 @@ mod style;
 mod table;
 
 pub use answer::Answer;
+pub use chains::CHAIN_LIMIT;
 pub use nodes::NODE_BYTES;
 pub use printed::printed;
 pub use reading::{DEPTH_LIMIT, FORMULA_LIMIT};
@@ -59,7 +61,8 @@ fn try_set(style: u8, table: &[u8], formula: &[u8], nodes: &mut [u8]) -> Result<
     Ok(Answer::accepted(&formula_box, pen.len()))
 }
 
-/// No item has more nodes for its bytes than a fraction of two symbols.
+/// No item has more nodes for its bytes than a fraction of two symbols, or a
+/// root with three.
 fn most_nodes(formula: &[u8]) -> usize {
     formula.len().min(FORMULA_LIMIT) / 3
 }

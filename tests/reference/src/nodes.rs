@@ -82,6 +82,16 @@ pub fn write(nodes: &[Node], room: &mut [u8]) {
 }
 
 impl Node {
+    /// Keeps room for a node that is not known yet.
+    pub const UNPLACED: Node = Node {
+        x: 0,
+        y: 0,
+        ink: Ink::Rule {
+            width: 0,
+            thickness: 0,
+        },
+    };
+
     /// Only for nodes that keep the size limit.
     fn bytes(&self) -> [u8; NODE_BYTES] {
         let mut bytes = [0; NODE_BYTES];

@@ -9,6 +9,7 @@ pub const FORMULA_LIMIT: usize = 4096;
 pub const DEPTH_LIMIT: usize = 16;
 
 pub(crate) const KERN_LIMIT: i32 = 8_388_607;
+pub(crate) const FAMILY_LIMIT: u8 = 15;
 
 /// The bytes of the shortest item, a change of style.
 const LEAST_ITEM: usize = 3;
@@ -71,6 +72,11 @@ pub enum Item {
         numerator: Field,
         denominator: Field,
     },
+    Root {
+        sign: Delimiter,
+        nucleus: Field,
+        scripts: Scripts,
+    },
     Kern(i32),
 }
 
@@ -79,12 +85,17 @@ impl Item {
     pub fn class(&self) -> Option<Class> {
         match *self {
             Item::Atom { class, .. } => Some(class),
-            Item::Lined { .. } => Some(Class::Ord),
+            Item::Lined { .. } | Item::Root { .. } => Some(Class::Ord),
             Item::Fraction { .. } => Some(Class::Inner),
             Item::Kern(_) => None,
         }
     }
 }
+
+/// Where a delimiter is looked for: a small symbol, then a large one, each by
+/// family and code. Two zeros are no symbol.
+#[derive(Clone, Copy, Debug)]
+pub struct Delimiter(pub [(u8, u8); 2]);
 
 #[derive(Clone, Copy, Debug)]
 pub struct Scripts {
@@ -257,6 +268,7 @@ impl Reader<'_> {
             b"OV" => Content::Item(self.lined(Line::Over, cursor)?),
             b"UN" => Content::Item(self.lined(Line::Under, cursor)?),
             b"FR" => Content::Item(self.fraction(cursor)?),
+            b"RD" => Content::Item(self.root(cursor)?),
             b"KN" => Content::Item(self.kern(cursor)?),
             b"ST" => Content::Style(self.style(cursor)?),
             b"C4" => Content::Choice(self.choice(cursor)?),
@@ -311,6 +323,22 @@ impl Reader<'_> {
         })
     }
 
+    fn root(&mut self, cursor: &mut Cursor) -> Result<Item, Refusal> {
+        Ok(Item::Root {
+            sign: self.delimiter(cursor)?,
+            nucleus: self.field(cursor)?,
+            scripts: self.scripts(cursor)?,
+        })
+    }
+
+    fn delimiter(&mut self, cursor: &mut Cursor) -> Result<Delimiter, Refusal> {
+        let [small_family, small, large_family, large] = self.take(cursor)?;
+        if small_family.max(large_family) > FAMILY_LIMIT {
+            return Err(cursor.fault());
+        }
+        Ok(Delimiter([(small_family, small), (large_family, large)]))
+    }
+
     fn kern(&mut self, cursor: &mut Cursor) -> Result<Item, Refusal> {
         let kern = i32::from_le_bytes(self.take(cursor)?);
         if (-KERN_LIMIT..=KERN_LIMIT).contains(&kern) {
@@ -360,7 +388,7 @@ impl Reader<'_> {
 
     fn symbol(&mut self, place: usize, cursor: &mut Cursor) -> Result<Field, Refusal> {
         let [family] = self.take(cursor)?;
-        if family > 15 {
+        if family > FAMILY_LIMIT {
             return Err(cursor.fault());
         }
         let [code] = self.take(cursor)?;

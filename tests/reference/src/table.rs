@@ -1,5 +1,7 @@
 //! The font table: its check, its parameters and its characters.
 
+use crate::chains;
+
 /// The greatest value of a word.
 pub const WORD_LIMIT: u32 = (1 << 23) - 1;
 /// The most characters a table may have.
@@ -14,7 +16,7 @@ pub(crate) const RECORD_BYTES: usize = 23;
 
 const SIGMAS: usize = 22;
 
-type Record = [u8; RECORD_BYTES];
+pub(crate) type Record = [u8; RECORD_BYTES];
 type Word = [u8; 4];
 
 /// A table that was found to be good.
@@ -28,7 +30,10 @@ impl<'a> Table<'a> {
         let (head, tail) = bytes.split_at_checked(ROWS * ROW_BYTES)?;
         let rows = read_rows(head)?;
         let (records, rest) = tail.as_chunks();
-        let good = rest.is_empty() && records.len() <= CHARACTER_LIMIT && are_good(records);
+        let good = rest.is_empty()
+            && records.len() <= CHARACTER_LIMIT
+            && are_good(records)
+            && chains::are_short(records);
         good.then_some(Table { rows, records })
     }
 
@@ -57,7 +62,7 @@ impl Character {
     fn read(record: &Record) -> Character {
         let measures = measures(record);
         Character {
-            successor: (record[5] == 1).then_some(record[6]),
+            successor: successor(record),
             width: value(&measures[0]).into(),
             height: value(&measures[1]).into(),
             depth: value(&measures[2]).into(),
@@ -193,9 +198,21 @@ fn value(word: &Word) -> u32 {
     u32::from_le_bytes(*word)
 }
 
+pub(crate) fn successor(record: &Record) -> Option<u8> {
+    (record[5] == 1).then_some(record[6])
+}
+
 /// The four words at a record's end.
 fn measures(record: &Record) -> &[Word] {
     record[7..].as_chunks().0
+}
+
+pub(crate) fn code(record: &Record) -> usize {
+    usize::from(record[4])
+}
+
+pub(crate) fn are_of_one_family(a: &Record, b: &Record) -> bool {
+    a[2..4] == b[2..4]
 }
 
 fn record_key(record: &Record) -> u32 {

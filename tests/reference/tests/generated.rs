@@ -1,7 +1,8 @@
 //! What holds of every call, looked at on generated cases.
 
 use reference::generate::{case, Case, Random};
-use reference::{measure, set, Answer, FORMULA_LIMIT, NODE_BYTES};
+use reference::{measure, set, Answer, CHAIN_LIMIT, FORMULA_LIMIT, NODE_BYTES};
+use std::collections::BTreeMap;
 
 const CASES: usize = 20_000;
 const FILLING: u8 = 0xA5;
@@ -94,6 +95,55 @@ fn would_be_too_deep(case: &Case, field: usize) -> bool {
     };
     *kind = 2;
     measure(case.style, &case.table, &formula).number == 4
+}
+
+#[test]
+fn chains_are_refused_if_too_long() {
+    let (mut longest, mut too_long) = (0, 0);
+    let mut random = Random::new(10);
+    for _ in 0..CASES {
+        let Case { table, .. } = case(&mut random);
+        if measure(0, &without_successors(&table), &[]).number == 2 {
+            continue;
+        }
+        let steps = most_steps(&table);
+        let number = measure(0, &table, &[]).number;
+        assert_eq!(number, if steps > CHAIN_LIMIT { 2 } else { 0 });
+        longest += usize::from(steps == CHAIN_LIMIT);
+        too_long += usize::from(steps == CHAIN_LIMIT + 1);
+    }
+    assert!(longest.min(too_long) > CASES / 50, "{longest} {too_long}");
+}
+
+const TABLE_HEAD: usize = 426;
+const RECORD_BYTES: usize = 23;
+
+fn without_successors(table: &[u8]) -> Vec<u8> {
+    let mut table = table.to_vec();
+    let records = table.get_mut(TABLE_HEAD..).unwrap_or_default();
+    for record in records.chunks_exact_mut(RECORD_BYTES) {
+        if record[5] == 1 {
+            record[5..7].fill(0);
+        }
+    }
+    table
+}
+
+/// The steps of the longest chain, counted no further than one past the limit.
+fn most_steps(table: &[u8]) -> u8 {
+    let records = table[TABLE_HEAD..].chunks(RECORD_BYTES);
+    let successors: BTreeMap<[u8; 3], Option<[u8; 3]>> = records
+        .map(|r| {
+            let next = [r[2], r[3], r[6]];
+            ([r[2], r[3], r[4]], (r[5] == 1).then_some(next))
+        })
+        .collect();
+    let next = |symbol: &[u8; 3]| successors[symbol].filter(|next| successors.contains_key(next));
+    let steps = |symbol: &[u8; 3]| {
+        let chain = std::iter::successors(next(symbol), next);
+        chain.take(usize::from(CHAIN_LIMIT) + 1).count() as u8
+    };
+    successors.keys().map(steps).max().unwrap_or(0)
 }
 
 #[test]

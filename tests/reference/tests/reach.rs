@@ -147,6 +147,7 @@ impl Look<'_> {
         let (head, styles) = match &self.bytes[item..item + 2] {
             b"AT" => (2, vec![style, scripts[0], scripts[1]]),
             b"OV" => (0, vec![style | 1, scripts[0], scripts[1]]),
+            b"RD" => (4, vec![style | 1, scripts[0], scripts[1]]),
             b"UN" => (0, vec![style, scripts[0], scripts[1]]),
             _ => (1, vec![text, text | 1]),
         };

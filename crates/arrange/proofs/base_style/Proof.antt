@@ -16,6 +16,12 @@ cramped-style-requires c κs = search needs
 enum-told-3 : tie.Need-enum-told-3
 enum-told-3 c = search needs
 
+enum-told-4 : tie.Need-enum-told-4
+enum-told-4 c = search needs
+
+cramped-style-requires-2 : tie.Need-cramped-style-requires-2
+cramped-style-requires-2 c κs = search needs
+
 returns : tie.Need-returns
 returns c = search needs
 
@@ -25,7 +31,20 @@ returns-2 c = rw (c .before .enum-told2 .given .1) (c .cramped-style .ensures)
 returns-3 : tie.Need-returns-3
 returns-3 c = search needs
 
+returns-4 : tie.Need-returns-4
+returns-4 c = rw (c .before .enum-told4 .given .1) (c .cramped-style2 .ensures)
+
 pub base-style-spec : {M : Type 1} → statement M
 base-style-spec =
     tie.close
-    (tie.spec enum-told enum-told-2 cramped-style-requires enum-told-3 returns returns-2 returns-3)
+    (tie.spec
+    enum-told
+    enum-told-2
+    cramped-style-requires
+    enum-told-3
+    enum-told-4
+    cramped-style-requires-2
+    returns
+    returns-2
+    returns-3
+    returns-4)

@@ -1,9 +1,11 @@
 -- `nucleus_of` meets its contract: each arm is a clause of the definition.
 -- Assumes nothing.
-use mathlib.Core.Path.{ap₂, _∙_}
+use mathlib.Core.Path.{ap, ap₂, _∙_}
 use borrow.Author.Needs.{needs}
 use Rattle.nucleus.specs.Nucleus.{overline, underline}
-use Rattle.arrange.specs.Arrange.{nucleusOf}
+use Rattle.delimiters.specs.Values.{chosenAs}
+use Rattle.roots.specs.Roots.{Radical, root}
+use Rattle.arrange.specs.Arrange.{rootNucleus, nucleusOf}
 use Rattle.arrange.proofs.nucleus_of.Statement.{statement}
 use Rattle.arrange.proofs.nucleus_of.Tie as tie
 
@@ -53,6 +55,23 @@ underline-requires c κs =
     let theta = c .before in
     (theta .rule-thickness2 .ensures .1, c .size-of2 .ensures .1 (theta .before .before .before .pre))
 
+enum-told-3 : tie.Need-enum-told-3
+enum-told-3 c = search needs
+
+size-of-requires-3 : tie.Need-size-of-requires-3
+size-of-requires-3 c κs = search needs
+
+sign-size-requires : tie.Need-sign-size-requires
+sign-size-requires c κs = search needs
+
+root-requires : tie.Need-root-requires
+root-requires c κs =
+    let nucleus = c .before in
+    (nucleus .size-of3 .ensures .1 (nucleus .before .before .before .pre), c .sign-size .ensures .1)
+
+root-nucleus-requires : tie.Need-root-nucleus-requires
+root-nucleus-requires c κs = search needs
+
 returns : tie.Need-returns
 unfolding nucleusOf
 returns c =
@@ -78,6 +97,18 @@ returns-3 c =
     let line = ap₂ underline (theta .rule-thickness2 .ensures .0) (c .before .size-of2 .ensures .0) in
     (rw (theta .before .enum-told2 .given .1) (c .underline .ensures .0 ∙ line), c .underline .ensures .1)
 
+returns-4 : tie.Need-returns-4
+unfolding nucleusOf
+returns-4 c =
+    let radical = c .before in
+    let sign = radical .before in
+    let arm = sign .before .before in
+    let found = chosenAs (arm .before .before .args .sign) in
+    let placed = radical .root .ensures .0 ∙ ap₂ (root _ _) (sign .before .size-of3 .ensures .0) (sign .sign-size .ensures .0) in (
+      rw (arm .enum-told3 .given .1) (c .root-nucleus .ensures .0 ∙ ap (λ (r : Radical). rootNucleus r found) placed),
+      c .root-nucleus .ensures .1,
+    )
+
 pub nucleus-of-spec : {M : Type 1} → statement M
 nucleus-of-spec =
     tie.close
@@ -96,6 +127,12 @@ nucleus-of-spec =
     rule-thickness-requires-2
     size-of-requires-2
     underline-requires
+    enum-told-3
+    size-of-requires-3
+    sign-size-requires
+    root-requires
+    root-nucleus-requires
     returns
     returns-2
-    returns-3)
+    returns-3
+    returns-4)

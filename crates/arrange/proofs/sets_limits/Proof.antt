@@ -16,6 +16,9 @@ enum-told c = search needs
 enum-told-2 : tie.Need-enum-told-2
 enum-told-2 c = search needs
 
+enum-told-3 : tie.Need-enum-told-3
+enum-told-3 c = search needs
+
 returns : tie.Need-returns
 returns c = rw (c .before .before .base .given .1) (c .has-limits .ensures)
 
@@ -25,6 +28,9 @@ returns-2 c = search needs
 returns-3 : tie.Need-returns-3
 returns-3 c = search needs
 
+returns-4 : tie.Need-returns-4
+returns-4 c = search needs
+
 pub sets-limits-spec : {M : Type 1} → statement M
 sets-limits-spec =
     tie.close
@@ -33,6 +39,8 @@ sets-limits-spec =
     has-limits-requires
     enum-told
     enum-told-2
+    enum-told-3
     returns
     returns-2
-    returns-3)
+    returns-3
+    returns-4)

@@ -1,15 +1,33 @@
--- `is_good` makes the tests of `good-table`, one after the other: the length, the PA records, the CH records.
-use mathlib.Core.Path.{sym, ap, _∙_}
+-- `is_good` makes the tests of `good-table`, one after the other: the length, the PA records, the CH records, the chains.
+use mathlib.Core.Path.{_≡_, refl, sym, ap, _∙_}
+use mathlib.Core.Bool.{true}
 use mathlib.Core.List.{List}
 use Prim.Native.Nat.{ℕ}
 use borrow.Author.Tests.{not-true, not-false}
 use borrow.Author.Needs.{needs}
 use Rattle.font.specs.Values.{soundCharacters}
-use Rattle.font.specs.Table.{headerBytes, characterBytes, pieces, characterRecords, characterCount}
+use Rattle.font.specs.Records.{headerBytes, characterBytes, pieces, parameterRecords, characterRecords, characterCount, every, goodParameters, goodLength}
 use Rattle.font.proofs.WordLaws.{rest-of}
-use Rattle.font.proofs.CheckLaws.{good-table, length-short, length-broken, length-great, length-good, pass, stop}
-use Rattle.font.proofs.is_good.Tie as tie
+use Rattle.font.proofs.CheckLaws.{good-bytes, good-table, length-short, length-broken, length-great, length-good, pass, stop}
 use Rattle.font.proofs.is_good.Statement.{statement}
+use Rattle.font.proofs.is_good.Tie as tie
+
+-- ---- what the tests before a place have shown
+
+sized : (c : tie.Else3) → goodLength (c .before .before .before .before .args .table .now) ≡ true
+sized c = length-good _ (c .before .if2 .left) (c .if3 .left)
+
+parameters-good : (c : tie.Else4) → every goodParameters (parameterRecords (c .before .before .before .before .before .before .args .table .now)) ≡ true
+parameters-good c = sym (c .before .are-parameters .ensures) ∙ not-false _ (c .if4 .left)
+
+characters-tested : (c : tie.After-are-characters) →
+    c .are-characters .result ≡ soundCharacters (characterRecords (c .before .before .before .before .before .before .before .before .args .table .now))
+unfolding characterRecords characterCount
+characters-tested c =
+    let t = c .before .before .before .before .before .before .before .before .args .table .now in
+    c .are-characters .ensures ∙ ap (λ (s : List ℕ). soundCharacters (pieces characterBytes (characterCount t) s)) (rest-of headerBytes t)
+
+-- ---- the needs
 
 returns : tie.Need-returns
 returns c = sym (good-table _ ∙ stop _ _ (length-short _ (c .if1 .taken)))
@@ -34,11 +52,8 @@ are-parameters-requires c κs = search needs
 
 returns-4 : tie.Need-returns-4
 returns-4 c =
-    let past-count = c .before .before in
-    let past-length = past-count .before in
-    let size = length-good _ (past-length .if2 .left) (past-count .if3 .left) in
     let parameters = sym (c .before .are-parameters .ensures) ∙ not-true _ (c .if4 .taken) in
-    sym (good-table _ ∙ pass _ _ size ∙ stop _ _ parameters)
+    sym (good-table _ ∙ pass _ _ (sized (c .before .before)) ∙ stop _ _ parameters)
 
 sub-are-characters : tie.Need-sub-are-characters
 sub-are-characters c = search needs
@@ -53,16 +68,24 @@ are-characters-requires : tie.Need-are-characters-requires
 are-characters-requires c κs = search needs
 
 returns-5 : tie.Need-returns-5
-unfolding characterRecords characterCount
 returns-5 c =
-    let past-parameters = c .before .before in
-    let past-count = past-parameters .before .before in
-    let past-length = past-count .before in
-    let t = past-length .before .before .before .args .table .now in
-    let size = length-good t (past-length .if2 .left) (past-count .if3 .left) in
-    let parameters = sym (past-parameters .before .are-parameters .ensures) ∙ not-false _ (past-parameters .if4 .left) in
-    let characters = c .are-characters .ensures ∙ ap (λ (s : List ℕ). soundCharacters (pieces characterBytes (characterCount t) s)) (rest-of headerBytes t) in
-    characters ∙ sym (good-table t ∙ pass _ _ size ∙ pass _ _ parameters)
+    let past = c .before .before .before in
+    let characters = sym (characters-tested (c .before)) ∙ not-true _ (c .if5 .taken) in
+    sym (good-table _ ∙ pass _ _ (sized (past .before .before)) ∙ pass _ _ (parameters-good past) ∙ stop _ _ characters)
+
+all-end-requires : tie.Need-all-end-requires
+unfolding characterCount
+all-end-requires c κs =
+    let past = c .before .before .before in
+    let characters = sym (characters-tested (c .before)) ∙ not-false _ (c .if5 .left) in
+    (good-bytes _ ∙ pass _ _ (sized (past .before .before)) ∙ pass _ _ (parameters-good past) ∙ characters, refl)
+
+returns-6 : tie.Need-returns-6
+returns-6 c =
+    let tested = c .before .before in
+    let past = tested .before .before in
+    let characters = sym (characters-tested tested) ∙ not-false _ (c .before .if5 .left) in
+    c .all-end .ensures ∙ sym (good-table _ ∙ pass _ _ (sized (past .before .before)) ∙ pass _ _ (parameters-good past) ∙ pass _ _ characters)
 
 pub is-good-spec : {M : Type 1} → statement M
 is-good-spec =
@@ -80,4 +103,6 @@ is-good-spec =
     part-are-characters-start
     part-are-characters-end
     are-characters-requires
-    returns-5)
+    returns-5
+    all-end-requires
+    returns-6)

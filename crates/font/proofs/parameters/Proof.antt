@@ -6,7 +6,7 @@ use native.Mathlib.Omega.{arith}
 use borrow.Author.Needs.{needs}
 use denote.Ref.{now}
 use lib.ListN.{getD, List·getD-eq-default}
-use Rattle.font.specs.Table.{sizeCount}
+use Rattle.font.specs.Records.{sizeCount}
 use Rattle.font.specs.Font.{fontOf}
 use Rattle.font.proofs.WordLaws.{size-beyond}
 use Rattle.font.proofs.parameters.Tie as tie

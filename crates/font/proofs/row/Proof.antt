@@ -6,7 +6,7 @@ use borrow.Author.Count.{below-more}
 use lib.Seq.{getD-set-same, getD-set-other}
 use native.Mathlib.Decide.{decLt}
 use lib.ListN.{length, getD, length-set, List·getD-eq-default}
-use Rattle.font.specs.Table.{parameterCount}
+use Rattle.font.specs.Records.{parameterCount}
 use Rattle.font.specs.Font.{fontOf}
 use Rattle.font.proofs.WordLaws.{parameter-word, number-beyond}
 use Rattle.font.proofs.row.Tie as tie

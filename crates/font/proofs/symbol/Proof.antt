@@ -5,7 +5,7 @@ use mathlib.Core.Option.{some}
 use Prim.Native.Nat.{ℕ, _+_, _-_, _*_, _/_, _<_, _≤_}
 use native.Mathlib.Omega.{arith}
 use lib.ListN.{length}
-use Rattle.font.specs.Table.{headerBytes, characterBytes}
+use Rattle.font.specs.Records.{headerBytes, characterBytes}
 use Rattle.font.specs.Font.{metricsOf}
 use Rattle.font.specs.Keys.{keyIn}
 use Rattle.font.proofs.WordLaws.{part-of}

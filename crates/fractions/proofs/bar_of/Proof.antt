@@ -20,8 +20,8 @@ minus-requires c κs = search needs
 ruled-behind-requires : tie.Need-ruled-behind-requires
 ruled-behind-requires c κs = search needs
 
-unruled-requires : tie.Need-unruled-requires
-unruled-requires c κs = search needs
+no-own-requires : tie.Need-no-own-requires
+no-own-requires c κs = search needs
 
 returns : tie.Need-returns
 returns c =
@@ -38,7 +38,7 @@ returns-2 : tie.Need-returns-2
 returns-2 c =
     let tested = c .before in
     let no = sym (tested .before .has-bar .ensures) ∙ tested .if1 .left in
-    (rw no (c .unruled .ensures .0), c .unruled .ensures .1)
+    (rw no (c .no-own .ensures .0), c .no-own .ensures .1)
 
 pub bar-of-spec : {M : Type 1} → statement M
 bar-of-spec =
@@ -49,6 +49,6 @@ bar-of-spec =
     plus-requires
     minus-requires
     ruled-behind-requires
-    unruled-requires
+    no-own-requires
     returns
     returns-2)

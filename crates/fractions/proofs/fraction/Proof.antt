@@ -2,6 +2,7 @@
 -- Assumes nothing.
 use mathlib.Core.Path.{_≡_, ap, _∙_}
 use Prim.Native.Nat.{ℕ}
+use native.Mathlib.Omega.{arith}
 use lib.IntN.{ℤ}
 use borrow.Author.Needs.{needs}
 use Rattle.boxes.specs.Parameters.{axisHeight}
@@ -41,7 +42,11 @@ bar-of-requires : tie.Need-bar-of-requires
 bar-of-requires c κs = search needs
 
 stacked-requires : tie.Need-stacked-requires
-stacked-requires c κs = search needs
+stacked-requires c κs =
+    let width = c .before .before in
+    let shifts = width .before in
+    let pre = shifts .before .before .before .pre in
+    (pre .0, pre .1, omega (arith, width .max .ensures .parts, pre), shifts .final-shifts .ensures .1, c .bar-of .ensures .1)
 
 returns : tie.Need-returns
 unfolding fraction

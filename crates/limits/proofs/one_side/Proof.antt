@@ -24,7 +24,8 @@ centred-requires : tie.Need-centred-requires
 centred-requires c κs =
     let arm = c .before .before .before .before in
     let pre = arm .before .before .pre in
-    (pre .4, (rw (arm .script .given .1) at (pre .6)) .width)
+    let z = rw (arm .script .given .1) at (pre .6) in
+    (pre .4, omega (arith, z .width))
 
 plus-requires : tie.Need-plus-requires
 plus-requires c κs = search needs

@@ -8,20 +8,24 @@ use Rattle.limits.proofs.stacked.Tie as tie
 centred-requires : tie.Need-centred-requires
 centred-requires c κs = search needs
 
+plus-requires : tie.Need-plus-requires
+plus-requires c κs = search needs
+
 negated-requires : tie.Need-negated-requires
 negated-requires c κs = search needs
 
 returns : tie.Need-returns
 returns c =
     let down = c .before in
-    let middle = down .before .before .before .before in
-    let pre = middle .before .before .before .before .pre in (
-      rw (down .negated .ensures .is, middle .centred .ensures .0),
+    let placed = down .before .before .before .before in
+    let middle = placed .before in
+    let pre = middle .before .before .before .before .before .pre in (
+      rw (down .negated .ensures .is, placed .plus .ensures .is, middle .centred .ensures .0),
       record {
         width = omega (arith, pre .1);
         height = omega (arith, pre .2 .reach);
         depth = omega (arith, pre .3 .reach);
-        first = omega (arith, middle .centred .ensures .1, pre .0 .raise);
+        first = omega (arith, placed .plus .ensures .parts, middle .centred .ensures .1, pre .0 .first);
         second = omega (arith, pre .2);
         third = omega (arith, down .negated .ensures .parts, pre .3);
         own = pre .0 .own;
@@ -29,4 +33,4 @@ returns c =
     )
 
 pub stacked-spec : {M : Type 1} → statement M
-stacked-spec = tie.close (tie.spec centred-requires negated-requires returns)
+stacked-spec = tie.close (tie.spec centred-requires plus-requires negated-requires returns)

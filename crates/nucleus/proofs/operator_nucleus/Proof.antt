@@ -1,4 +1,4 @@
--- `operator_nucleus` meets its contract: size, raise and δ are those of the definition.
+-- `operator_nucleus` meets its contract: size, place and δ are those of the definition.
 -- Assumes nothing.
 use mathlib.Core.Path.{ap}
 use borrow.Author.Needs.{needs}
@@ -18,8 +18,8 @@ negated-requires c κs = search needs
 of-word-requires : tie.Need-of-word-requires
 of-word-requires c κs = search needs
 
-unruled-requires : tie.Need-unruled-requires
-unruled-requires c κs = search needs
+no-own-requires : tie.Need-no-own-requires
+no-own-requires c κs = search needs
 
 returns : tie.Need-returns
 returns c =
@@ -30,7 +30,7 @@ returns c =
     let width = ap (λ (z : Size). z .width) (sized .operator-size .ensures .0) in
     let height = ap (λ (z : Size). z .height) (sized .operator-size .ensures .0) in
     let depth = ap (λ (z : Size). z .depth) (sized .operator-size .ensures .0) in
-    (rw (c .unruled .ensures .0, italic .of-word .ensures .0 .is, raised .negated .ensures .is, width, height, depth, shift .operator-shift .ensures .0), search needs)
+    (rw (c .no-own .ensures .0, italic .of-word .ensures .0 .is, raised .negated .ensures .is, width, height, depth, shift .operator-shift .ensures .0), search needs)
 
 pub operator-nucleus-spec : {M : Type 1} → statement M
 operator-nucleus-spec =
@@ -40,5 +40,5 @@ operator-nucleus-spec =
     operator-size-requires
     negated-requires
     of-word-requires
-    unruled-requires
+    no-own-requires
     returns)

@@ -41,7 +41,7 @@ fn telling_byte(random: &mut Random) -> u8 {
     if random.percent(40) {
         random.byte()
     } else {
-        *random.pick(b"\x00\x01\x02\x03\x07\x08\x0f\x10\x7f\x80\xffACFKOSU4")
+        *random.pick(b"\x00\x01\x02\x03\x07\x08\x0f\x10\x7f\x80\xffACDFKORSU4")
     }
 }
 
@@ -49,7 +49,8 @@ fn telling_byte(random: &mut Random) -> u8 {
 pub fn noise(random: &mut Random) -> Vec<u8> {
     let mut bytes = Vec::new();
     if random.percent(70) {
-        bytes.extend(*random.pick(&[b"AT", b"OV", b"UN", b"FR", b"KN", b"ST", b"C4"]));
+        let marks = [b"AT", b"OV", b"UN", b"FR", b"KN", b"ST", b"C4", b"RD"];
+        bytes.extend(*random.pick(&marks));
     }
     for _ in 0..random.below(30) {
         bytes.push(telling_byte(random));
@@ -59,7 +60,7 @@ pub fn noise(random: &mut Random) -> Vec<u8> {
 
 /// A table with one fault of some kind; a few come out good.
 pub fn damaged_table(mut parts: TableParts, random: &mut Random) -> Vec<u8> {
-    match random.below(8) {
+    match random.below(9) {
         0 => damaged_bytes(parts.bytes(), random),
         1 => {
             let row = random.below(parts.rows.len());
@@ -78,6 +79,10 @@ pub fn damaged_table(mut parts: TableParts, random: &mut Random) -> Vec<u8> {
         }
         3 | 4 => {
             disorder(&mut parts.characters, random);
+            parts.bytes()
+        }
+        5 => {
+            close_ring(&mut parts.characters, random);
             parts.bytes()
         }
         _ => with_bad_record(&parts, random),
@@ -110,6 +115,20 @@ fn disorder(characters: &mut Vec<CharacterParts>, random: &mut Random) {
         let other = random.below(characters.len());
         characters.swap(at, other);
     }
+}
+
+/// Lets a character and one of its family, which may be itself, succeed each
+/// other.
+fn close_ring(characters: &mut [CharacterParts], random: &mut Random) {
+    let first = random.below(characters.len());
+    let CharacterParts {
+        size, family, code, ..
+    } = characters[first];
+    let is_akin = |at: &usize| (characters[*at].size, characters[*at].family) == (size, family);
+    let akin: Vec<usize> = (0..characters.len()).filter(is_akin).collect();
+    let second = *random.pick(&akin);
+    characters[first].successor = Some(characters[second].code);
+    characters[second].successor = Some(code);
 }
 
 /// One byte of one record is set past its rule.

@@ -1,9 +1,10 @@
 //! Random formulas that can be read, and ones built to come near a limit.
 
 use super::choices::{choice_holding, choice_of, fault};
+use super::roots::root_fault;
 use super::{Random, Symbols};
 use crate::compose::{
-    atom, choice, fraction, kern, list, overline, style, symbol, underline, CharacterParts,
+    atom, choice, fraction, kern, list, overline, root, style, symbol, underline, CharacterParts,
     TableParts, EMPTY,
 };
 use crate::reading::KERN_LIMIT;
@@ -13,7 +14,7 @@ use crate::{DEPTH_LIMIT, FORMULA_LIMIT, SIZE_LIMIT};
 /// Grows formulas over some symbols.
 pub struct Grower<'a> {
     pub(super) random: &'a mut Random,
-    symbols: &'a Symbols,
+    pub(super) symbols: &'a Symbols,
     /// So many symbols of a hundred may be absent.
     absent: u64,
 }
@@ -52,7 +53,7 @@ impl<'a> Grower<'a> {
     /// An item; its lists together have about `most` bytes at most.
     pub fn item(&mut self, depth: usize, most: usize) -> Vec<u8> {
         let share = most / 4;
-        match self.random.below(24) {
+        match self.random.below(26) {
             0 | 1 => kern(self.kern_length()),
             2 | 3 => {
                 let bar = self.random.below(2) as u8;
@@ -62,19 +63,25 @@ impl<'a> Grower<'a> {
             20 | 21 => style(self.random.below(8) as u8),
             22 | 23 if depth > 1 => choice_of(&std::array::from_fn(|_| self.list(depth, share))),
             form => {
-                let fields: [Vec<u8>; 3] = std::array::from_fn(|_| self.field(depth, share));
+                let fields = self.fields(depth, share);
                 self.with_fields(form, &fields)
             }
         }
     }
 
-    /// An overline, an underline or an atom of any class.
+    /// Nucleus, superscript and subscript.
+    pub(super) fn fields(&mut self, depth: usize, most: usize) -> [Vec<u8>; 3] {
+        std::array::from_fn(|_| self.field(depth, most))
+    }
+
+    /// An overline, an underline, a root or an atom of any class.
     fn with_fields(&mut self, form: usize, fields: &[Vec<u8>; 3]) -> Vec<u8> {
         let fields = fields.each_ref().map(Vec::as_slice);
         match form {
             4 => overline(fields),
             5 => underline(fields),
             6..9 => atom(1, self.random.below(3) as u8, fields),
+            9 | 10 => root(self.sign(), fields),
             _ => atom(self.plain_class(), 0, fields),
         }
     }
@@ -158,18 +165,20 @@ fn nested(grower: &mut Grower, holder: Holder, depth: usize, levels: usize) -> V
         items.extend(grower.items(shallow, 20));
     } else if grower.random.percent(25) {
         items.extend(fault(grower));
+    } else if grower.random.percent(5) {
+        items.extend(root_fault(grower));
     }
     items
 }
 
 /// An item with the given list in any of its places.
 pub fn holding(grower: &mut Grower, given: Vec<u8>) -> Vec<u8> {
-    match grower.random.below(15) {
+    match grower.random.below(17) {
         0 => fraction(0, &given, &grower.symbol()),
         1 => fraction(1, &grower.symbol(), &given),
         2..5 => choice_holding(grower, given),
         form => {
-            let mut fields: [Vec<u8>; 3] = std::array::from_fn(|_| grower.field(1, 0));
+            let mut fields = grower.fields(1, 0);
             fields[grower.random.below(3)] = given;
             grower.with_fields(form - 1, &fields)
         }
@@ -225,7 +234,7 @@ pub fn wide_formula(grower: &mut Grower) -> Vec<u8> {
     match grower.random.below(4) {
         0 => {
             items.extend(kerns(edge - outside));
-            items.extend(grower.item(1, 0));
+            items.extend(edge_item(grower));
         }
         _ => {
             let inner = wide_list(grower, edge - outside);
@@ -235,7 +244,7 @@ pub fn wide_formula(grower: &mut Grower) -> Vec<u8> {
     if grower.random.percent(50) {
         let back = grower.random.between(-SIZE_LIMIT, SIZE_LIMIT);
         items.extend(kerns(back));
-        items.extend(grower.item(1, 0));
+        items.extend(edge_item(grower));
     }
     items
 }
@@ -243,12 +252,21 @@ pub fn wide_formula(grower: &mut Grower) -> Vec<u8> {
 fn wide_list(grower: &mut Grower, width: i64) -> Vec<u8> {
     let mut items = kerns(width);
     if grower.random.percent(70) {
-        items.extend(grower.item(1, 0));
+        items.extend(edge_item(grower));
     }
     if grower.random.percent(30) {
         items.extend(kerns(-width));
     }
     list(&items)
+}
+
+/// An item without lists; some nodes of a root may pass the limit alone.
+fn edge_item(grower: &mut Grower) -> Vec<u8> {
+    if grower.random.percent(25) {
+        grower.root(1, 0)
+    } else {
+        grower.item(1, 0)
+    }
 }
 
 /// The size limit with either sign, or a length near it.
@@ -276,9 +294,7 @@ fn kerns(sum: i64) -> Vec<u8> {
 pub fn tall_case(random: &mut Random) -> (Vec<u8>, Vec<u8>) {
     let nucleus_lines = random.between(13, DEPTH_LIMIT as i64);
     let script_lines = random.between(13, DEPTH_LIMIT as i64 - 1);
-    let off = *random.pick(&[2, 40, 3000]);
-    let reach = SIZE_LIMIT + random.between(-off, off);
-    let thickness = (reach / (5 * (nucleus_lines + script_lines))) as u32;
+    let thickness = (reach(random) / (5 * (nucleus_lines + script_lines))) as u32;
     let table = tall_table(thickness, random);
 
     let upwards = random.percent(50);
@@ -291,6 +307,31 @@ pub fn tall_case(random: &mut Random) -> (Vec<u8>, Vec<u8>) {
         underline([&nucleus, EMPTY, &script])
     };
     (table.bytes(), formula)
+}
+
+/// The same upwards, with roots for some of the lines. Outside of display a
+/// root whose sign has no height goes up by five quarters of a line's thickness.
+pub fn tall_roots(random: &mut Random) -> (Vec<u8>, Vec<u8>) {
+    let deepest = DEPTH_LIMIT as i64 - 1;
+    let roots = random.between(1, 4);
+    let lines_in_all = 2 * deepest - roots;
+    let thickness = 4 * reach(random) / (20 * lines_in_all + 5 * roots);
+    let table = tall_table(thickness as u32, random);
+
+    let letter = symbol(1, 97);
+    let sign = *random.pick(&[(0, 0), (1, 97)]);
+    let rooted = (0..roots).fold(letter.clone(), |inner, _| {
+        list(&root([sign, (0, 0)], [&inner, EMPTY, EMPTY]))
+    });
+    let nucleus = lines(true, deepest - roots, &rooted);
+    let script = lines(true, deepest, &letter);
+    (table.bytes(), atom(0, 0, [&nucleus, &script, EMPTY]))
+}
+
+/// A length near the size limit.
+fn reach(random: &mut Random) -> i64 {
+    let off = *random.pick(&[2, 40, 3000]);
+    SIZE_LIMIT + random.between(-off, off)
 }
 
 /// All lines are equally thick; what else has an effect on heights is small.

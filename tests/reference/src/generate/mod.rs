@@ -3,16 +3,20 @@
 //! [`case`] draws from all kinds; [`case_of`] keeps to one. The same seed
 //! gives the same cases.
 
+mod chains;
 mod choices;
 mod damage;
 mod formulas;
 mod random;
+mod roots;
 mod tables;
 
+pub use chains::{chain_table, full_chains};
 pub use choices::choice_formula;
 pub use damage::{damaged_bytes, damaged_table, noise};
-pub use formulas::{deep_formula, long_formula, tall_case, wide_formula, Grower};
+pub use formulas::{deep_formula, long_formula, tall_case, tall_roots, wide_formula, Grower};
 pub use random::Random;
+pub use roots::root_formula;
 pub use tables::{good_table, Symbols};
 
 use crate::{measure, NODE_BYTES};
@@ -26,6 +30,9 @@ pub enum Kind {
     Absent,
     /// Styles and choices, close together; symbols may be absent.
     Choice,
+    /// Roots over a table with chains about as long as they may be; symbols
+    /// may be absent.
+    Root,
     /// A formula with a few bytes changed.
     Damaged,
     /// Bytes at random in place of a formula.
@@ -45,17 +52,18 @@ pub enum Kind {
 }
 
 /// All kinds, each with how many of a hundred cases it gets.
-pub const KINDS: [(Kind, u64); 11] = [
-    (Kind::Plain, 20),
-    (Kind::Absent, 9),
-    (Kind::Choice, 12),
-    (Kind::Damaged, 12),
+pub const KINDS: [(Kind, u64); 12] = [
+    (Kind::Plain, 18),
+    (Kind::Absent, 8),
+    (Kind::Choice, 11),
+    (Kind::Root, 12),
+    (Kind::Damaged, 9),
     (Kind::Noise, 4),
-    (Kind::BadTable, 7),
-    (Kind::BadStyle, 4),
-    (Kind::Deep, 9),
+    (Kind::BadTable, 6),
+    (Kind::BadStyle, 3),
+    (Kind::Deep, 8),
     (Kind::Long, 5),
-    (Kind::Wide, 12),
+    (Kind::Wide, 10),
     (Kind::Tall, 6),
 ];
 
@@ -93,14 +101,23 @@ pub fn case_of(kind: Kind, random: &mut Random) -> Case {
 
 fn table_and_formula(kind: Kind, random: &mut Random) -> (Vec<u8>, Vec<u8>) {
     if kind == Kind::Tall {
-        return tall_case(random);
+        let draw = if random.percent(70) {
+            tall_case
+        } else {
+            tall_roots
+        };
+        return draw(random);
     }
-    let parts = good_table(random);
+    let parts = match kind {
+        Kind::Root => chain_table(random),
+        _ => good_table(random),
+    };
     let symbols = Symbols::of(&parts);
     let absent = absent_share(kind, random);
     let mut grower = Grower::new(random, &symbols, absent);
     let formula = match kind {
         Kind::Choice => choice_formula(&mut grower),
+        Kind::Root => root_formula(&mut grower),
         Kind::Noise => noise(random),
         Kind::Deep => deep_formula(&mut grower),
         Kind::Long => long_formula(&mut grower),
@@ -124,7 +141,7 @@ fn table_and_formula(kind: Kind, random: &mut Random) -> (Vec<u8>, Vec<u8>) {
 fn absent_share(kind: Kind, random: &mut Random) -> u64 {
     match kind {
         Kind::Absent => *random.pick(&[5, 15, 60]),
-        Kind::Choice => *random.pick(&[0, 0, 0, 8, 30]),
+        Kind::Choice | Kind::Root => *random.pick(&[0, 0, 0, 8, 30]),
         Kind::Deep | Kind::Long | Kind::Wide => *random.pick(&[0, 0, 0, 0, 0, 2]),
         _ => 0,
     }

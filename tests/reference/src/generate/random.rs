@@ -42,6 +42,12 @@ impl Random {
         &choices[self.below(choices.len())]
     }
 
+    pub fn shuffle<T>(&mut self, values: &mut [T]) {
+        for end in 1..values.len() {
+            values.swap(end, self.below(end + 1));
+        }
+    }
+
     /// One of `choices` as often as its weight says; the weights make a hundred.
     pub fn weighted<'a, T>(&mut self, choices: &'a [(T, u64)]) -> &'a T {
         let mut rest = self.word() % 100;

@@ -3,13 +3,14 @@
 use super::Random;
 use crate::compose::{CharacterParts, TableParts};
 use crate::table::{PARAMETERS, ROWS};
-use crate::{CHARACTER_LIMIT, WORD_LIMIT};
+use crate::{CHAIN_LIMIT, CHARACTER_LIMIT, WORD_LIMIT};
 use std::collections::{BTreeMap, BTreeSet};
 
 pub fn good_table(random: &mut Random) -> TableParts {
     let scale = Scale::drawn(random);
     let rows = rows(scale, random);
-    let characters = characters(scale, random);
+    let mut characters = characters(scale, random);
+    link(&mut characters, random);
     TableParts { rows, characters }
 }
 
@@ -17,6 +18,7 @@ pub fn good_table(random: &mut Random) -> TableParts {
 #[derive(Clone, Copy)]
 enum Scale {
     Zero,
+    Tiny,
     Small,
     Usual,
     Large,
@@ -27,8 +29,9 @@ impl Scale {
     fn drawn(random: &mut Random) -> Scale {
         *random.weighted(&[
             (Scale::Zero, 3),
-            (Scale::Small, 30),
-            (Scale::Usual, 30),
+            (Scale::Tiny, 10),
+            (Scale::Small, 25),
+            (Scale::Usual, 25),
             (Scale::Large, 12),
             (Scale::Mixed, 25),
         ])
@@ -37,6 +40,7 @@ impl Scale {
     fn word(self, random: &mut Random) -> u32 {
         let greatest = match self {
             Scale::Zero => 0,
+            Scale::Tiny => 5,
             Scale::Small => 1000,
             Scale::Usual => 1 << 20,
             Scale::Large => WORD_LIMIT,
@@ -64,7 +68,6 @@ fn rows(scale: Scale, random: &mut Random) -> [[u32; PARAMETERS]; ROWS] {
 fn characters(scale: Scale, random: &mut Random) -> Vec<CharacterParts> {
     let symbols: Vec<(u8, u8)> = symbol_set(random).into_iter().collect();
     let presence = *random.pick(&[100, 100, 95, 80]);
-    let flagged = *random.pick(&[0, 20, 70]);
     let mut characters = Vec::new();
     for size in 0..ROWS as u8 {
         for &(family, code) in &symbols {
@@ -73,9 +76,7 @@ fn characters(scale: Scale, random: &mut Random) -> Vec<CharacterParts> {
                     size,
                     family,
                     code,
-                    successor: random
-                        .percent(flagged)
-                        .then(|| successor(family, &symbols, random)),
+                    successor: None,
                     measures: std::array::from_fn(|_| scale.word(random)),
                 });
             }
@@ -98,21 +99,48 @@ fn symbol_set(random: &mut Random) -> BTreeSet<(u8, u8)> {
         let family = (random.below(families) * 3) as u8;
         symbols.insert((family, random.byte()));
     }
+    if wanted > 0 && random.percent(20) {
+        symbols.insert((0, 0));
+    }
     symbols
 }
 
-/// Mostly a code that the family has.
-fn successor(family: u8, symbols: &[(u8, u8)], random: &mut Random) -> u8 {
-    let (family_of, code) = *random.pick(symbols);
-    if family_of == family || random.percent(3) {
-        return code;
+/// Gives some characters successors; no chain gets too long.
+fn link(characters: &mut [CharacterParts], random: &mut Random) {
+    let flagged = *random.pick(&[0, 20, 70, 70, 100]);
+    let are_of_one_family =
+        |a: &CharacterParts, b: &CharacterParts| (a.size, a.family) == (b.size, b.family);
+    for family in characters.chunk_by_mut(are_of_one_family) {
+        link_family(family, flagged, random);
     }
-    let same: Vec<u8> = symbols
-        .iter()
-        .filter(|(other, _)| *other == family)
-        .map(|(_, code)| *code)
-        .collect();
-    *random.pick(&same)
+}
+
+fn link_family(family: &mut [CharacterParts], flagged: u64, random: &mut Random) {
+    let mut order: Vec<usize> = (0..family.len()).collect();
+    random.shuffle(&mut order);
+    // Codes that a character may lead to, and the steps that follow.
+    let mut ends: Vec<(u8, u8)> = Vec::new();
+    for at in order {
+        let mut steps = 0;
+        if random.percent(3) {
+            family[at].successor = absent_code(family, random);
+        } else if random.percent(flagged) && !ends.is_empty() {
+            let among = if random.percent(50) { 1 } else { ends.len() };
+            let end = ends[ends.len() - 1 - random.below(among)];
+            family[at].successor = Some(end.0);
+            steps = end.1 + 1;
+        }
+        if steps < CHAIN_LIMIT {
+            ends.push((family[at].code, steps));
+        }
+    }
+}
+
+/// A code that the family does not have.
+fn absent_code(family: &[CharacterParts], random: &mut Random) -> Option<u8> {
+    let code = random.byte();
+    let is_absent = family.iter().all(|character| character.code != code);
+    is_absent.then_some(code)
 }
 
 /// The families and codes of a table.
@@ -121,6 +149,10 @@ pub struct Symbols {
     known: Vec<(u8, u8)>,
     /// Those that a formula can use in every style without a refusal.
     usable: Vec<(u8, u8)>,
+    /// Those that have a successor at one size at least.
+    linked: Vec<(u8, u8)>,
+    /// Those of them that are no successor.
+    heads: Vec<(u8, u8)>,
 }
 
 impl Symbols {
@@ -139,9 +171,14 @@ impl Symbols {
             .keys()
             .map(|(_, family, code)| (*family, *code))
             .collect();
+        let leads = |c: &CharacterParts| Some(((c.family, c.code), (c.family, c.successor?)));
+        let (linked, next): (BTreeSet<_>, BTreeSet<_>) =
+            table.characters.iter().filter_map(leads).unzip();
         Symbols {
             usable: known.iter().copied().filter(is_usable).collect(),
             known: known.into_iter().collect(),
+            heads: linked.difference(&next).copied().collect(),
+            linked: linked.into_iter().collect(),
         }
     }
 
@@ -153,6 +190,15 @@ impl Symbols {
     /// A symbol that the table has at one size at least; none if it has none.
     pub fn known(&self, random: &mut Random) -> Option<(u8, u8)> {
         drawn(&self.known, random)
+    }
+
+    /// A symbol with a successor, mostly a chain's first; none if there is none.
+    pub fn linked(&self, random: &mut Random) -> Option<(u8, u8)> {
+        if random.percent(70) {
+            drawn(&self.heads, random)
+        } else {
+            drawn(&self.linked, random)
+        }
     }
 }
 

@@ -1,5 +1,6 @@
 //! Fractions (rules 15 to 15e).
 
+use super::delimiters::NULL_DELIMITER;
 use crate::answer::Refusal;
 use crate::boxes::{half, Extent, MathBox};
 use crate::layout::Layout;
@@ -7,9 +8,6 @@ use crate::nodes::{Ink, Node, Pen};
 use crate::reading::Field;
 use crate::style::Style;
 use crate::table::Parameters;
-
-/// 15e: an absent delimiter, of which one stands on each side.
-const NULL_DELIMITER: i64 = 78_643;
 
 /// How far the numerator goes up and the denominator goes down.
 struct Shifts {
@@ -29,21 +27,16 @@ impl<P: Pen> Layout<'_, P> {
         let thickness = if barred { font.rule_thickness() } else { 0 };
         let start = self.pen.count();
 
-        // 15a. The bar's node stands before the denominator's, its width is
-        // known after it.
+        // 15a. The bar's node stands before the denominator's.
         let numerator = self.field(numerator, style.numerator())?;
         let bar_index = self.pen.count();
         if thickness > 0 {
-            self.pen.push(bar(0, thickness, font));
+            self.pen.push(Node::UNPLACED);
         }
         let denominator = self.field(denominator, style.denominator())?;
         let width = numerator.width.max(denominator.width);
 
-        let shifts = if thickness > 0 {
-            barred_shifts(thickness, &numerator, &denominator, style, font)
-        } else {
-            barless_shifts(&numerator, &denominator, style, font)
-        };
+        let shifts = shifts(thickness, &numerator, &denominator, style, font);
         let middle = |part: &MathBox| NULL_DELIMITER + half(width - part.width);
         let over = self.place(&numerator, middle(&numerator), shifts.up);
         let under = self.place(&denominator, middle(&denominator), -shifts.down);
@@ -53,6 +46,7 @@ impl<P: Pen> Layout<'_, P> {
             extent = extent.joined(Extent::point(bar.x, bar.y));
             self.pen.replace(bar_index, bar);
         }
+        // 15e: an absent delimiter stands on each side.
         Ok(MathBox {
             width: width + 2 * NULL_DELIMITER,
             height: numerator.height + shifts.up,
@@ -68,6 +62,20 @@ fn bar(width: i64, thickness: i64, font: &Parameters) -> Node {
         x: NULL_DELIMITER,
         y: font.axis_height() + half(thickness) - thickness,
         ink: Ink::Rule { width, thickness },
+    }
+}
+
+fn shifts(
+    thickness: i64,
+    numerator: &MathBox,
+    denominator: &MathBox,
+    style: Style,
+    font: &Parameters,
+) -> Shifts {
+    if thickness > 0 {
+        barred_shifts(thickness, numerator, denominator, style, font)
+    } else {
+        barless_shifts(numerator, denominator, style, font)
     }
 }
 

@@ -1,9 +1,11 @@
 //! The placing rules of Appendix G, one file for each kind of construction.
 
+mod delimiters;
 mod fractions;
 mod limits;
 mod lines;
 mod nucleus;
+mod roots;
 mod scripts;
 
 use crate::boxes::MathBox;

@@ -1,5 +1,8 @@
 //! The bench table of the papers, and formulas set with it.
 
+// No file of tests uses all of it.
+#![allow(dead_code)]
+
 use reference::compose::*;
 use reference::{measure, set, Answer, NODE_BYTES};
 
@@ -14,32 +17,37 @@ pub const PLUS: [u8; 3] = [1, 2, 43];
 pub const EQUALS: [u8; 3] = [1, 2, 61];
 pub const SUM: [u8; 3] = [1, 3, 80];
 
+const SIGMAS: [(usize, u32); 15] = [
+    (5, 430),
+    (6, 1000),
+    (8, 700),
+    (9, 400),
+    (10, 450),
+    (11, 690),
+    (12, 350),
+    (13, 420),
+    (14, 370),
+    (15, 290),
+    (16, 150),
+    (17, 250),
+    (18, 380),
+    (19, 50),
+    (22, 250),
+];
+const XIS: [(usize, u32); 6] = [
+    (8, 40),
+    (9, 110),
+    (10, 170),
+    (11, 200),
+    (12, 600),
+    (13, 100),
+];
+
 pub fn bench_table() -> Vec<u8> {
-    const SIGMAS: [(usize, u32); 15] = [
-        (5, 430),
-        (6, 1000),
-        (8, 700),
-        (9, 400),
-        (10, 450),
-        (11, 690),
-        (12, 350),
-        (13, 420),
-        (14, 370),
-        (15, 290),
-        (16, 150),
-        (17, 250),
-        (18, 380),
-        (19, 50),
-        (22, 250),
-    ];
-    const XIS: [(usize, u32); 6] = [
-        (8, 40),
-        (9, 110),
-        (10, 170),
-        (11, 200),
-        (12, 600),
-        (13, 100),
-    ];
+    bench_parts().bytes()
+}
+
+pub fn bench_parts() -> TableParts {
     let mut row = [0; 35];
     for (number, word) in SIGMAS {
         row[number - 1] = word;
@@ -47,13 +55,6 @@ pub fn bench_table() -> Vec<u8> {
     for (number, word) in XIS {
         row[22 + number - 1] = word;
     }
-    let character = |size, family, code, successor, measures| CharacterParts {
-        size,
-        family,
-        code,
-        successor,
-        measures,
-    };
     let characters = (0..3)
         .flat_map(|size| {
             [
@@ -67,7 +68,31 @@ pub fn bench_table() -> Vec<u8> {
         })
         .collect();
     let rows = [row; 3];
-    TableParts { rows, characters }.bytes()
+    TableParts { rows, characters }
+}
+
+pub fn character(
+    size: u8,
+    family: u8,
+    code: u8,
+    successor: Option<u8>,
+    measures: [u32; 4],
+) -> CharacterParts {
+    CharacterParts {
+        size,
+        family,
+        code,
+        successor,
+        measures,
+    }
+}
+
+/// The bench table with further characters.
+pub fn table_with(further: &[CharacterParts]) -> Vec<u8> {
+    let mut parts = bench_parts();
+    parts.characters.extend(further);
+    parts.characters.sort_by_key(|c| (c.size, c.family, c.code));
+    parts.bytes()
 }
 
 /// Sizes and nodes of a formula that is accepted.
@@ -87,10 +112,13 @@ impl Outcome {
 }
 
 pub fn outcome(style: u8, formula: &[u8]) -> Outcome {
-    let table = bench_table();
-    let measured = measure(style, &table, formula);
+    outcome_over(&bench_table(), style, formula)
+}
+
+pub fn outcome_over(table: &[u8], style: u8, formula: &[u8]) -> Outcome {
+    let measured = measure(style, table, formula);
     let mut bytes = vec![0; NODE_BYTES * measured.count as usize];
-    let answer = set(style, &table, formula, &mut bytes);
+    let answer = set(style, table, formula, &mut bytes);
     assert_eq!(answer, measured);
     assert_eq!(answer.number, 0);
     Outcome {

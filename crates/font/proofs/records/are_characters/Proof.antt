@@ -9,7 +9,7 @@ use native.Mathlib.Omega.{arith}
 use lib.Dec.{leb}
 use lib.ListN.{drop}
 use Rattle.font.specs.Values.{soundCharacters}
-use Rattle.font.specs.Table.{characterBytes, pieces, goodCharacter}
+use Rattle.font.specs.Records.{characterBytes, pieces, goodCharacter}
 use Rattle.font.proofs.WordLaws.{part-of, Passing, again, finished}
 use Rattle.font.proofs.CheckLaws.{soundFrom, sound-pass}
 use Rattle.font.proofs.HalvingLaws.{in-bytes}

@@ -5,7 +5,7 @@ use mathlib.Core.List.{List}
 use Prim.Native.Nat.{ℕ, _*_, _-_}
 use native.Mathlib.Omega.{arith}
 use lib.ListN.{drop}
-use Rattle.font.specs.Table.{sizeCount, parameterBytes, parameterRecords, pieces, every, goodParameters}
+use Rattle.font.specs.Records.{sizeCount, parameterBytes, parameterRecords, pieces, every, goodParameters}
 use Rattle.font.proofs.WordLaws.{part-of, Passing, again, finished}
 use Rattle.font.proofs.records.are_parameters.Statement.{statement}
 use Rattle.font.proofs.records.are_parameters.Tie as tie

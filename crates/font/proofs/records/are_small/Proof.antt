@@ -6,7 +6,7 @@ use Prim.Native.Nat.{ℕ, _+_, _*_, _-_}
 use native.Mathlib.Nat.{add-zero, sub-zero}
 use native.Mathlib.Omega.{arith}
 use lib.ListN.{drop}
-use Rattle.font.specs.Table.{wordBytes, every, goodWord, words}
+use Rattle.font.specs.Records.{wordBytes, every, goodWord, words}
 use Rattle.font.proofs.WordLaws.{Passing, again, finished}
 use Rattle.font.proofs.records.are_small.Statement.{statement}
 use Rattle.font.proofs.records.are_small.Tie as tie

@@ -1,7 +1,7 @@
 -- `is_character` makes the tests of `good-character`.
 use mathlib.Core.Path.{sym}
 use borrow.Author.Needs.{needs}
-use Rattle.font.specs.Table.{metricWords}
+use Rattle.font.specs.Records.{metricWords}
 use Rattle.font.proofs.CheckLaws.{good-character}
 use Rattle.font.proofs.records.is_character.Statement.{statement}
 use Rattle.font.proofs.records.is_character.Tie as tie

@@ -1,7 +1,7 @@
 -- `is_marked` tests both letters.
 use mathlib.Core.Path.{refl}
 use borrow.Author.Needs.{needs}
-use Rattle.font.specs.Table.{marked}
+use Rattle.font.specs.Records.{marked}
 use Rattle.font.proofs.records.is_marked.Statement.{statement}
 use Rattle.font.proofs.records.is_marked.Tie as tie
 

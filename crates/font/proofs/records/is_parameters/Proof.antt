@@ -2,7 +2,7 @@
 use mathlib.Core.Path.{ap₂}
 use mathlib.Core.Bool.{Bool, _&&_}
 use borrow.Author.Needs.{needs}
-use Rattle.font.specs.Table.{goodParameters, parameterWords}
+use Rattle.font.specs.Records.{goodParameters, parameterWords}
 use Rattle.font.proofs.records.is_parameters.Statement.{statement}
 use Rattle.font.proofs.records.is_parameters.Tie as tie
 

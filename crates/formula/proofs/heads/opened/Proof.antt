@@ -49,6 +49,12 @@ enum-told-7 c = search needs
 enum-told-8 : tie.Need-enum-told-8
 enum-told-8 c = search needs
 
+root-opening-requires : tie.Need-root-opening-requires
+root-opening-requires c κs = search needs
+
+enum-told-9 : tie.Need-enum-told-9
+enum-told-9 c = search needs
+
 returns : tie.Need-returns
 unfolding opens
 returns c =
@@ -94,8 +100,14 @@ returns-7 c =
 returns-8 : tie.Need-returns-8
 unfolding opens
 returns-8 c =
+    let s = c .before .before .before .before .args .s .now in
+    arm s (c .before .enum-told8 .given .1) (c .root-opening .ensures)
+
+returns-9 : tie.Need-returns-9
+unfolding opens
+returns-9 c =
     let s = c .before .before .before .args .s .now in
-    arm s (c .enum-told8 .given .1) refl
+    arm s (c .enum-told9 .given .1) refl
 
 pub opened-spec : {M : Type 1} → statement M
 opened-spec =
@@ -113,6 +125,8 @@ opened-spec =
     style-opening-requires
     enum-told-7
     enum-told-8
+    root-opening-requires
+    enum-told-9
     returns
     returns-2
     returns-3
@@ -120,4 +134,5 @@ opened-spec =
     returns-5
     returns-6
     returns-7
-    returns-8)
+    returns-8
+    returns-9)

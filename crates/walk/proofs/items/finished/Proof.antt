@@ -15,7 +15,7 @@ use Rattle.boxes.specs.Bounds.{words}
 use Rattle.nodes.specs.Hull.{joined}
 use Rattle.nodes.specs.Values.{hullOf, isLarge}
 use Rattle.walk.specs.Bounds.{longest, stride}
-use Rattle.walk.proofs.ItemLaws.{few-rules, item-grows}
+use Rattle.walk.proofs.ItemLaws.{few-owned, item-grows}
 use Rattle.walk.proofs.items.finished.Statement.{statement}
 use Rattle.walk.proofs.items.finished.Tie as tie
 
@@ -64,8 +64,8 @@ extended-requires c κs =
           omega (
             arith,
             put .put-item .ensures .count-is,
-            few-rules (s .result .arranged .own .before),
-            few-rules (s .result .arranged .own .behind),
+            few-owned (s .result .arranged .own .before),
+            few-owned (s .result .arranged .own .behind),
           );
     }
 

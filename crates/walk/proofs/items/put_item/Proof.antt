@@ -13,9 +13,9 @@ use Rattle.nodes.specs.Nodes.{moved}
 use Rattle.nodes.specs.Buffer.{movedFront, behindNodes}
 use Rattle.nodes.specs.Hull.{Hull, joined, movedHull, hull}
 use Rattle.nodes.specs.Values.{hullOf, isLarge}
-use Rattle.setting.specs.Setting.{ruleNodes}
-use Rattle.walk.specs.Walked.{rulesPut}
-use Rattle.walk.proofs.ItemLaws.{few-rules}
+use Rattle.setting.specs.Setting.{ownNodes}
+use Rattle.walk.specs.Walked.{ownPut}
+use Rattle.walk.proofs.ItemLaws.{few-owned}
 use Rattle.walk.proofs.items.put_item.Statement.{statement}
 use Rattle.walk.proofs.items.put_item.Tie as tie
 
@@ -30,9 +30,9 @@ move-field-requires : tie.Need-move-field-requires
 move-field-requires c κs =
     let ahead = c .before .before .before in
     let empty = ahead .before .before in
-    let start = empty .before .before .before in
+    let start = empty .before .before .before .before .before in
     let g = start .pre in
-    let few = few-rules (start .args .arranged .own .before) in
+    let few = few-owned (start .args .arranged .own .before) in
     let n₀ = empty .empty .ensures .count-is in
     let n₁ = ahead .put-own .ensures .count-is in
     record { few = omega arith; hull = g .first; x-small = g .x-small; place = g .bounded .first }
@@ -42,13 +42,13 @@ put-own-requires-2 c κs =
     let first = c .before .before .before in
     let ahead = first .before .before .before .before in
     let empty = ahead .before .before in
-    let start = empty .before .before .before in
+    let start = empty .before .before .before .before .before in
     let g = start .pre in
-    let few = few-rules (start .args .arranged .own .before) in
+    let few = few-owned (start .args .arranged .own .before) in
     let n₀ = empty .empty .ensures .count-is in
     let n₁ = ahead .put-own .ensures .count-is in
     let n₂ = first .move-field .ensures .count-is in
-    record { few = omega arith; rules = g .bounded .own .behind; x-small = g .x-small }
+    record { few = omega arith; near = g .bounded .own .behind; x-small = g .x-small }
 
 move-field-requires-2 : tie.Need-move-field-requires-2
 move-field-requires-2 c κs =
@@ -56,10 +56,10 @@ move-field-requires-2 c κs =
     let first = owned .before .before .before .before in
     let ahead = first .before .before .before .before in
     let empty = ahead .before .before in
-    let start = empty .before .before .before in
+    let start = empty .before .before .before .before .before in
     let g = start .pre in
-    let few = few-rules (start .args .arranged .own .before) in
-    let few-2 = few-rules (start .args .arranged .own .behind) in
+    let few = few-owned (start .args .arranged .own .before) in
+    let few-2 = few-owned (start .args .arranged .own .behind) in
     let n₀ = empty .empty .ensures .count-is in
     let n₁ = ahead .put-own .ensures .count-is in
     let n₂ = first .move-field .ensures .count-is in
@@ -73,10 +73,10 @@ move-field-requires-3 c κs =
     let first = owned .before .before .before .before in
     let ahead = first .before .before .before .before in
     let empty = ahead .before .before in
-    let start = empty .before .before .before in
+    let start = empty .before .before .before .before .before in
     let g = start .pre in
-    let few = few-rules (start .args .arranged .own .before) in
-    let few-2 = few-rules (start .args .arranged .own .behind) in
+    let few = few-owned (start .args .arranged .own .before) in
+    let few-2 = few-owned (start .args .arranged .own .behind) in
     let n₀ = empty .empty .ensures .count-is in
     let n₁ = ahead .put-own .ensures .count-is in
     let n₂ = first .move-field .ensures .count-is in
@@ -105,7 +105,7 @@ returns c =
     let at-first = at-owned .before .before .before .before in
     let at-ahead = at-first .before .before .before .before in
     let at-none = at-ahead .before .before in
-    let start = at-none .before .before .before in
+    let start = at-none .before .before .before .before .before in
     let x = start .args .x .0 in
     let A = arrangedAs (start .args .arranged) in
     let i = start .args .a .count in
@@ -127,13 +127,13 @@ returns c =
     let at₂ : at-first .move-field .result .count ≡ length (A .own .before) + i = omega arith in
     let at₃ : at-owned .put-own2 .result .count ≡ length (A .own .before) + i + length (A .own .behind) = omega arith in
     let at₄ : at-second .move-field2 .result .count ≡ length (A .own .before) + i + length (A .own .behind) + j = omega arith in
-    let b₀ = ahead .buffer-is ∙ ap (λ (n : ℕ). rulesPut x n (A .own .before) (start .args .buf .now)) zero in
+    let b₀ = ahead .buffer-is ∙ ap (λ (n : ℕ). ownPut x n (A .own .before) (start .args .buf .now)) zero in
     let b₁ = first .buffer-is ∙ ap₂ (λ (n : ℕ) (b : List ℕ). behindNodes n (movedFront (x +ℤ A .first .across) (A .first .up) i) b) at₁ b₀ in
-    let b₂ = owned .buffer-is ∙ ap₂ (λ (n : ℕ) (b : List ℕ). rulesPut x n (A .own .behind) b) at₂ b₁ in
+    let b₂ = owned .buffer-is ∙ ap₂ (λ (n : ℕ) (b : List ℕ). ownPut x n (A .own .behind) b) at₂ b₁ in
     let b₃ = second .buffer-is ∙ ap₂ (λ (n : ℕ) (b : List ℕ). behindNodes n (movedFront (x +ℤ A .second .across) (A .second .up) j) b) at₃ b₂ in
-    let h₀ = ahead .hull-is ∙ ap (λ (h : Hull). joined h (hull (moved x (pos 0) (ruleNodes (A .own .before))))) (none-there .hull-is) in
+    let h₀ = ahead .hull-is ∙ ap (λ (h : Hull). joined h (hull (moved x (pos 0) (ownNodes (A .own .before))))) (none-there .hull-is) in
     let h₁ = first .hull-is ∙ ap (λ (h : Hull). joined h (movedHull (x +ℤ A .first .across) (A .first .up) (hullOf (start .args .a)))) h₀ in
-    let h₂ = owned .hull-is ∙ ap (λ (h : Hull). joined h (hull (moved x (pos 0) (ruleNodes (A .own .behind))))) h₁ in
+    let h₂ = owned .hull-is ∙ ap (λ (h : Hull). joined h (hull (moved x (pos 0) (ownNodes (A .own .behind))))) h₁ in
     let h₃ = second .hull-is ∙ ap (λ (h : Hull). joined h (movedHull (x +ℤ A .second .across) (A .second .up) (hullOf (start .args .b)))) h₂ in
     let l₁ = first .large-is ∙ ap (λ (t : Bool). t || isLarge (start .args .a)) (ahead .large-is ∙ none-there .large-is) in
     let l₃ = second .large-is ∙ ap (λ (t : Bool). t || isLarge (start .args .b)) (owned .large-is ∙ l₁) in

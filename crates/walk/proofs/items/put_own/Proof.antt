@@ -1,92 +1,39 @@
--- `put_own` meets its contract: no node without a rule, and one at x with it.
+-- `put_own` meets its contract: the sign, and the rule behind it (`own-joined`).
 -- Assumes nothing.
-use mathlib.Core.Path.{_≡_, refl, sym, ap, _∙_}
-use mathlib.Core.Bool.{or-false}
-use mathlib.Core.List.{[], _∷_}
+use mathlib.Core.Path.{_∙_}
 use native.Mathlib.Omega.{arith}
-use lib.IntN.{pos, _+ℤ_}
 use borrow.Author.Needs.{needs}
-use Rattle.boxes.specs.Values.{ruleAs}
-use Rattle.nodes.specs.Nodes.{Node, rule, moved, movedNode}
-use Rattle.nodes.specs.Buffer.{put, behindNodes}
-use Rattle.nodes.specs.Hull.{joined, hull}
-use Rattle.nodes.specs.HullLaws.{join-none, hull-node}
-use Rattle.nodes.specs.Values.{hullOf, isLarge}
-use Rattle.setting.specs.Setting.{ruleNode, ruleNodes}
-use Rattle.walk.specs.Walked.{rulesPut}
-use Rattle.walk.proofs.ItemLaws.{rule-moved}
+use Rattle.boxes.specs.Values.{signingAs, rulingAs}
+use Rattle.walk.proofs.ItemLaws.{one-sign, own-joined}
 use Rattle.walk.proofs.items.put_own.Statement.{statement}
 use Rattle.walk.proofs.items.put_own.Tie as tie
 
-enum-told : tie.Need-enum-told
-enum-told c = search needs
+put-sign-requires : tie.Need-put-sign-requires
+put-sign-requires c κs =
+    let g = c .before .before .pre in
+    let few = g .few in
+    record { few = omega arith; sign = g .near .sign; x-small = g .x-small }
 
-enum-known-own : tie.Need-enum-known-own
-enum-known-own c = search needs
-
-plus-requires : tie.Need-plus-requires
-plus-requires c κs =
-    let arm = c .before .before .before in
-    let small = rw (arm .own .given .1) at (arm .before .before .before .pre .rules) in
-    (omega arith, omega arith)
-
-put-rule-requires : tie.Need-put-rule-requires
-put-rule-requires c κs = search needs
-
-point-requires : tie.Need-point-requires
-point-requires c κs = search needs
-
-joined-requires : tie.Need-joined-requires
-joined-requires c κs = search needs
-
-returns : tie.Need-returns
-unfolding rulesPut ruleNodes moved hull
-returns c =
-    let start = c .before .before .before in
-    rw (c .enum-told .given .1)
-    (record {
-      count-is = omega arith;
-      large-is = refl;
-      hull-is = sym (join-none (hullOf (start .args .before)));
-      buffer-is = refl;
-    })
+put-ruling-requires : tie.Need-put-ruling-requires
+put-ruling-requires c κs =
+    let signed = c .before .before .before in
+    let start = signed .before .before .before in
+    let g = start .pre in
+    let few = g .few in
+    let count = signed .put-sign .ensures .count-is in
+    record { few = omega (arith, one-sign (start .args .own .sign)); rules = g .near .ruling; x-small = g .x-small }
 
 same-length : tie.Need-same-length
-same-length c = search needs
+same-length c =
+    let ruled = c .before .before in
+    ruled .put-ruling .kept .1 .1 .1 .0 ∙ ruled .before .before .before .before .put-sign .kept .1 .1 .1 .0
 
-returns-2 : tie.Need-returns-2
-unfolding rulesPut ruleNodes moved
-returns-2 c =
-    let ruled = c .before .before .before .before in
-    let sum = ruled .before .before .before in
-    let arm = sum .before .before .before .before in
-    let start = arm .before .before .before in
-    let before = start .args .before in
-    let r = arm .own .given .0 .0 in
-    let x = start .args .x .0 in
-    let n = rule (x +ℤ r .corner .across .0) (r .corner .up .0) (r .width .0) (r .thickness .0) in
-    let node : movedNode x (pos 0) (ruleNode (ruleAs r)) ≡ n = rule-moved x (ruleAs r) in
-    let at : sum .plus .result .0 ≡ x +ℤ r .corner .across .0 = sum .plus .ensures .is in
-    let point = c .before .point .ensures in
-    let one = point .count-is in
-    rw (arm .own .given .1)
-    (record {
-      count-is = omega (arith, c .joined .ensures .count-is);
-      large-is = c .joined .ensures .large-is ∙ rw (point .large-is) (or-false (isLarge before));
-      hull-is = c .joined .ensures .hull-is ∙ ap (joined (hullOf before)) (point .hull-is ∙ rw at (sym (hull-node n)) ∙ ap (λ (m : Node). hull (m ∷ [])) (sym node));
-      buffer-is = ruled .put-rule .ensures ∙ rw at (ap (λ (m : Node). behindNodes (before .count) (put m) (start .args .buf .now)) (sym node));
-    })
+returns : tie.Need-returns
+returns c =
+    let ruled = c .before .before in
+    let signed = ruled .before .before .before .before in
+    let own = signed .before .before .before .args .own in
+    own-joined (signingAs (own .sign)) (rulingAs (own .ruling)) (signed .put-sign .ensures) (ruled .put-ruling .ensures)
 
 pub put-own-spec : {M : Type 1} → statement M
-put-own-spec =
-    tie.close
-    (tie.spec
-    enum-told
-    enum-known-own
-    plus-requires
-    put-rule-requires
-    point-requires
-    joined-requires
-    returns
-    same-length
-    returns-2)
+put-own-spec = tie.close (tie.spec put-sign-requires put-ruling-requires same-length returns)

@@ -6,9 +6,9 @@
 -- `list-lacks`; `turn-next`, `turn-stop`, `turn-halt`; `past`, `further-came`; `begun`, `rounded`, `failed`; `one`, `two`, `three`, and
 -- `lacks-first` to `lacks-third`); each need follows by one law of `FieldLaws`, `ListLaws`, `ChoiceLaws` or `NoadLaws`.
 -- Assumes nothing.
-use mathlib.Core.Path.{_≡_, refl, sym, subst, ap, _∙_}
+use mathlib.Core.Path.{_≡_, refl, sym, subst, ap, ap₂, _∙_}
 use mathlib.Core.Logic.{⊎-elim}
-use mathlib.Core.Bool.{false}
+use mathlib.Core.Bool.{Bool, false}
 use mathlib.Core.List.{List}
 use mathlib.Core.Option.{some}
 use Prim.Native.Nat.{ℕ, _+_, _-_, _*_, _≤_, _<_}
@@ -39,6 +39,8 @@ use Rattle.formula.proofs.heads.opening_bytes.Reads as opening-bytes-reads
 use Rattle.boxes.specs.Parameters.{Parameters}
 use Rattle.arrange.specs.Arrange.{ownCounts, firstStyle, secondStyle, enlarges}
 use Rattle.spacing.specs.Values.{neighbourAs}
+use Rattle.delimiters.specs.Values.{chosenAs}
+use Rattle.setting.specs.Setting.{isSigned}
 use Rattle.arrange.proofs.enlarges.Reads as enlarges-reads
 use Rattle.arrange.proofs.first_style.Reads as first-style-reads
 use Rattle.arrange.proofs.own_counts.Reads as own-counts-reads
@@ -62,6 +64,8 @@ use Rattle.walk.proofs.ChoiceLaws.{choice-given, choice-lacks, choice-d
 use Rattle.walk.proofs.PlaceLaws.{tail-given, right-alike}
 use Rattle.walk.proofs.NoadLaws.{head-as, finished-by, lacksX, lacksY, first-lacks, second-lacks, third-lacks, One, Two, ThirdDone, set-one, set-two, set-three, lacks-one, lacks-two, none-third, finish-given, noad-lacks, noad-done}
 use Rattle.walk.proofs.ListLaws.{line-more, kern-done, style-done, rest-given, item-lacks, item-along, along-start, along-next, along-stop, along-halt, shifted, along-stretch, along-done}
+use Rattle.walk.proofs.signs.is_signed.Reads as is-signed-reads
+use Rattle.walk.proofs.signs.sign_in.Reads as sign-in-reads
 use Rattle.walk.proofs.lists.set_choice.Reads as set-choice
 use Rattle.walk.proofs.lists.set_choice.Kinds as set-choice-kinds
 use Rattle.walk.proofs.lists.+set_choice+set_field+set_given+set_item+set_items+set_noad+set_onward+set_stretch.Lts-set_choice as set-choice-lts
@@ -196,7 +200,7 @@ abbrev set-items-claims : ℕ → set-items-lts.Claims
 set-items-claims t = (set-stretch-below t, set-stretch.Post, room-reads.Asked, room-reads.Learnt, set-onward-below t, set-onward.Post)
 
 abbrev set-noad-claims : ℕ → set-noad-lts.Claims
-set-noad-claims t = (own-counts-reads.Asked, own-counts-reads.Learnt, room-reads.Asked, room-reads.Learnt, first-style-reads.Asked, first-style-reads.Learnt, enlarges-reads.Asked, enlarges-reads.Learnt, opening-bytes-reads.Asked, opening-bytes-reads.Learnt, set-field-below t, set-field.Post, second-style-reads.Asked, second-style-reads.Learnt, has-third-reads.Asked, has-third-reads.Learnt, third-style-reads.Asked, third-style-reads.Learnt, empty-part-reads.Asked, empty-part-reads.Learnt, right-of-reads.Asked, right-of-reads.Learnt, finished-reads.Asked, finished-reads.Learnt)
+set-noad-claims t = (is-signed-reads.Asked, is-signed-reads.Learnt, own-counts-reads.Asked, own-counts-reads.Learnt, room-reads.Asked, room-reads.Learnt, first-style-reads.Asked, first-style-reads.Learnt, enlarges-reads.Asked, enlarges-reads.Learnt, opening-bytes-reads.Asked, opening-bytes-reads.Learnt, set-field-below t, set-field.Post, second-style-reads.Asked, second-style-reads.Learnt, has-third-reads.Asked, has-third-reads.Learnt, third-style-reads.Asked, third-style-reads.Learnt, empty-part-reads.Asked, empty-part-reads.Learnt, right-of-reads.Asked, right-of-reads.Learnt, sign-in-reads.Asked, sign-in-reads.Learnt, finished-reads.Asked, finished-reads.Learnt)
 
 abbrev set-onward-claims : ℕ → set-onward-lts.Claims
 set-onward-claims t = (set-choice-below t, set-choice.Post, room-reads.Asked, room-reads.Learnt, set-stretch-below t, set-stretch.Post)
@@ -796,7 +800,7 @@ abbrev counted-of : (t : ℕ) → First t → Counted t
 counted-of t c = styled-of t c .before .before
 
 abbrev start-of : (t : ℕ) → First t → Start t
-start-of t c = counted-of t c .before .before .before .before .before
+start-of t c = counted-of t c .before .before .before .before .before .before
 
 abbrev first-back : (t : ℕ) → First t → List ℕ
 first-back t c = c .set-field .last .1 .1 .1 .1 .1 .1 .0
@@ -817,15 +821,17 @@ OneAt t c x =
 own-is : (t : ℕ) (c : First t) →
     let a = start-of t c .args in
     let own = counted-of t c .own-counts .result in
-    let defined = ownCounts (fontOf (a .table .now) .parameter) (a .line .style) (a .kind) in
+    let F = fontOf (a .table .now) in
+    let defined = ownCounts (F .parameter) (a .line .style) (a .kind) (isSigned F (a .line .style) (a .kind)) in
     (own .before ≡ defined .before) × (own .behind ≡ defined .behind)
 own-is t c =
     let start = start-of t c in
     let a = start .args in
     let own = counted-of t c .own-counts .ensures in
+    let found = counted-of t c .before .is-signed .ensures in
     let params = start .pre .1 .items .list .parameters-are in (
-      own .before-is ∙ ap (λ (P : Parameters). ownCounts P (a .line .style) (a .kind) .before) params,
-      own .behind-is ∙ ap (λ (P : Parameters). ownCounts P (a .line .style) (a .kind) .behind) params,
+      own .before-is ∙ ap₂ (λ (P : Parameters) (f : Bool). ownCounts P (a .line .style) (a .kind) f .before) params found,
+      own .behind-is ∙ ap₂ (λ (P : Parameters) (f : Bool). ownCounts P (a .line .style) (a .kind) f .behind) params found,
     )
 
 first-done : (t : ℕ) (c : First t) {r : FieldSet} → c .set-field .result ≡ r →
@@ -1040,7 +1046,7 @@ set-noad-set-field-requires : (t : ℕ) → set-noad-lts.Need-set-field-requires
 set-noad-set-field-requires t c κs =
     let opened = c .before in
     let counted = opened .before .before .before .before in
-    let start = counted .before .before .before .before .before in
+    let start = counted .before .before .before .before .before .before in
     let n = noad-of t start in
     let items = start .pre .1 .items .list in (
       omega (arith, start .pre .0),
@@ -1117,23 +1123,32 @@ set-noad-right-of-requires t c κs =
     let start = start-of-z t (c .before) in
     tail-given (start .args .s .now) _ (q .wz .end-is) (q .noad .rest) (start .pre .1 .items .list .short)
 
+set-noad-sign-in-requires : (t : ℕ) → set-noad-lts.Need-sign-in-requires (set-noad-claims t) (set-noad-at t) set-noad.Post
+set-noad-sign-in-requires t c κs =
+    let z = c .before .before in
+    let list = start-of-z t z .pre .1 .items .list in
+    (list .table-good, list .parameters-are, three t z .wx .small .shape)
+
 set-noad-finished-requires : (t : ℕ) → set-noad-lts.Need-finished-requires (set-noad-claims t) (set-noad-at t) set-noad.Post
 set-noad-finished-requires t c κs =
-    let z = c .before .before .before in
+    let z = c .before .before .before .before in
     let items = start-of-z t z .pre .1 .items in
     finish-given _ _ _ _ (three t z) (line-more (omega arith) (items .small)) (items .list .short)
 
 set-noad-returns-4 : (t : ℕ) → set-noad-lts.Need-returns-4 (set-noad-claims t) (set-noad-at t) set-noad.Post
 set-noad-returns-4 t c =
     let done = c .before .before in
-    let next = done .before .before in
+    let signed = done .before .before in
+    let next = signed .before in
     let z = next .before .before in
     let start = start-of-z t z in
     let a = start .args in
     let q = three t z in
-    noad-done _ (a .kind) (a .s .now) (neighbourAs (a .beyond)) (a .line) (a .buf .now) (done .finished .last .1 .1 .1 .1 .1 .1 .1 .0) (start .pre .1 .opens)
+    noad-done _ (a .kind) (a .s .now) (neighbourAs (a .beyond)) (a .line) (a .buf .now) (done .finished .last .1 .1 .1 .1 .1 .1 .1 .1 .0) (start .pre .1 .opens)
     (record {
       here = refl;
+      sign = chosenAs (signed .sign-in .result);
+      sign-is = signed .sign-in .ensures;
       fields = q;
       alike = right-alike (a .kind) (a .line .style) (a .s .now) (neighbourAs (a .beyond)) (neighbourAs (next .right-of .result)) (q .wz .end-is) (next .right-of .ensures);
       done = finished-by (start .pre .1 .items .list .parameters-are) (done .finished .ensures);
@@ -1252,6 +1267,7 @@ pub +set-choice+set-field+set-given+set-item+set-items+set-noad+set-onward+set-s
     (λ c. along-at t (c .before) .added .kept .same)
     (λ c. along-done _ _ (along-at t (c .before)) (c .loop-test .left)))
     (λ t. set-noad-lts.spec (set-noad-claims t) (set-noad-at t) set-noad.Post
+    (λ c κs. c .before .before .before .before .pre .1 .items .list .table-good)
     (λ c κs. search needs)
     (λ c κs. search needs)
     (λ c κs. search needs)
@@ -1294,8 +1310,9 @@ pub +set-choice+set-field+set-given+set-item+set-items+set-noad+set-onward+set-s
     (λ c. omega (arith, three t c .wz .end-is, three t c .noad .end-in))
     (λ c. omega (arith, three t c .wz .end-is, three t c .noad .end-in))
     (set-noad-right-of-requires t)
+    (set-noad-sign-in-requires t)
     (set-noad-finished-requires t)
-    (λ c. c .before .before .finished .kept .1 .1 .1 .1 .1 .1 .1 .0 ∙ three t (c .before .before .before .before .before .before) .so .kept .same)
+    (λ c. c .before .before .finished .kept .1 .1 .1 .1 .1 .1 .1 .1 .0 ∙ three t (c .before .before .before .before .before .before .before) .so .kept .same)
     (set-noad-returns-4 t))
     (λ t. set-onward-lts.spec (set-onward-claims t) (set-onward-at t) set-onward.Post
     (set-onward-set-choice-requires t)

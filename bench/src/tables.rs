@@ -1,0 +1,55 @@
+//! Tables that are timed: the two of the repository, and two full ones made here.
+
+use crate::formulas::Alphabet;
+use reference::compose::TableParts;
+use reference::generate::full_chains;
+use std::sync::LazyLock;
+
+pub struct Font {
+    pub name: &'static str,
+    pub table: &'static [u8],
+    pub alphabet: Alphabet,
+}
+
+pub const BENCH: Font = Font {
+    name: "bench.tab",
+    table: include_bytes!("../../data/bench.tab"),
+    alphabet: Alphabet {
+        plus: (2, b'+'),
+        equals: (2, b'='),
+    },
+};
+const CM: Font = Font {
+    name: "cm.tab",
+    table: include_bytes!("../../data/cm.tab"),
+    alphabet: Alphabet {
+        plus: (0, b'+'),
+        equals: (0, b'='),
+    },
+};
+pub const FONTS: [&Font; 2] = [&BENCH, &CM];
+
+/// 2,048 characters in chains that are as long as they may be.
+pub static CHAINED: LazyLock<Font> = LazyLock::new(|| full("2,048 records, chained", true));
+/// The same characters without successors.
+pub static UNCHAINED: LazyLock<Font> = LazyLock::new(|| full("2,048 records", false));
+
+/// Rules are so thick that no sign is tall enough for a root.
+fn full(name: &'static str, is_chained: bool) -> Font {
+    const RULE_THICKNESS: usize = 29;
+    let mut row = [0; 35];
+    row[RULE_THICKNESS] = 1000;
+    let mut characters = full_chains(true);
+    if !is_chained {
+        for character in &mut characters {
+            character.successor = None;
+        }
+    }
+    let rows = [row; 3];
+    let table = TableParts { rows, characters }.bytes().leak();
+    Font {
+        name,
+        table,
+        alphabet: BENCH.alphabet,
+    }
+}

@@ -1,0 +1,23 @@
+-- `root_nucleus` meets its contract: its own nodes are the sign's, if there is one, and the rule.
+-- Assumes nothing.
+use native.Mathlib.Omega.{arith}
+use borrow.Author.Needs.{needs}
+use Rattle.arrange.proofs.root_nucleus.Statement.{statement}
+use Rattle.arrange.proofs.root_nucleus.Tie as tie
+
+sign-at-requires : tie.Need-sign-at-requires
+sign-at-requires c κs = search needs
+
+signed-before-requires : tie.Need-signed-before-requires
+signed-before-requires c κs = search needs
+
+returns : tie.Need-returns
+returns c =
+    let at = c .before in
+    let pre = at .before .before .before .pre in (
+      rw (c .signed-before .ensures .0, at .sign-at .ensures .0),
+      record { size = pre .size; first = pre .nucleus; delta = omega arith; own = c .signed-before .ensures .1 },
+    )
+
+pub root-nucleus-spec : {M : Type 1} → statement M
+root-nucleus-spec = tie.close (tie.spec sign-at-requires signed-before-requires returns)

@@ -1,0 +1,62 @@
+-- `is_in_sizes` goes from size to size, as `inSizes` does. The measure is the size.
+-- Assumes nothing.
+use mathlib.Core.Path.{sym, ap, _∙_}
+use Prim.Native.Nat.{ℕ, _<_}
+use native.Mathlib.Omega.{arith}
+use borrow.Author.Needs.{needs}
+use Rattle.font.specs.Font.{fontOf}
+use Rattle.font.specs.Values.{foundAs}
+use Rattle.delimiters.proofs.ChainLaws.{any-here, any-text, any-up}
+use borrow.Fn.Kinds.{In}
+use borrow.Fn.PlainCycle.{Measures, is, falls, and}
+use Rattle.delimiters.proofs.is_in_sizes.Reads as is-in-sizes
+use Rattle.delimiters.proofs.is_in_sizes.Kinds as kinds
+use Rattle.delimiters.proofs.+is_in_sizes.Lts-is_in_sizes as lts
+use Rattle.font.proofs.symbol.Reads as symbol-reads
+use Rattle.delimiters.proofs.+is_in_sizes.{statement}
+use Rattle.delimiters.proofs.+is_in_sizes.Tie.{close}
+
+abbrev μ : Measures 1 kinds.ps ℕ
+μ κs a = a .1 .0
+
+abbrev at : ℕ → In 1 kinds.ps
+at t = and 1 kinds.ps (is 1 kinds.ps μ t) is-in-sizes.Pre
+
+abbrev below : ℕ → In 1 kinds.ps
+below t = and 1 kinds.ps (falls 1 kinds.ps _<_ μ t) is-in-sizes.Pre
+
+abbrev claims : ℕ → lts.Claims
+claims t = (symbol-reads.Asked, symbol-reads.Learnt, below t, is-in-sizes.Post)
+
+returns : (t : ℕ) → lts.Need-returns (claims t) (at t) is-in-sizes.Post
+returns t c =
+    let found = c .before .before in
+    let a = found .before .before .args in
+    let is = sym (found .symbol .ensures) ∙ ap foundAs (c .enum-told .given .1) in
+    sym (any-here (fontOf (a .table .now)) (a .family) (a .code) (a .size) _ is)
+
+returns-2 : (t : ℕ) → lts.Need-returns-2 (claims t) (at t) is-in-sizes.Post
+returns-2 t c =
+    let told = c .before in
+    let a = told .before .before .before .before .args in
+    let is = sym (told .before .before .symbol .ensures) ∙ ap foundAs (told .enum-told2 .given .1) in
+    sym (any-text (fontOf (a .table .now)) (a .family) (a .code) (a .size) (c .if1 .taken) is)
+
+returns-3 : (t : ℕ) → lts.Need-returns-3 (claims t) (at t) is-in-sizes.Post
+returns-3 t c =
+    let told = c .before .before in
+    let a = told .before .before .before .before .args in
+    let is = sym (told .before .before .symbol .ensures) ∙ ap foundAs (told .enum-told2 .given .1) in
+    c .is-in-sizes .ensures ∙ sym (any-up (fontOf (a .table .now)) (a .family) (a .code) (a .size) (omega arith) is)
+
+pub +is-in-sizes-spec : {M : Type 1} → statement M
++is-in-sizes-spec =
+    close μ λ t. lts.spec (claims t) (at t) is-in-sizes.Post
+    (λ c κs. search needs)
+    (λ c. search needs)
+    (returns t)
+    (λ c. search needs)
+    (returns-2 t)
+    (λ c. search needs)
+    (λ c κs. search needs)
+    (returns-3 t)

@@ -1,0 +1,4 @@
+-- Roots. Assumes nothing.
+pub mod Roots
+pub mod Values
+pub mod Bounds
