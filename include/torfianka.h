@@ -29,8 +29,9 @@ enum torfianka_number {
     TORFIANKA_TOO_DEEP = 4,    /* a list at depth 17 (its kind byte) */
     TORFIANKA_NO_SYMBOL = 5,   /* a symbol, or a successor that the rules take,
                                   isn't in the table (the field's kind byte);
-                                  of a root's sign and of lists that a C4
-                                  doesn't take nothing is missed */
+                                  of a root's sign, of a fence's delimiters
+                                  and of lists that a C4 doesn't take nothing
+                                  is missed */
     TORFIANKA_TOO_LARGE = 6,   /* a list's size, or a node's x or y seen from a
                                   list around it, passes 1,073,741,823 */
     TORFIANKA_NO_ROOM = 7,     /* setting only: nodes_len is less than 18 bytes

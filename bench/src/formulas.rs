@@ -1,6 +1,6 @@
 //! The formulas that are set, over letters that both tables have.
 
-use reference::compose::{atom, choice, fraction, kern, list, root, symbol, EMPTY};
+use reference::compose::{atom, choice, fence, fraction, kern, list, root, symbol, EMPTY};
 
 /// Family and code of the signs that stand in other places in other tables.
 #[derive(Clone, Copy)]
@@ -116,9 +116,18 @@ pub fn chosen(letters: &Alphabet, most: usize, depth: usize) -> Vec<u8> {
     })
 }
 
-/// As many roots of nothing as there is room for; over a full table of chains
-/// each looks for its sign in two of them.
+/// Over a full table of chains it is looked for in two of them.
+const SOUGHT: [(u8, u8); 2] = [(1, 0), (2, 17)];
+
+/// As many roots of nothing as there is room for.
 pub fn searches(most: usize) -> Vec<u8> {
-    let item = root([(1, 0), (2, 17)], [EMPTY; 3]);
+    let item = root(SOUGHT, [EMPTY; 3]);
+    item.repeat(most / item.len())
+}
+
+/// As many fences around nothing as there is room for; both sides of each are
+/// looked for.
+pub fn double_searches(most: usize) -> Vec<u8> {
+    let item = fence([SOUGHT; 2], [&NO_ITEMS, EMPTY, EMPTY]);
     item.repeat(most / item.len())
 }

@@ -1,7 +1,7 @@
 //! What the tables of times and of instructions set, row by row.
 
 use crate::formulas::{
-    chosen, empty_choices, flat, nested, searches, typical, Alphabet, PHRASE_BYTES,
+    chosen, double_searches, empty_choices, flat, nested, searches, typical, Alphabet, PHRASE_BYTES,
 };
 use crate::tables::{Font, BENCH, CHAINED, FONTS, UNCHAINED};
 use crate::work::{Call, Work};
@@ -18,6 +18,7 @@ const EMPTY_CHOICES: Formulas = |_| vec![empty_choices(LONGEST)];
 const CHOSEN: Formulas = |letters| vec![chosen(letters, LONGEST, DEEPEST)];
 const NOTHING: Formulas = |_| vec![Vec::new()];
 const SEARCHES: Formulas = |_| vec![searches(LONGEST)];
+const DOUBLE_SEARCHES: Formulas = |_| vec![double_searches(LONGEST)];
 
 type Row = (&'static str, Call, Formulas);
 type OneFont = fn() -> &'static Font;
@@ -33,7 +34,7 @@ const OVER_A_FONT: [Row; 6] = [
 ];
 
 /// Over one table each.
-const OVER_ONE: [(OneFont, Row); 5] = [
+const OVER_ONE: [(OneFont, Row); 6] = [
     (
         || &BENCH,
         ("4,088 bytes, empty choices", Call::Set, EMPTY_CHOICES),
@@ -45,6 +46,10 @@ const OVER_ONE: [(OneFont, Row); 5] = [
     (|| &UNCHAINED, ("no bytes", Call::Set, NOTHING)),
     (|| &CHAINED, ("no bytes", Call::Set, NOTHING)),
     (|| &CHAINED, ("4,095 bytes, roots", Call::Set, SEARCHES)),
+    (
+        || &CHAINED,
+        ("4,095 bytes, fences", Call::Set, DOUBLE_SEARCHES),
+    ),
 ];
 
 const FONT_ROWS: usize = FONTS.len() * OVER_A_FONT.len();

@@ -34,10 +34,13 @@ pub static CHAINED: LazyLock<Font> = LazyLock::new(|| full("2,048 records, chain
 /// The same characters without successors.
 pub static UNCHAINED: LazyLock<Font> = LazyLock::new(|| full("2,048 records", false));
 
-/// Rules are so thick that no sign is tall enough for a root.
+/// Rules are so thick, and the axis is so high, that no sign is tall enough for
+/// a root or a fence.
 fn full(name: &'static str, is_chained: bool) -> Font {
+    const AXIS_HEIGHT: usize = 21;
     const RULE_THICKNESS: usize = 29;
     let mut row = [0; 35];
+    row[AXIS_HEIGHT] = 1000;
     row[RULE_THICKNESS] = 1000;
     let mut characters = full_chains(true);
     if !is_chained {

@@ -1,6 +1,6 @@
 -- Measuring and setting answer the same, but for refusal 7: setting refuses 7 exactly where measuring accepts and the buffer
 -- is shorter than 18 bytes for each node counted, and answers as measuring does otherwise. For every style, table, formula
--- and number of bytes in the buffer.
+-- and number of bytes in the buffer; and so for a list between any two sides.
 -- Assumes nothing.
 use mathlib.Core.Path.{_≡_, refl}
 use mathlib.Core.Bool.{Bool, true, false}
@@ -18,10 +18,10 @@ use Rattle.formula.specs.Reading.{Read, good, fault, readFormula}
 use Rattle.boxes.specs.declared.styles.Style.{Style}
 use Rattle.boxes.specs.Styles.{styleOf}
 use Rattle.nodes.specs.Nodes.{bytesInNode}
-use Rattle.setting.specs.Setting.{Box, setList}
+use Rattle.setting.specs.Setting.{Box, Sides, noSides, setList}
 use Rattle.setting.specs.Missing.{missingItems}
 use Rattle.setting.specs.Fitting.{listFits}
-use Rattle.answers.specs.Answers.{Result, boxed, refused, ifFits, ifPresent, ifRead, ifGood, ifStyle, resultOf, Answered, accepted, refusal, measuredBy, measured, hasRoom, setBy, setting, acceptedNumber, noRoomNumber}
+use Rattle.answers.specs.Answers.{Result, boxed, refused, ifFits, ifPresent, ifRead, ifGood, ifStyle, resultBetween, Answered, accepted, refusal, measuredBy, measured, measuredBetween, hasRoom, setBy, setting, settingBetween, acceptedNumber, noRoomNumber}
 
 -- ---- a refusal before the test of room has neither the number of an acceptance nor that of this test
 
@@ -34,30 +34,31 @@ unfolding ifFits
 fits-before true b = tt
 fits-before false b = omega arith
 
-present-before : (F : Font) (s : Style) (l : Items) (m : Option ℕ) → RefusedBefore (ifPresent F s l m)
-unfolding ifPresent
-present-before F s l none = fits-before (listFits F s l) (setList F s l)
-present-before F s l (some place) = omega arith
+module _ (sides : Sides) where
+  present-before : (F : Font) (s : Style) (l : Items) (m : Option ℕ) → RefusedBefore (ifPresent F sides s l m)
+  unfolding ifPresent
+  present-before F s l none = fits-before (listFits F sides s l) (setList F sides s l)
+  present-before F s l (some place) = omega arith
 
-read-before : (F : Font) (s : Style) (r : Read) → RefusedBefore (ifRead F s r)
-unfolding ifRead
-read-before F s (good l) = present-before F s l (missingItems F s l)
-read-before F s (fault Unreadable place) = omega arith
-read-before F s (fault TooDeep place) = omega arith
+  read-before : (F : Font) (s : Style) (r : Read) → RefusedBefore (ifRead F sides s r)
+  unfolding ifRead
+  read-before F s (good l) = present-before F s l (missingItems F s l)
+  read-before F s (fault Unreadable place) = omega arith
+  read-before F s (fault TooDeep place) = omega arith
 
-good-before : (t : Bool) (F : Font) (s : Style) (r : Read) → RefusedBefore (ifGood t F s r)
-unfolding ifGood
-good-before true F s r = read-before F s r
-good-before false F s r = omega arith
+  good-before : (t : Bool) (F : Font) (s : Style) (r : Read) → RefusedBefore (ifGood t F sides s r)
+  unfolding ifGood
+  good-before true F s r = read-before F s r
+  good-before false F s r = omega arith
 
-style-before : (table formula : List ℕ) (s : Option Style) → RefusedBefore (ifStyle table formula s)
-unfolding ifStyle
-style-before table formula none = omega arith
-style-before table formula (some s) = good-before (goodTable table) (fontOf table) s (readFormula formula)
+  style-before : (table formula : List ℕ) (s : Option Style) → RefusedBefore (ifStyle sides table formula s)
+  unfolding ifStyle
+  style-before table formula none = omega arith
+  style-before table formula (some s) = good-before (goodTable table) (fontOf table) s (readFormula formula)
 
-result-before : (style : ℕ) (table formula : List ℕ) → RefusedBefore (resultOf style table formula)
-unfolding resultOf
-result-before style table formula = style-before table formula (styleOf style)
+  result-before : (style : ℕ) (table formula : List ℕ) → RefusedBefore (resultBetween sides style table formula)
+  unfolding resultBetween
+  result-before style table formula = style-before table formula (styleOf style)
 
 -- ---- measuring and setting
 
@@ -97,9 +98,12 @@ by-result (refused number place) room h =
       same = λ k. refl;
     }
 
-measuring-and-setting-agree :
-    (style : ℕ) (table formula : List ℕ) (room : ℕ) →
+agree-between : (sides : Sides) (style : ℕ) (table formula : List ℕ) (room : ℕ) →
+    Agrees (measuredBetween sides style table formula) (settingBetween sides style table formula room) room
+unfolding measuredBetween settingBetween
+agree-between sides style table formula room =
+    by-result (resultBetween sides style table formula) room (result-before sides style table formula)
+
+measuring-and-setting-agree : (style : ℕ) (table formula : List ℕ) (room : ℕ) →
     Agrees (measured style table formula) (setting style table formula room) room
-unfolding measured setting
-measuring-and-setting-agree style table formula room =
-    by-result (resultOf style table formula) room (result-before style table formula)
+measuring-and-setting-agree = agree-between noSides

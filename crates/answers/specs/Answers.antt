@@ -1,5 +1,6 @@
 -- What measuring and setting answer, for any bytes (document 01, "Answer numbers, in the order they are tested"), and the
--- node buffer after setting.
+-- node buffer after setting. A formula has no neighbours. The list of a fence, taken by itself, has two (change request 4), so that the
+-- answers are defined of a list between two sides (`resultBetween`), and those of a formula are the ones without (`resultOf`).
 -- Assumes nothing.
 use mathlib.Core.Bool.{Bool, true, false}
 use mathlib.Core.List.{List, _++_}
@@ -17,7 +18,7 @@ use Rattle.boxes.specs.declared.styles.Style.{Style}
 use Rattle.boxes.specs.Styles.{styleOf}
 use Rattle.boxes.specs.Boxes.{Size, zeroSize}
 use Rattle.nodes.specs.Nodes.{bytesOf, bytesInNode}
-use Rattle.setting.specs.Setting.{Box, setList}
+use Rattle.setting.specs.Setting.{Box, Sides, noSides, setList}
 use Rattle.setting.specs.Missing.{missingItems}
 use Rattle.setting.specs.Fitting.{listFits}
 
@@ -58,27 +59,30 @@ ifFits true b = boxed b
 ifFits false b = refused tooLargeNumber 0
 
 -- 5
-unfoldable pub ifPresent : Font → Style → Items → Option ℕ → Result
-ifPresent F s l none = ifFits (listFits F s l) (setList F s l)
-ifPresent F s l (some place) = refused missingNumber place
+unfoldable pub ifPresent : Font → Sides → Style → Items → Option ℕ → Result
+ifPresent F sides s l none = ifFits (listFits F sides s l) (setList F sides s l)
+ifPresent F sides s l (some place) = refused missingNumber place
 
 -- 3 and 4
-unfoldable pub ifRead : Font → Style → Read → Result
-ifRead F s (good l) = ifPresent F s l (missingItems F s l)
-ifRead F s (fault why place) = refused (faultNumber why) place
+unfoldable pub ifRead : Font → Sides → Style → Read → Result
+ifRead F sides s (good l) = ifPresent F sides s l (missingItems F s l)
+ifRead F sides s (fault why place) = refused (faultNumber why) place
 
 -- 2
-unfoldable pub ifGood : Bool → Font → Style → Read → Result
-ifGood true F s r = ifRead F s r
-ifGood false F s r = refused tableNumber 0
+unfoldable pub ifGood : Bool → Font → Sides → Style → Read → Result
+ifGood true F sides s r = ifRead F sides s r
+ifGood false F sides s r = refused tableNumber 0
 
 -- 1
-unfoldable pub ifStyle : List ℕ → List ℕ → Option Style → Result
-ifStyle table formula none = refused styleNumber 0
-ifStyle table formula (some s) = ifGood (goodTable table) (fontOf table) s (readFormula formula)
+unfoldable pub ifStyle : Sides → List ℕ → List ℕ → Option Style → Result
+ifStyle sides table formula none = refused styleNumber 0
+ifStyle sides table formula (some s) = ifGood (goodTable table) (fontOf table) sides s (readFormula formula)
 
-unfoldable pub resultOf : ℕ → List ℕ → List ℕ → Result
-resultOf style table formula = ifStyle table formula (styleOf style)
+unfoldable pub resultBetween : Sides → ℕ → List ℕ → List ℕ → Result
+resultBetween sides style table formula = ifStyle sides table formula (styleOf style)
+
+abbrev pub resultOf : ℕ → List ℕ → List ℕ → Result
+resultOf style table formula = resultBetween noSides style table formula
 
 -- ---- the answers
 
@@ -99,8 +103,11 @@ unfoldable pub measuredBy : Result → Answered
 measuredBy (boxed b) = accepted b
 measuredBy (refused number place) = refusal number place
 
-unfoldable pub measured : ℕ → List ℕ → List ℕ → Answered
-measured style table formula = measuredBy (resultOf style table formula)
+unfoldable pub measuredBetween : Sides → ℕ → List ℕ → List ℕ → Answered
+measuredBetween sides style table formula = measuredBy (resultBetween sides style table formula)
+
+abbrev pub measured : ℕ → List ℕ → List ℕ → Answered
+measured style table formula = measuredBetween noSides style table formula
 
 -- 7: whether a buffer of this many bytes has room for the nodes of a box
 unfoldable pub hasRoom : ℕ → Box → Bool
@@ -110,8 +117,11 @@ unfoldable pub setBy : ℕ → Result → Answered
 setBy room (boxed b) = elim (hasRoom room b) [ true ↦ accepted b | false ↦ refusal noRoomNumber 0 ]
 setBy room (refused number place) = refusal number place
 
-unfoldable pub setting : ℕ → List ℕ → List ℕ → ℕ → Answered
-setting style table formula room = setBy room (resultOf style table formula)
+unfoldable pub settingBetween : Sides → ℕ → List ℕ → List ℕ → ℕ → Answered
+settingBetween sides style table formula room = setBy room (resultBetween sides style table formula)
+
+abbrev pub setting : ℕ → List ℕ → List ℕ → ℕ → Answered
+setting style table formula room = settingBetween noSides style table formula room
 
 -- an acceptance writes the nodes at the buffer's front, a refusal nothing
 unfoldable pub bufferBy : List ℕ → Result → List ℕ
@@ -122,5 +132,8 @@ bufferBy buffer (boxed b) =
     ]
 bufferBy buffer (refused number place) = buffer
 
-unfoldable pub bufferAfter : ℕ → List ℕ → List ℕ → List ℕ → List ℕ
-bufferAfter style table formula buffer = bufferBy buffer (resultOf style table formula)
+unfoldable pub bufferBetween : Sides → ℕ → List ℕ → List ℕ → List ℕ → List ℕ
+bufferBetween sides style table formula buffer = bufferBy buffer (resultBetween sides style table formula)
+
+abbrev pub bufferAfter : ℕ → List ℕ → List ℕ → List ℕ → List ℕ
+bufferAfter style table formula buffer = bufferBetween noSides style table formula buffer

@@ -1,4 +1,4 @@
--- The answers, a law for each way that a formula goes.
+-- The answers of a list between two sides, a law for each way that it goes. A formula is a list without sides.
 --     no-style, bad-table, read-is                     the tests before the setting
 --     missing-refused, box-is, large-refused           what is found of a tree
 --     measured-boxed, set-boxed, buffer-boxed          what measuring and setting make of a box, where there is room
@@ -19,97 +19,98 @@ use Rattle.formula.specs.Reading.{Read, readFormula}
 use Rattle.boxes.specs.declared.styles.Style.{Style}
 use Rattle.boxes.specs.Styles.{styleOf}
 use Rattle.nodes.specs.Nodes.{bytesOf, bytesInNode}
-use Rattle.setting.specs.Setting.{Box, setList}
+use Rattle.setting.specs.Setting.{Box, Sides, setList}
 use Rattle.setting.specs.Missing.{missingItems}
 use Rattle.setting.specs.Fitting.{listFits}
-use Rattle.answers.specs.Answers.{boxed, refused, styleNumber, tableNumber, missingNumber, tooLargeNumber, noRoomNumber, ifFits, ifPresent, ifRead, ifGood, ifStyle, resultOf, accepted, refusal, measuredBy, measured, hasRoom, setBy, setting, bufferBy, bufferAfter}
+use Rattle.answers.specs.Answers.{boxed, refused, styleNumber, tableNumber, missingNumber, tooLargeNumber, noRoomNumber, ifFits, ifPresent, ifRead, ifGood, ifStyle, resultBetween, accepted, refusal, measuredBy, measuredBetween, hasRoom, setBy, settingBetween, bufferBy, bufferBetween}
 
 -- ---- the tests before the setting
 
-module _ (style : ℕ) (table formula : List ℕ) where
-  pub no-style : styleOf style ≡ none → resultOf style table formula ≡ refused styleNumber 0
-  unfolding resultOf ifStyle
-  no-style e = ap (ifStyle table formula) e
+module _ (sides : Sides) (style : ℕ) (table formula : List ℕ) where
+  pub no-style : styleOf style ≡ none → resultBetween sides style table formula ≡ refused styleNumber 0
+  unfolding resultBetween ifStyle
+  no-style e = ap (ifStyle sides table formula) e
 
   module _ (s : Style) (is : styleOf style ≡ some s) where
     pub tested-is : (t : Bool) (r : Read) → goodTable table ≡ t → readFormula formula ≡ r →
-        resultOf style table formula ≡ ifGood t (fontOf table) s r
-    unfolding resultOf ifStyle
+        resultBetween sides style table formula ≡ ifGood t (fontOf table) sides s r
+    unfolding resultBetween ifStyle
     tested-is t r good reads =
-        ap (ifStyle table formula) is ∙ ap₂ (λ (t : Bool) (r : Read). ifGood t (fontOf table) s r) good reads
+        ap (ifStyle sides table formula) is ∙ ap₂ (λ (t : Bool) (r : Read). ifGood t (fontOf table) sides s r) good reads
 
-    pub bad-table : goodTable table ≡ false → resultOf style table formula ≡ refused tableNumber 0
+    pub bad-table : goodTable table ≡ false → resultBetween sides style table formula ≡ refused tableNumber 0
     unfolding ifGood
     bad-table bad = tested-is false _ bad refl
 
     pub read-is : goodTable table ≡ true → (r : Read) → readFormula formula ≡ r →
-        resultOf style table formula ≡ ifRead (fontOf table) s r
+        resultBetween sides style table formula ≡ ifRead (fontOf table) sides s r
     unfolding ifGood
     read-is good r reads = tested-is true r good reads
 
 -- ---- what is found of a tree
 
-module _ (F : Font) (s : Style) (l : Items) where
+module _ (sides : Sides) (F : Font) (s : Style) (l : Items) where
   pub missing-refused : (place : ℕ) → missingItems F s l ≡ some place →
-      ifPresent F s l (missingItems F s l) ≡ refused missingNumber place
+      ifPresent F sides s l (missingItems F s l) ≡ refused missingNumber place
   unfolding ifPresent
-  missing-refused place e = ap (ifPresent F s l) e
+  missing-refused place e = ap (ifPresent F sides s l) e
 
   module _ (present : missingItems F s l ≡ none) where
-    weighed-is : (t : Bool) → listFits F s l ≡ t → ifPresent F s l (missingItems F s l) ≡ ifFits t (setList F s l)
+    weighed-is : (t : Bool) → listFits F sides s l ≡ t → ifPresent F sides s l (missingItems F s l) ≡ ifFits t (setList F sides s l)
     unfolding ifPresent
-    weighed-is t e = ap (ifPresent F s l) present ∙ ap (λ (t : Bool). ifFits t (setList F s l)) e
+    weighed-is t e = ap (ifPresent F sides s l) present ∙ ap (λ (t : Bool). ifFits t (setList F sides s l)) e
 
-    pub box-is : listFits F s l ≡ true → ifPresent F s l (missingItems F s l) ≡ boxed (setList F s l)
+    pub box-is : listFits F sides s l ≡ true → ifPresent F sides s l (missingItems F s l) ≡ boxed (setList F sides s l)
     unfolding ifFits
     box-is e = weighed-is true e
 
-    pub large-refused : listFits F s l ≡ false → ifPresent F s l (missingItems F s l) ≡ refused tooLargeNumber 0
+    pub large-refused : listFits F sides s l ≡ false → ifPresent F sides s l (missingItems F s l) ≡ refused tooLargeNumber 0
     unfolding ifFits
     large-refused e = weighed-is false e
 
 -- ---- what is made of a box, by the count that measuring gives
 
-module _ (style : ℕ) (table formula : List ℕ) (b : Box) (is : resultOf style table formula ≡ boxed b) where
-  pub measured-boxed : measured style table formula ≡ accepted b
-  unfolding measured measuredBy
+module _ (sides : Sides) (style : ℕ) (table formula : List ℕ) (b : Box) (is : resultBetween sides style table formula ≡ boxed b) where
+  pub measured-boxed : measuredBetween sides style table formula ≡ accepted b
+  unfolding measuredBetween measuredBy
   measured-boxed = ap measuredBy is
 
-  room-is : (bytes : ℕ) → bytesInNode * measured style table formula .count ≤ bytes → hasRoom bytes b ≡ true
+  room-is : (bytes : ℕ) → bytesInNode * measuredBetween sides style table formula .count ≤ bytes → hasRoom bytes b ≡ true
   unfolding hasRoom
   room-is bytes h = le-leb (bytesInNode * length (b .nodes)) bytes (rw measured-boxed at h)
 
-  pub set-boxed : (room : ℕ) → bytesInNode * measured style table formula .count ≤ room →
-      setting style table formula room ≡ measured style table formula
-  unfolding setting setBy
+  pub set-boxed : (room : ℕ) → bytesInNode * measuredBetween sides style table formula .count ≤ room →
+      settingBetween sides style table formula room ≡ measuredBetween sides style table formula
+  unfolding settingBetween setBy
   set-boxed room h = ap (setBy room) is ∙ rw (room-is room h, setBy) (sym measured-boxed)
 
   pub buffer-boxed : (buffer : List ℕ) →
-      let bytes = bytesInNode * measured style table formula .count in
-      bytes ≤ length buffer → bufferAfter style table formula buffer ≡ bytesOf (b .nodes) ++ drop bytes buffer
-  unfolding bufferAfter bufferBy
+      let bytes = bytesInNode * measuredBetween sides style table formula .count in
+      bytes ≤ length buffer → bufferBetween sides style table formula buffer ≡ bytesOf (b .nodes) ++ drop bytes buffer
+  unfolding bufferBetween bufferBy
   buffer-boxed buffer h =
       ap (bufferBy buffer) is ∙ rw (room-is (length buffer) h, bufferBy) (rw measured-boxed refl)
 
-  lacks-room : (bytes : ℕ) → bytes < bytesInNode * measured style table formula .count → hasRoom bytes b ≡ false
+  lacks-room : (bytes : ℕ) → bytes < bytesInNode * measuredBetween sides style table formula .count → hasRoom bytes b ≡ false
   unfolding hasRoom
   lacks-room bytes h = lt-leb (bytesInNode * length (b .nodes)) bytes (rw measured-boxed at h)
 
-  pub no-room-is : (buffer : List ℕ) → length buffer < bytesInNode * measured style table formula .count →
-      (setting style table formula (length buffer) ≡ refusal noRoomNumber 0) × (bufferAfter style table formula buffer ≡ buffer)
-  unfolding setting setBy bufferAfter bufferBy
+  pub no-room-is : (buffer : List ℕ) → length buffer < bytesInNode * measuredBetween sides style table formula .count →
+      (settingBetween sides style table formula (length buffer) ≡ refusal noRoomNumber 0) × (bufferBetween sides style table formula buffer ≡ buffer)
+  unfolding settingBetween setBy bufferBetween bufferBy
   no-room-is buffer h =
       let lacks = lacks-room (length buffer) h in
       (ap (setBy (length buffer)) is ∙ rw (lacks, setBy) refl, ap (bufferBy buffer) is ∙ rw (lacks, bufferBy) refl)
 
 -- ---- what is made of a refusal
 
-module _ (style : ℕ) (table formula : List ℕ) (number place : ℕ) (is : resultOf style table formula ≡ refused number place) where
-  pub measured-refused : measured style table formula ≡ refusal number place
-  unfolding measured measuredBy
+module _ (sides : Sides) (style : ℕ) (table formula : List ℕ) (number place : ℕ)
+    (is : resultBetween sides style table formula ≡ refused number place) where
+  pub measured-refused : measuredBetween sides style table formula ≡ refusal number place
+  unfolding measuredBetween measuredBy
   measured-refused = ap measuredBy is
 
   pub refused-is : (buffer : List ℕ) →
-      (setting style table formula (length buffer) ≡ refusal number place) × (bufferAfter style table formula buffer ≡ buffer)
-  unfolding setting setBy bufferAfter bufferBy
+      (settingBetween sides style table formula (length buffer) ≡ refusal number place) × (bufferBetween sides style table formula buffer ≡ buffer)
+  unfolding settingBetween setBy bufferBetween bufferBy
   refused-is buffer = (ap (setBy (length buffer)) is, ap (bufferBy buffer) is)

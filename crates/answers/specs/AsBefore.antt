@@ -1,5 +1,5 @@
--- What change request 2 leaves as it was: a formula with no style change ST and no choice C4 in it, at any depth, is answered as document
--- 01 says, whose own definitions are in `Plain` of crate setting.
+-- What change requests 2 and 4 leave as it was: a formula with no style change ST, no choice C4 and no fence FE in it, at any depth, is
+-- answered as document 01 says, whose own definitions are in `Plain` of crate setting.
 --     resultBefore         what is found of a tree, by them
 --     result-as-before     of a formula that reads to a plain tree the same is found; so measuring and setting answer the same, and the
 --                          buffer is the same (`measured-as-before`, `set-as-before`)
@@ -16,8 +16,9 @@ use Rattle.formula.specs.Tree.{Items}
 use Rattle.formula.specs.Reading.{good, readFormula}
 use Rattle.boxes.specs.declared.styles.Style.{Style}
 use Rattle.boxes.specs.Styles.{styleOf}
+use Rattle.setting.specs.Setting.{noSides}
 use Rattle.setting.specs.Plain.{Plain, setPlain, missingPlain, plainFits, set-as-before as box-as-before, missing-as-before, fits-as-before}
-use Rattle.answers.specs.Answers.{Result, refused, missingNumber, ifFits, ifPresent, ifRead, resultOf, measuredBy, measured, setBy, setting, bufferBy, bufferAfter}
+use Rattle.answers.specs.Answers.{Result, refused, missingNumber, ifFits, ifPresent, ifRead, resultOf, measuredBy, measured, measuredBetween, setBy, setting, settingBetween, bufferBy, bufferAfter, bufferBetween}
 use Rattle.answers.specs.AnswersLaws.{read-is}
 
 unfoldable pub presentBefore : Font → Style → Items → Option ℕ → Result
@@ -27,7 +28,7 @@ presentBefore F s l (some place) = refused missingNumber place
 unfoldable pub resultBefore : Font → Style → Items → Result
 resultBefore F s l = presentBefore F s l (missingPlain F s l)
 
-present-as-before : (F : Font) (s : Style) (l : Items) (o : Option ℕ) → Plain l → ifPresent F s l o ≡ presentBefore F s l o
+present-as-before : (F : Font) (s : Style) (l : Items) (o : Option ℕ) → Plain l → ifPresent F noSides s l o ≡ presentBefore F s l o
 unfolding ifPresent presentBefore
 present-as-before F s l none h = ap₂ ifFits (fits-as-before F s l h) (box-as-before F s l h)
 present-as-before F s l (some place) h = refl
@@ -38,16 +39,16 @@ module _ (style : ℕ) (table formula : List ℕ) (s : Style) (l : Items) (style
   unfolding ifRead resultBefore
   result-as-before =
       let F = fontOf table in
-      read-is style table formula s style-is table-good (good l) reads
-      ∙ ap (ifPresent F s l) (missing-as-before F s l h)
+      read-is noSides style table formula s style-is table-good (good l) reads
+      ∙ ap (ifPresent F noSides s l) (missing-as-before F s l h)
       ∙ present-as-before F s l (missingPlain F s l) h
 
   pub measured-as-before : measured style table formula ≡ measuredBy (resultBefore (fontOf table) s l)
-  unfolding measured
+  unfolding measuredBetween
   measured-as-before = ap measuredBy result-as-before
 
   pub set-as-before : (buffer : List ℕ) →
       (setting style table formula (length buffer) ≡ setBy (length buffer) (resultBefore (fontOf table) s l))
       × (bufferAfter style table formula buffer ≡ bufferBy buffer (resultBefore (fontOf table) s l))
-  unfolding setting bufferAfter
+  unfolding settingBetween bufferBetween
   set-as-before buffer = (ap (setBy (length buffer)) result-as-before, ap (bufferBy buffer) result-as-before)

@@ -8,11 +8,12 @@ use Rattle.font.specs.Chains.{next, goesOn, chainEnds}
 use Rattle.font.specs.Table.{goodTable}
 use Rattle.formula.specs.Tree.{itemsBytes, itemBytes, fieldBytes}
 use Rattle.formula.specs.Marks.{markIn, markOf}
-use Rattle.formula.specs.Heads.{atomOf, atomOpening, fractionOf, fractionOpening, kernWithin, kernOpening, styleOpening, rootOf, rootOpening, opens, openingOf, symbolHead, listHead, fieldHead}
-use Rattle.formula.specs.Reading.{listGot, fieldBy, onlyList, fieldAt, thirdAt, noadAt, listAt, choiceAt, openedBy, itemBy, before as beforeReading, restBy, listBy, readBy, read, readFormula}
+use Rattle.formula.specs.Heads.{atomOf, atomOpening, fractionOf, fractionOpening, kernWithin, kernOpening, styleOpening, rootOf, behindDelimiter, rootOpening, fenceOf as fenceRead, fenceOpening, opens, openingOf, symbolHead, listHead, fieldHead}
+use Rattle.formula.specs.Reading.{listGot, fieldBy, onlyList, heldIn, fieldAt, firstAt, thirdAt, noadAt, listAt, choiceAt, openedBy, itemBy, before as beforeReading, restBy, listBy, readBy, read, readFormula}
 use Rattle.boxes.specs.Styles.{styleOf}
 use Rattle.delimiters.specs.Delimiters.{chainBy, chain, inSizes, ofPair, candidates, extent, firstEnough, taller, tallest, taken, signFor, hasAny, hasSign}
 use Rattle.roots.specs.Roots.{root}
+use Rattle.fences.specs.Fences.{fenceOf}
 use Rattle.spacing.specs.Classes.{changedClass}
 use Rattle.spacing.specs.Spacing.{row, chart, spaceBefore}
 use Rattle.scripts.specs.Scripts.{drops, greatest, subscriptCandidates, leastUp, superscriptCandidates, pairCandidates, gapDown, ψOf, lifted, spread, pairShifts, reach, scripted}
@@ -21,11 +22,11 @@ use Rattle.fractions.specs.Fractions.{fractionShifts, parted, shiftsWithoutBar,
 use Rattle.arrange.specs.Arrange.{nucleusOf, arrange}
 use Rattle.nodes.specs.Nodes.{moved, signedBytes, nodeBytes, bytesOf}
 use Rattle.nodes.specs.Bounds.{nodesFit}
-use Rattle.setting.specs.Setting.{found, successor, enlarged, symbolIn, symbolPart, signIn, isSigned, ownNodes, itemNodes, itemBox, styleAfter, styleBehind, nextClass, classAt, placed, setItems, setItem, setField, setList}
+use Rattle.setting.specs.Setting.{found, successor, enlarged, symbolIn, symbolPart, signsIn, hasSigns, ownNodes, itemNodes, itemBox, styleAfter, styleBehind, nextClass, classAt, placed, setItems, setItem, setField, setList}
 use Rattle.setting.specs.Missing.{later, absentAt, missingItems, missingItem, missingField}
 use Rattle.setting.specs.Fitting.{boxFits, itemsFit, itemFits, fieldFits, listFits}
-use Rattle.answers.specs.Answers.{ifFits, ifPresent, ifRead, ifGood, ifStyle, resultOf, measuredBy, measured, hasRoom, setBy, setting, bufferBy, bufferAfter}
+use Rattle.answers.specs.Answers.{ifFits, ifPresent, ifRead, ifGood, ifStyle, resultBetween, measuredBy, measuredBetween, hasRoom, setBy, settingBetween, bufferBy, bufferBetween}
 
 unfoldable pub definitions : Unit {0}
-unfolding pick maxℤ minℤ half atQuad littleEndian signedWord wordOf fourBytes pieces characterCount parameterRecords characterRecords words marked parameterWords metricWords every goodParameters goodCharacter before rising goodLength goodRecords successorOf metricsOf isOf lookup fontOf next goesOn chainEnds goodTable itemsBytes itemBytes fieldBytes markIn markOf atomOf atomOpening fractionOf fractionOpening kernWithin kernOpening styleOpening rootOf rootOpening opens openingOf symbolHead listHead fieldHead listGot fieldBy onlyList fieldAt thirdAt noadAt listAt choiceAt openedBy itemBy beforeReading restBy listBy readBy read readFormula styleOf chainBy chain inSizes ofPair candidates extent firstEnough taller tallest taken signFor hasAny hasSign root changedClass row chart spaceBefore limited drops greatest subscriptCandidates leastUp superscriptCandidates pairCandidates gapDown ψOf lifted spread pairShifts reach scripted fractionShifts parted shiftsWithoutBar cleared shiftsWithBar fraction nucleusOf arrange moved signedBytes nodeBytes bytesOf found successor enlarged symbolIn symbolPart signIn isSigned ownNodes itemNodes itemBox styleAfter styleBehind nextClass classAt placed setItems setItem setField setList later absentAt missingItems missingItem missingField nodesFit boxFits itemsFit itemFits fieldFits listFits ifFits ifPresent ifRead ifGood ifStyle resultOf measuredBy measured hasRoom setBy setting bufferBy bufferAfter
+unfolding pick maxℤ minℤ half atQuad littleEndian signedWord wordOf fourBytes pieces characterCount parameterRecords characterRecords words marked parameterWords metricWords every goodParameters goodCharacter before rising goodLength goodRecords successorOf metricsOf isOf lookup fontOf next goesOn chainEnds goodTable itemsBytes itemBytes fieldBytes markIn markOf atomOf atomOpening fractionOf fractionOpening kernWithin kernOpening styleOpening rootOf behindDelimiter rootOpening fenceRead fenceOpening opens openingOf symbolHead listHead fieldHead listGot fieldBy onlyList heldIn fieldAt firstAt thirdAt noadAt listAt choiceAt openedBy itemBy beforeReading restBy listBy readBy read readFormula styleOf chainBy chain inSizes ofPair candidates extent firstEnough taller tallest taken signFor hasAny hasSign root fenceOf changedClass row chart spaceBefore limited drops greatest subscriptCandidates leastUp superscriptCandidates pairCandidates gapDown ψOf lifted spread pairShifts reach scripted fractionShifts parted shiftsWithoutBar cleared shiftsWithBar fraction nucleusOf arrange moved signedBytes nodeBytes bytesOf found successor enlarged symbolIn symbolPart signsIn hasSigns ownNodes itemNodes itemBox styleAfter styleBehind nextClass classAt placed setItems setItem setField setList later absentAt missingItems missingItem missingField nodesFit boxFits itemsFit itemFits fieldFits listFits ifFits ifPresent ifRead ifGood ifStyle resultBetween measuredBy measuredBetween hasRoom setBy settingBetween bufferBy bufferBetween
 definitions = tt

@@ -3,13 +3,17 @@
 -- (`demand-3-at`, with `ListFieldAt` of `ListFields`), and by a path (`demand-3`): the list l at `into p t`, which is in the list at p,
 -- at a spot of it, in one field of the item there. An item in the list that a choice takes is set too; the choice's lists themselves are
 -- no list fields.
---     fieldPart, fieldStyleNumber     the field's bytes, in the middle of the formula, and the style that the rules give it from the
---                  style current at its item
---     Alone        1: with those bytes as the formula and in that style, measuring accepts, and setting with room enough
+-- A formula has no neighbours, and a list field alone has those that its list sees in the whole: the list of a fence an Open before its
+-- first atom and a Close behind its last (change request 4), any other list none (`step-sides` of `ListFields`). So alone is
+-- between the field's sides.
+--     fieldPart, fieldStyleNumber, fieldSides     the field's bytes, in the middle of the formula, the style that the rules give it
+--                  from the style current at its item, and the sides that its item gives it
+--     Alone        1: with those bytes as the formula, in that style and between those sides, measuring accepts, and setting with room
+--                  enough
 --     InPlace      2: the buffer of the whole has nodes before, the field's nodes as alone but for one distance, nodes after;
 --                  of each of the field's nodes only the bytes of x and y change (`OnlyPlaceMoved` of `MovedBytes`)
 --     run          the field's nodes are those that its items give
---     SizeUsed     3: the rules take the field for a box of the size measured alone
+--     SizeUsed     3: the rules take the field for a box of the size measured alone, to which the space before a Close belongs
 --     FieldAsAlone 1 to 3, and 4: nodes before, distance and nodes after are the same for any other formula that reads as
 --                  this one but for that field's items, and has there a list of the same size
 -- It comes of the trees (`FieldInPlace` and `FieldAlone` of crate setting) and of the reading (`FieldBytes`, `ListFields`).
@@ -34,12 +38,12 @@ use Rattle.spacing.specs.Classes.{Neighbour, classOf}
 use Rattle.boxes.specs.Boxes.{Size, box}
 use Rattle.nodes.specs.Nodes.{Node, bytesOf, bytesInNode}
 use Rattle.nodes.specs.NodeLaws.{length-moved, bytes-append}
-use Rattle.setting.specs.Setting.{Box, Line, placed, setItem, setField, setList}
+use Rattle.setting.specs.Setting.{Box, Line, Sides, noSides, sidesOf, placed, setItem, setField, setList}
 use Rattle.setting.specs.Frames.{Frame, movedBy, framed}
-use Rattle.setting.specs.Paths.{fieldStyle, Step, holder, itemStyle, stepStyle, Path, into, fill, styleAt, placeOf}
+use Rattle.setting.specs.Paths.{fieldStyle, fieldManner, Step, holder, itemStyle, stepStyle, stepSides, Path, into, fill, styleAt, sidesAt, placeOf}
 use Rattle.setting.specs.FieldInPlace.{sized, itemAround, size-used, frame, field-in-place}
 use Rattle.setting.specs.FieldAlone.{missing-alone, fits-alone}
-use Rattle.answers.specs.Answers.{Answered, acceptedNumber, accepted, measured, setting, bufferAfter, resultOf, boxed}
+use Rattle.answers.specs.Answers.{Answered, acceptedNumber, accepted, measured, measuredBetween, setting, settingBetween, bufferAfter, bufferBetween, resultOf, resultBetween, boxed}
 use Rattle.answers.specs.AnswersLaws.{measured-boxed, set-boxed, buffer-boxed}
 use Rattle.answers.specs.Accepting.{Accepted, accepted-reads, Passed, passed, boxed-of}
 use Rattle.answers.specs.MovedBytes.{OnlyPlaceMoved, nodeAt, nodes-passed, moved-as, moved-at}
@@ -78,42 +82,51 @@ number-of-style s = go (s .level) (s .cramped)
 -- ---- what is shown
 
 -- setting gives measuring's answer wherever the counted nodes have room
-pub record Alone (style : ℕ) (table field : List ℕ) : Type 0 where
-  pub measured-alone : measured style table field .number ≡ acceptedNumber
-  pub set-alone : (room : ℕ) → bytesInNode * measured style table field .count ≤ room →
-      setting style table field room ≡ measured style table field
+pub record Alone (sides : Sides) (style : ℕ) (table field : List ℕ) : Type 0 where
+  pub measured-alone : measuredBetween sides style table field .number ≡ acceptedNumber
+  pub set-alone : (room : ℕ) → bytesInNode * measuredBetween sides style table field .count ≤ room →
+      settingBetween sides style table field room ≡ measuredBetween sides style table field
 
 -- the same nodes, in the buffer of the field alone and, moved, in the buffer of the whole
-pub record InPlace (style : ℕ) (table formula : List ℕ) (fieldStyle : ℕ) (field : List ℕ) (f : Frame) (nodes : List Node) :
-    Type 0 where
+pub record InPlace (style : ℕ) (table formula : List ℕ) (fieldSides : Sides) (fieldStyle : ℕ) (field : List ℕ) (f : Frame)
+    (nodes : List Node) : Type 0 where
   pub buffer-alone : (buffer : List ℕ) →
-      let bytes = bytesInNode * measured fieldStyle table field .count in
-      bytes ≤ length buffer → bufferAfter fieldStyle table field buffer ≡ bytesOf nodes ++ drop bytes buffer
+      let bytes = bytesInNode * measuredBetween fieldSides fieldStyle table field .count in
+      bytes ≤ length buffer → bufferBetween fieldSides fieldStyle table field buffer ≡ bytesOf nodes ++ drop bytes buffer
   pub buffer-of-whole : (buffer : List ℕ) →
       let bytes = bytesInNode * measured style table formula .count in
       bytes ≤ length buffer →
       bufferAfter style table formula buffer
       ≡ bytesOf (f .before) ++ (bytesOf (movedBy (f .distance) nodes) ++ (bytesOf (f .after) ++ drop bytes buffer))
-  pub count-alone : measured fieldStyle table field .count ≡ length nodes
+  pub count-alone : measuredBetween fieldSides fieldStyle table field .count ≡ length nodes
   pub count-of-whole : measured style table formula .count ≡ length (f .before) + (length nodes + length (f .after))
   pub only-places-moved : (own buffer : List ℕ) (k : ℕ) →
-      bytesInNode * measured fieldStyle table field .count ≤ length own →
+      let count = measuredBetween fieldSides fieldStyle table field .count in
+      bytesInNode * count ≤ length own →
       bytesInNode * measured style table formula .count ≤ length buffer →
-      k < measured fieldStyle table field .count →
-      OnlyPlaceMoved (f .distance) (nodeAt k (bufferAfter fieldStyle table field own))
+      k < count →
+      OnlyPlaceMoved (f .distance) (nodeAt k (bufferBetween fieldSides fieldStyle table field own))
       (nodeAt (length (f .before) + k) (bufferAfter style table formula buffer))
 
--- the field's shape, in a list in the style s, and the item that holds it: in a line of the style current at it, it is set from that
--- shape and the other two
+-- the field's shape, in a list in the style s, in the manner that its item gives it, and the item that holds it: in a line of the style
+-- current at it, it is set from that shape and the other two
 pub record SizeUsed (F : Font) (s : Style) (t : Step) (l : Items) (size : Size) : Type 0 where
-  pub shape : (enlarge : Bool) → setField F (stepStyle s t) enlarge (list l) .shape ≡ box size
+  pub shape : setField F (stepStyle s t) (fieldManner (t .kind) (t .arm) (itemStyle s t)) (list l) .shape ≡ box size
   pub holder-arranged : (right : Neighbour) (line : Line) → line .style ≡ itemStyle s t →
       setItem F right line (holder t l)
       ≡ placed F right line (classOf (t .kind))
-      (itemAround F (itemStyle s t) (t .kind) (t .arm) (sized size (setList F (stepStyle s t) l .nodes)))
+      (itemAround F (itemStyle s t) (t .kind) (t .arm) (sized size (setList F (stepSides s t) (stepStyle s t) l .nodes)))
 
 abbrev pub fieldStyleNumber : Style → Path → Step → ℕ
 fieldStyleNumber s p t = numberOf (styleAt s (into p t))
+
+abbrev pub fieldSides : Style → Path → Step → Sides
+fieldSides s p t = sidesAt s (into p t)
+
+-- what measuring answers of the field alone
+abbrev pub fieldMeasured : List ℕ → List ℕ → Style → Path → Step → Items → Answered
+fieldMeasured table formula s p t l =
+    measuredBetween (fieldSides s p t) (fieldStyleNumber s p t) table (fieldPart s (into p t) l formula)
 
 -- what stands around the field's nodes, by the path and the size that the field measures alone
 abbrev pub around : List ℕ → Style → Path → Step → Size → Frame
@@ -121,48 +134,47 @@ around table s p t size = frame (fontOf table) s (into p t) size
 
 -- the nodes that the list's items give, with all they hold
 abbrev pub run : List ℕ → Style → Path → Step → Items → List Node
-run table s p t l = setList (fontOf table) (styleAt s (into p t)) l .nodes
+run table s p t l = setList (fontOf table) (fieldSides s p t) (styleAt s (into p t)) l .nodes
+
+-- 2, for a field of this size
+abbrev pub StandsIn : ℕ → List ℕ → List ℕ → Style → Path → Step → Items → Size → Type 0
+StandsIn style table formula s p t l size =
+    InPlace style table formula (fieldSides s p t) (fieldStyleNumber s p t) (fieldPart s (into p t) l formula)
+    (around table s p t size) (run table s p t l)
 
 pub record FieldAsAlone (style : ℕ) (table formula : List ℕ) (s : Style) (p : Path) (t : Step) (l : Items) : Type 0 where
-  pub alone : Alone (fieldStyleNumber s p t) table (fieldPart s (into p t) l formula)
-  pub in-place :
-      let n = fieldStyleNumber s p t in
-      let field = fieldPart s (into p t) l formula in
-      InPlace style table formula n field (around table s p t (measured n table field .size)) (run table s p t l)
-  pub size-used :
-      let size = measured (fieldStyleNumber s p t) table (fieldPart s (into p t) l formula) .size in
-      SizeUsed (fontOf table) (styleAt s p) t l size
+  pub alone : Alone (fieldSides s p t) (fieldStyleNumber s p t) table (fieldPart s (into p t) l formula)
+  pub in-place : StandsIn style table formula s p t l (fieldMeasured table formula s p t l .size)
+  pub size-used : SizeUsed (fontOf table) (styleAt s p) t l (fieldMeasured table formula s p t l .size)
   pub same-outside : (other : List ℕ) (m : Items) →
-      let n = fieldStyleNumber s p t in
-      let size = measured n table (fieldPart s (into p t) l formula) .size in
-      let field = fieldPart s (into p t) m other in
-      Accepted style table other s (fill s (into p t) m) → measured n table field .size ≡ size →
-      InPlace style table other n field (around table s p t size) (run table s p t m)
+      let size = fieldMeasured table formula s p t l .size in
+      Accepted style table other s (fill s (into p t) m) → fieldMeasured table other s p t m .size ≡ size →
+      StandsIn style table other s p t m size
 
 -- ---- the proof
 
 -- from the boxes of the whole and of the field
-in-place-by : (style : ℕ) (table formula : List ℕ) (n : ℕ) (field : List ℕ) (w b : Box) (f : Frame) →
-    resultOf style table formula ≡ boxed w → resultOf n table field ≡ boxed b → w .nodes ≡ framed f (b .nodes) →
-    InPlace style table formula n field f (b .nodes)
-in-place-by style table formula n field w b f whole-is alone-is e =
+in-place-by : (style : ℕ) (table formula : List ℕ) (sides : Sides) (n : ℕ) (field : List ℕ) (w b : Box) (f : Frame) →
+    resultOf style table formula ≡ boxed w → resultBetween sides n table field ≡ boxed b → w .nodes ≡ framed f (b .nodes) →
+    InPlace style table formula sides n field f (b .nodes)
+in-place-by style table formula sides n field w b f whole-is alone-is e =
     record {
-      buffer-alone = buffer-boxed n table field b alone-is;
+      buffer-alone = buffer-boxed sides n table field b alone-is;
       buffer-of-whole = whole-buffer;
       count-alone = count-alone;
       count-of-whole =
-          ap (λ (a : Answered). a .count) (measured-boxed style table formula w whole-is)
+          ap (λ (a : Answered). a .count) (measured-boxed noSides style table formula w whole-is)
           ∙ ap length e
           ∙ simp (length-append, length-moved);
       only-places-moved = λ own buffer k enough-alone enough within.
           moved-as (f .distance)
-          (ap (nodeAt k) (buffer-boxed n table field b alone-is own enough-alone))
+          (ap (nodeAt k) (buffer-boxed sides n table field b alone-is own enough-alone))
           (ap (nodeAt (length (f .before) + k)) (whole-buffer buffer enough) ∙ nodes-passed (f .before) k _)
           (moved-at (f .distance) (b .nodes) k _ _ (omega (arith, count-alone)));
     }
   where
-    count-alone : measured n table field .count ≡ length (b .nodes)
-    count-alone = ap (λ (a : Answered). a .count) (measured-boxed n table field b alone-is)
+    count-alone : measuredBetween sides n table field .count ≡ length (b .nodes)
+    count-alone = ap (λ (a : Answered). a .count) (measured-boxed sides n table field b alone-is)
 
     whole-buffer : (buffer : List ℕ) →
         let bytes = bytesInNode * measured style table formula .count in
@@ -171,13 +183,16 @@ in-place-by style table formula n field w b f whole-is alone-is e =
         ≡ bytesOf (f .before) ++ (bytesOf (movedBy (f .distance) (b .nodes)) ++ (bytesOf (f .after) ++ drop bytes buffer))
     whole-buffer buffer enough =
         let rest = drop (bytesInNode * measured style table formula .count) buffer in
-        buffer-boxed style table formula w whole-is buffer enough
+        buffer-boxed noSides style table formula w whole-is buffer enough
         ∙ ap (λ (ns : List Node). bytesOf ns ++ rest) e
         ∙ simp (bytes-append, append-assoc)
 
 module _ (style : ℕ) (table formula : List ℕ) (s : Style) (p : Path) (t : Step) (l : Items) where
+  abbrev fieldBox : Box
+  fieldBox = setList (fontOf table) (fieldSides s p t) (styleAt s (into p t)) l
+
   module _ (h : Accepted style table formula s (fill s (into p t) l)) where
-    field-passed : Passed table (styleAt s (into p t)) l
+    field-passed : Passed (fieldSides s p t) table (styleAt s (into p t)) l
     field-passed =
         let w = passed h in
         record {
@@ -186,52 +201,46 @@ module _ (style : ℕ) (table formula : List ℕ) (s : Style) (p : Path) (t : St
           fits = fits-alone (fontOf table) s (into p t) l (w .fits);
         }
 
-    whole-boxed : resultOf style table formula ≡ boxed (setList (fontOf table) s (fill s (into p t) l))
-    whole-boxed = boxed-of style table formula s (fill s (into p t) l) (h .style-is) (h .reads) (passed h)
+    whole-boxed : resultOf style table formula ≡ boxed (setList (fontOf table) noSides s (fill s (into p t) l))
+    whole-boxed = boxed-of noSides style table formula s (fill s (into p t) l) (h .style-is) (h .reads) (passed h)
 
-    field-boxed : resultOf (fieldStyleNumber s p t) table (fieldPart s (into p t) l formula)
-        ≡ boxed (setList (fontOf table) (styleAt s (into p t)) l)
+    field-boxed : resultBetween (fieldSides s p t) (fieldStyleNumber s p t) table (fieldPart s (into p t) l formula) ≡ boxed fieldBox
     field-boxed =
-        boxed-of (fieldStyleNumber s p t) table (fieldPart s (into p t) l formula) (styleAt s (into p t)) l
+        boxed-of (fieldSides s p t) (fieldStyleNumber s p t) table (fieldPart s (into p t) l formula) (styleAt s (into p t)) l
         (number-of-style (styleAt s (into p t))) (field-reads formula s (into p t) l (h .reads)) field-passed
 
-    field-measured : measured (fieldStyleNumber s p t) table (fieldPart s (into p t) l formula)
-        ≡ accepted (setList (fontOf table) (styleAt s (into p t)) l)
-    field-measured = measured-boxed (fieldStyleNumber s p t) table (fieldPart s (into p t) l formula) _ field-boxed
+    field-measured : fieldMeasured table formula s p t l ≡ accepted fieldBox
+    field-measured = measured-boxed (fieldSides s p t) (fieldStyleNumber s p t) table (fieldPart s (into p t) l formula) _ field-boxed
 
-    field-alone : Alone (fieldStyleNumber s p t) table (fieldPart s (into p t) l formula)
+    field-alone : Alone (fieldSides s p t) (fieldStyleNumber s p t) table (fieldPart s (into p t) l formula)
     field-alone =
         record {
           measured-alone = ap (λ (a : Answered). a .number) field-measured;
-          set-alone = set-boxed (fieldStyleNumber s p t) table (fieldPart s (into p t) l formula) _ field-boxed;
+          set-alone = set-boxed (fieldSides s p t) (fieldStyleNumber s p t) table (fieldPart s (into p t) l formula) _ field-boxed;
         }
 
     -- for any size that is the one measured
-    field-stands : (size : Size) → measured (fieldStyleNumber s p t) table (fieldPart s (into p t) l formula) .size ≡ size →
-        InPlace style table formula (fieldStyleNumber s p t) (fieldPart s (into p t) l formula) (around table s p t size)
-        (run table s p t l)
+    field-stands : (size : Size) → fieldMeasured table formula s p t l .size ≡ size → StandsIn style table formula s p t l size
     field-stands size e =
         let F = fontOf table in
-        let b = setList F (styleAt s (into p t)) l in
-        let same : b .size ≡ size = ap (λ (a : Answered). a .size) (sym field-measured) ∙ e in
-        in-place-by style table formula (fieldStyleNumber s p t) (fieldPart s (into p t) l formula) _ b
+        let same : fieldBox .size ≡ size = ap (λ (a : Answered). a .size) (sym field-measured) ∙ e in
+        in-place-by style table formula (fieldSides s p t) (fieldStyleNumber s p t) (fieldPart s (into p t) l formula) _ fieldBox
         (frame F s (into p t) size) whole-boxed field-boxed
         (ap (λ (w : Box). w .nodes) (field-in-place F s (into p t) l)
-        ∙ ap (λ (z : Size). framed (frame F s (into p t) z) (b .nodes)) same)
+        ∙ ap (λ (z : Size). framed (frame F s (into p t) z) (fieldBox .nodes)) same)
 
-    field-used :
-        let size = measured (fieldStyleNumber s p t) table (fieldPart s (into p t) l formula) .size in
-        SizeUsed (fontOf table) (styleAt s p) t l size
+    field-used : SizeUsed (fontOf table) (styleAt s p) t l (fieldMeasured table formula s p t l .size)
     unfolding setField setList
     field-used =
         let F = fontOf table in
         let kind = t .kind in
         let g = t .arm in
         record {
-          shape = λ enlarge. ap (λ (a : Answered). box (a .size)) (sym field-measured);
+          shape = ap (λ (a : Answered). box (a .size)) (sym field-measured);
           holder-arranged = λ right line e.
               rw field-measured (size-used F right line kind g l
-              ∙ ap (λ (u : Style). placed F right line (classOf kind) (itemAround F u kind g (setList F (fieldStyle kind g u) l))) e);
+              ∙ ap (λ (u : Style). placed F right line (classOf kind)
+              (itemAround F u kind g (setList F (sidesOf (fieldManner kind g u)) (fieldStyle kind g u) l))) e);
         }
 
 pub demand-3 : (style : ℕ) (table formula : List ℕ) (s : Style) (p : Path) (t : Step) (l : Items) →
@@ -246,21 +255,23 @@ demand-3 style table formula s p t l h =
 
 -- ---- by the place of a field's kind byte
 
--- what `FieldAsAlone` says, of the list field that has its kind byte at this place of the formula, the style v by the rules, and holds
--- these bytes; s is the formula's style
-pub record ListFieldAsAlone (style : ℕ) (table formula : List ℕ) (s : Style) (place : ℕ) (v : Style) (field : List ℕ) : Type 0 where
+-- what `FieldAsAlone` says, of the list field that has its kind byte at this place of the formula, the style v and these sides by the
+-- rules, and holds these bytes; s is the formula's style
+pub record ListFieldAsAlone (style : ℕ) (table formula : List ℕ) (s : Style) (place : ℕ) (v : Style) (sides : Sides) (field : List ℕ) :
+    Type 0 where
   pub p : Path
   pub t : Step
   pub reads : Accepted style table formula s (fill s (into p t) (treeOf field))
   pub place-is : placeOf s (into p t) ≡ place + listOpeningBytes
   pub style-is : styleAt s (into p t) ≡ v
+  pub sides-are : sidesAt s (into p t) ≡ sides
   pub part-is : fieldPart s (into p t) (treeOf field) formula ≡ field
   pub as-alone : FieldAsAlone style table formula s p t (treeOf field)
 
 pub demand-3-at : (style : ℕ) (table formula : List ℕ) (room : ℕ) → setting style table formula room .number ≡ acceptedNumber →
-    (s : Style) → styleOf style ≡ some s → (place : ℕ) (v : Style) (field : List ℕ) → ListFieldAt s formula place v field →
-    ListFieldAsAlone style table formula s place v field
-demand-3-at style table formula room e s is place v field f =
+    (s : Style) → styleOf style ≡ some s → (place : ℕ) (v : Style) (sides : Sides) (field : List ℕ) →
+    ListFieldAt s formula place v sides field → ListFieldAsAlone style table formula s place v sides field
+demand-3-at style table formula room e s is place v sides field f =
     let a = accepted-reads style table formula room e in
     let h = a .2 in
     let read = read-formula formula (a .1) (h .reads) .1 in
@@ -275,6 +286,7 @@ demand-3-at style table formula room e s is place v field f =
       reads = reads;
       place-is = w .there;
       style-is = w .style;
+      sides-are = w .between;
       part-is = ap (λ (n : ℕ). take n (drop (placeOf s (into (w .p) (w .t))) formula)) (items-bytes field (w .readable)) ∙ sym (w .part);
       as-alone = demand-3 style table formula s (w .p) (w .t) (treeOf field) reads;
     }

@@ -1,7 +1,9 @@
 -- The worked examples of document 01, computed by the definition from bytes: P1 to P12 as one table under one statement,
 -- `examples-hold`, and the underlined a with the 36 bytes of its two nodes, `underlined-set` and `underlined-buffer`. Of change
 -- request 2, `display-from-here`: in T, an ST in the list that a C4 takes makes the operator behind it that of P12. Of request 3,
--- `roots-hold`: the bench's sum is tall enough for the root of a, and its successor for the root of that; a root without a sign.
+-- `roots-hold`: the bench's sum is tall enough for the root of a, and its successor for the root of that; a root without a sign. Of
+-- request 4, `fences-hold`: the sum on either side of a Punct, with the space before the unseen Close, and a superscript; a Bin between the
+-- unseen atoms, which is an Ord, with a blank for the absent delimiter on its left.
 -- Assumes nothing.
 use mathlib.Core.Path.{_≡_, refl}
 use mathlib.Core.List.{List, [], _∷_, _++_, map}
@@ -43,6 +45,9 @@ ord = 0
 
 abbrev op : ℕ
 op = 1
+
+abbrev punct : ℕ
+punct = 6
 
 abbrev plus : List ℕ
 plus = alone 2 (symbol 2 43)
@@ -190,6 +195,34 @@ roots =
 roots-hold : map computed roots ≡ map stated roots
 unfolding definitions benchTable roots computed stated
 roots-hold = refl
+
+-- ---- fences
+
+-- F, E with delimiters on the left and on the right: no symbol, or the sum
+abbrev blank : List ℕ
+blank = 0 ∷ 0 ∷ 0 ∷ 0 ∷ []
+
+abbrev sum : List ℕ
+sum = 3 ∷ 80 ∷ 3 ∷ 80 ∷ []
+
+abbrev fence : List ℕ → List ℕ → List ℕ → List ℕ → List ℕ
+fence left right inside superscript = 70 ∷ 69 ∷ (left ++ right ++ inside ++ superscript ++ empty)
+
+fences : List Example
+fences =
+    example (fence sum sum (sublist 9 (alone punct a)) a) T (pos 35933) (pos 800) (pos 250)
+    (glyph (pos 0) (pos 750) 0 3 80
+    ∷ glyph (pos 1000) (pos 0) 0 1 97
+    ∷ glyph (pos 1665) (pos 750) 0 3 80
+    ∷ glyph (pos 2665) (pos 370) 1 1 97
+    ∷ [])
+    ∷ example (fence blank sum (sublist 9 plus) empty) T (pos 80423) (pos 750) (pos 250)
+    (glyph (pos 78643) (pos 0) 0 2 43 ∷ glyph (pos 79423) (pos 750) 0 3 80 ∷ [])
+    ∷ []
+
+fences-hold : map computed fences ≡ map stated fences
+unfolding definitions benchTable fences computed stated
+fences-hold = refl
 
 -- ---- the underlined a, in T, with a buffer that has two bytes more than its nodes need
 

@@ -6,26 +6,34 @@
 -- 29 (`chosen-by-place`), in the style S, and moved 500 across and 420 up, as in D.
 -- The nucleus of a root is the list field at 6 (`nucleus-by-place`), in the style T'; the sign that reaches over it and the rule stand
 -- before it, and it is moved 1000 across, as wide as the sign is.
+-- A fence's list, a Punct, is the list field at 10 (`inside-by-place`), between an Open and a Close: alone between them it is 665 wide, with
+-- the space before the Close, 165, as a formula without neighbours 500 (`inside-width`). A delimiter stands before it and one behind it,
+-- 665 behind the list's own place.
 -- Assumes nothing.
 use mathlib.Core.Path.{_≡_, refl}
 use mathlib.Core.List.{List, [], _∷_, _++_}
 use Prim.Native.Nat.{ℕ}
+use native.Mathlib.Omega.{arith}
 use lib.IntN.{pos}
 use lib.ListN.{take, drop}
 use Rattle.words.specs.Words.{littleEndian}
-use Rattle.formula.specs.declared.Class.the-variants.{Ord}
+use Rattle.formula.specs.declared.Class.the-variants.{Ord, Punct}
 use Rattle.formula.specs.declared.Limits.the-variants.{DisplayOnly}
-use Rattle.formula.specs.declared.Base.the-variants.{Atom, Under, Root}
+use Rattle.formula.specs.declared.Base.the-variants.{Atom, Under, Root, Fence}
 use Rattle.formula.specs.declared.Kind.{Kind}
 use Rattle.formula.specs.declared.Kind.the-variants.{Scripted}
-use Rattle.formula.specs.Heads.{delimiter}
-use Rattle.formula.specs.Tree.{Items, Field, nil, cons, noad, restyle, choice, empty, symbol}
+use Rattle.formula.specs.declared.Delimiter.{Delimiter}
+use Rattle.formula.specs.declared.Opening.the-variants.{Fields}
+use Rattle.formula.specs.Heads.{delimiter, openingOf}
+use Rattle.formula.specs.Tree.{Items, Field, nil, cons, noad, restyle, choice, empty, symbol, openingBytes}
 use Rattle.boxes.specs.declared.styles.Level.the-variants.{Display, Text, Script}
 use Rattle.boxes.specs.declared.styles.Style.{Style}
 use Rattle.boxes.specs.Styles.{plain, cramp}
+use Rattle.arrange.specs.Arrange.{firstStyle, firstManner}
 use Rattle.nodes.specs.Nodes.{glyph, rule}
+use Rattle.setting.specs.Setting.{Sides, noSides, fenceSides, sidesOf}
 use Rattle.setting.specs.Paths.{inFirst, inSecond, among, within, Step, whole, into, fill}
-use Rattle.answers.specs.Answers.{measured}
+use Rattle.answers.specs.Answers.{measured, measuredBetween}
 use Rattle.answers.specs.BenchTable.{benchTable}
 use Rattle.answers.specs.Definitions.{definitions}
 use Rattle.answers.specs.Accepting.{Accepted}
@@ -83,7 +91,13 @@ superscript-frame = refl
 
 -- ---- by the place of the kind byte
 
-superscript-at : ListFieldAt (plain Text) formula 16 (plain Script) atomBytes
+-- a list field of a formula that the bench table accepts in T
+by-place : (formula : List ℕ) {l : Items} {place : ℕ} {v : Style} {sides : Sides} {field : List ℕ} →
+    Accepted T benchTable formula (plain Text) l → ListFieldAt (plain Text) formula place v sides field →
+    ListFieldAsAlone T benchTable formula (plain Text) place v sides field
+by-place formula h f = demand-3-at T benchTable formula (h .room) (h .is-accepted) (plain Text) (h .style-is) _ _ _ _ f
+
+superscript-at : ListFieldAt (plain Text) formula 16 (plain Script) noSides atomBytes
 unfolding definitions
 superscript-at =
     own (record {
@@ -99,35 +113,38 @@ superscript-at =
       is-list = listField 9 0 (atomBytes ++ (0 ∷ []));
     })
 
-pub superscript-by-place : ListFieldAsAlone T benchTable formula (plain Text) 16 (plain Script) atomBytes
-unfolding definitions
-superscript-by-place =
-    demand-3-at T benchTable formula (is-accepted .room) (is-accepted .is-accepted) (plain Text) refl 16 (plain Script) atomBytes
-    superscript-at
+pub superscript-by-place : ListFieldAsAlone T benchTable formula (plain Text) 16 (plain Script) noSides atomBytes
+superscript-by-place = by-place formula is-accepted superscript-at
 
--- an underlined list
-underlined : (u : Style) (low high : ℕ) (rest : List ℕ) →
-    OwnListField u (85 ∷ 78 ∷ 2 ∷ low ∷ high ∷ rest) 2 u (take (littleEndian 2 (low ∷ high ∷ [])) rest)
-unfolding definitions
-underlined u low high rest =
+-- a list in the first field of the first item
+in-first : (u : Style) (s : List ℕ) (kind : Kind) (low high : ℕ) (rest : List ℕ) → openingOf s ≡ Fields kind →
+    drop (openingBytes kind) s ≡ 2 ∷ low ∷ high ∷ rest →
+    OwnListField u s (openingBytes kind) (firstStyle kind u) (sidesOf (firstManner kind u)) (take (littleEndian 2 (low ∷ high ∷ [])) rest)
+in-first u s kind low high rest opens there =
     record {
       item-place = 0;
       item-style = u;
-      item = 85 ∷ 78 ∷ 2 ∷ low ∷ high ∷ rest;
+      item = s;
       is-set = inList first;
-      kind = Scripted Under;
-      opens = refl;
-      field-place = 2;
+      kind = kind;
+      opens = opens;
+      field-place = openingBytes kind;
       in-item = inOne;
-      place-is = refl;
-      is-list = listField low high rest;
+      place-is = omega arith;
+      is-list = rw there (listField low high rest);
     }
+
+-- an underlined list
+underlined : (u : Style) (low high : ℕ) (rest : List ℕ) →
+    OwnListField u (85 ∷ 78 ∷ 2 ∷ low ∷ high ∷ rest) 2 u noSides (take (littleEndian 2 (low ∷ high ∷ [])) rest)
+unfolding definitions
+underlined u low high rest = in-first u (85 ∷ 78 ∷ 2 ∷ low ∷ high ∷ rest) (Scripted Under) low high rest refl refl
 
 abbrev emptyUnderlined : List ℕ
 emptyUnderlined = 85 ∷ 78 ∷ 2 ∷ 0 ∷ 0 ∷ 0 ∷ 0 ∷ []
 
 -- the empty list within the list that is underlined
-pub nested-at : (u : Style) → ListFieldAt u (85 ∷ 78 ∷ 2 ∷ 7 ∷ 0 ∷ (emptyUnderlined ++ (0 ∷ 0 ∷ []))) 7 u []
+pub nested-at : (u : Style) → ListFieldAt u (85 ∷ 78 ∷ 2 ∷ 7 ∷ 0 ∷ (emptyUnderlined ++ (0 ∷ 0 ∷ []))) 7 u noSides []
 unfolding definitions
 nested-at u =
     deeper (own (underlined u 7 0 (emptyUnderlined ++ (0 ∷ 0 ∷ [])))) (underlined u 0 0 (0 ∷ 0 ∷ []))
@@ -174,7 +191,7 @@ pub chosen-frame :
 unfolding definitions benchTable
 chosen-frame = refl
 
-chosen-at : ListFieldAt (plain Text) chosen 29 (plain Script) atomBytes
+chosen-at : ListFieldAt (plain Text) chosen 29 (plain Script) noSides atomBytes
 unfolding definitions
 chosen-at =
     own (record {
@@ -193,11 +210,8 @@ chosen-at =
     past-first : ItemAt (plain Text) chosen 17 (plain Display)
     past-first = pastChoice 0 refl (listField 3 0 (drop 8 chosen)) (pastStyle 0 0 refl refl first) first
 
-pub chosen-by-place : ListFieldAsAlone T benchTable chosen (plain Text) 29 (plain Script) atomBytes
-unfolding definitions
-chosen-by-place =
-    demand-3-at T benchTable chosen (chosen-accepted .room) (chosen-accepted .is-accepted) (plain Text) refl 29 (plain Script) atomBytes
-    chosen-at
+pub chosen-by-place : ListFieldAsAlone T benchTable chosen (plain Text) 29 (plain Script) noSides atomBytes
+chosen-by-place = by-place chosen chosen-accepted chosen-at
 
 -- ---- in a root
 
@@ -225,24 +239,59 @@ pub nucleus-frame :
 unfolding definitions benchTable
 nucleus-frame = refl
 
-nucleus-at : ListFieldAt (plain Text) rooted 6 (cramp Text) atomBytes
+nucleus-at : ListFieldAt (plain Text) rooted 6 (cramp Text) noSides atomBytes
 unfolding definitions
-nucleus-at =
-    own (record {
-      item-place = 0;
-      item-style = plain Text;
-      item = rooted;
-      is-set = inList first;
-      kind = root;
-      opens = refl;
-      field-place = 6;
-      in-item = inOne;
-      place-is = refl;
-      is-list = listField 9 0 (atomBytes ++ (0 ∷ 0 ∷ []));
-    })
+nucleus-at = own (in-first (plain Text) rooted root 9 0 (atomBytes ++ (0 ∷ 0 ∷ [])) refl refl)
 
-pub nucleus-by-place : ListFieldAsAlone T benchTable rooted (plain Text) 6 (cramp Text) atomBytes
+pub nucleus-by-place : ListFieldAsAlone T benchTable rooted (plain Text) 6 (cramp Text) noSides atomBytes
+nucleus-by-place = by-place rooted rooted-accepted nucleus-at
+
+-- ---- in a fence
+
+-- a as a Punct
+abbrev punctBytes : List ℕ
+punctBytes = 65 ∷ 84 ∷ 6 ∷ 0 ∷ 1 ∷ 1 ∷ 97 ∷ 0 ∷ 0 ∷ []
+
+abbrev punctAlone : Items
+punctAlone = cons (noad (Scripted (Atom Punct DisplayOnly)) a empty empty) nil
+
+-- the sum on either side of it
+abbrev enclosed : List ℕ
+enclosed = 70 ∷ 69 ∷ 3 ∷ 80 ∷ 3 ∷ 80 ∷ 3 ∷ 80 ∷ 3 ∷ 80 ∷ 2 ∷ 9 ∷ 0 ∷ (punctBytes ++ (0 ∷ 0 ∷ []))
+
+abbrev sum : Delimiter
+sum = delimiter 3 80 3 80
+
+abbrev fence : Kind
+fence = Scripted (Fence sum sum)
+
+abbrev inside : Step
+inside = record { spot = among nil nil; kind = fence; arm = inFirst empty empty }
+
+enclosed-accepted : Accepted T benchTable enclosed (plain Text) (fill (plain Text) (into whole inside) punctAlone)
+unfolding definitions benchTable
+enclosed-accepted = record { style-is = refl; reads = refl; room = 54; is-accepted = refl }
+
+-- alone, between its sides and as a formula
+pub inside-width :
+    measuredBetween fenceSides T benchTable punctBytes .size .width ∷ measured T benchTable punctBytes .size .width ∷ []
+    ≡ pos 665 ∷ pos 500 ∷ []
+unfolding definitions benchTable
+inside-width = refl
+
+pub inside-frame :
+    around benchTable (plain Text) whole inside (measuredBetween fenceSides T benchTable punctBytes .size)
+    ≡ record {
+      before = glyph (pos 0) (pos 750) 0 3 80 ∷ [];
+      distance = record { across = pos 1000; up = pos 0 };
+      after = glyph (pos 1665) (pos 750) 0 3 80 ∷ [];
+    }
+unfolding definitions benchTable
+inside-frame = refl
+
+inside-at : ListFieldAt (plain Text) enclosed 10 (plain Text) fenceSides punctBytes
 unfolding definitions
-nucleus-by-place =
-    demand-3-at T benchTable rooted (rooted-accepted .room) (rooted-accepted .is-accepted) (plain Text) refl 6 (cramp Text) atomBytes
-    nucleus-at
+inside-at = own (in-first (plain Text) enclosed fence 9 0 (punctBytes ++ (0 ∷ 0 ∷ [])) refl refl)
+
+pub inside-by-place : ListFieldAsAlone T benchTable enclosed (plain Text) 10 (plain Text) fenceSides punctBytes
+inside-by-place = by-place enclosed enclosed-accepted inside-at

@@ -1,5 +1,5 @@
--- The answers; their laws; how small they are; measuring and setting agree; a formula without style changes and choices is answered
--- as before; a list field in the whole as it stands alone; the worked examples. Assumes nothing.
+-- The answers; their laws; how small they are; measuring and setting agree; a formula without style changes, choices and fences is
+-- answered as before; a list field in the whole as it stands alone; the worked examples. Assumes nothing.
 pub mod Answers
 pub mod AnswersLaws
 pub mod Small

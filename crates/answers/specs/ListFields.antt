@@ -1,15 +1,17 @@
--- The list fields that are set of a formula, by the places of their kind bytes, and the styles that the rules give them, from the
--- bytes and the formula's style alone (document 01, "Bytes of a formula"; change request 2).
+-- The list fields that are set of a formula, by the places of their kind bytes, with the styles that the rules give them and the
+-- neighbours that they see on their sides, from the bytes and the formula's style alone (document 01, "Bytes of a formula"; change
+-- requests 2 and 4).
 --     takenPlace     the lists of C4 stand one behind the other, the first behind the mark, and the style takes one
 --     ItemAt         a list is a row of items, each right behind the one before it. The style stays but past ST, which sets it, and past
 --                    C4, where it is that at the end of the taken list
 --     SetItem        an item that is set: an item of the list, or one of the list that a C4 takes
---     FieldAt        an item's fields stand one behind the other, the first behind the opening; each has its style
+--     FieldAt        an item's fields stand one behind the other, the first behind the opening; each has its style, and its sides, which
+--                    are none but for the first field of an item that holds a list, a fence (`field-sides`, `step-sides`)
 --     ListField      a list field is the byte 2, two bytes of length and that many bytes of items
 --     OwnListField   a list field of an item that is set in the list itself
 --     ListFieldAt    a list field at any depth: the items within a list field are looked at in the same way
 -- Every one of them is reached by a path (`reached`): the formula's tree is the path filled with the tree of the field's bytes, and the
--- path leads to the place of these bytes, and gives them this style.
+-- path leads to the place of these bytes, and gives them this style and these sides.
 -- Assumes nothing.
 use mathlib.Core.Path.{_≡_, refl, sym, subst, ap, _∙_}
 use mathlib.Core.Bool.{Bool, true, false}
@@ -27,21 +29,21 @@ use Rattle.formula.specs.declared.Kind.{Kind}
 use Rattle.formula.specs.declared.Opening.{Opening}
 use Rattle.formula.specs.declared.Opening.the-variants.{Fields, Kern, Restyle, Choice}
 use Rattle.formula.specs.declared.FieldHead.{FieldHead}
-use Rattle.formula.specs.declared.FieldHead.the-variants.{NoField, Empty, Symbol, Sublist, CutSublist}
-use Rattle.formula.specs.Tree.{Items, Item, Field, nil, cons, noad, list, openingBytes, listOpeningBytes, sublistBytes, itemsBytes}
+use Rattle.formula.specs.declared.FieldHead.the-variants.{Sublist, CutSublist}
+use Rattle.formula.specs.Tree.{Items, Item, Field, nil, cons, noad, list, openingBytes, holdsList, listOpeningBytes, sublistBytes, itemsBytes}
 use Rattle.formula.specs.Heads.{openingOf, listHead, fieldHead}
 use Rattle.formula.specs.HeadLaws.{opening-fits}
-use Rattle.formula.specs.Places.{Readable, treeOf, headBytes, fieldOf, GoodField, listOf, GoodList, choiceLists, hasThird, openedBytes, headAt, second, third, listPlace, itemSize, fieldIn, thirdIn, listIn, itemOf}
-use Rattle.formula.specs.PlacesLaws.{tree-none, Noad, noad-at, choice-at, step, third-good, item-bytes, field-bytes, list-bytes}
+use Rattle.formula.specs.Places.{Readable, treeOf, headBytes, fieldOf, GoodField, listOf, choiceLists, hasThird, openedBytes, headAt, second, third, listPlace, itemSize, fieldIn, thirdIn, listIn, itemOf}
+use Rattle.formula.specs.PlacesLaws.{tree-none, Noad, noad-at, choice-at, step, third-good, list-good-field, item-bytes, field-bytes, list-bytes}
 use Rattle.boxes.specs.declared.styles.Level.{Level}
 use Rattle.boxes.specs.declared.styles.Level.the-variants.{Display, Text, Script, Scriptscript}
 use Rattle.boxes.specs.declared.styles.Style.{Style}
 use Rattle.boxes.specs.Styles.{styleOf}
-use Rattle.arrange.specs.Arrange.{firstStyle, secondStyle, thirdStyle}
-use Rattle.setting.specs.Setting.{taken, styleAfter, styleBehind}
-use Rattle.setting.specs.SettingLaws.{taken-all, styleBehind-choice}
+use Rattle.arrange.specs.Arrange.{firstStyle, secondStyle, thirdStyle, firstManner}
+use Rattle.setting.specs.Setting.{taken, styleAfter, styleBehind, Sides, noSides, sidesOf}
+use Rattle.setting.specs.SettingLaws.{heldSides, first-sides, taken-all, styleBehind-choice}
 use Rattle.setting.specs.Lines.{styleAfter-join}
-use Rattle.setting.specs.Paths.{Arm, inFirst, inSecond, inThird, holding, fieldStyle, fieldPlace, join, choiceWith, listPlace as placeAmong, Spot, among, within, put, itemsBefore, spotPlace, Step, listWith, stepStyle, stepPlace, Path, whole, into, fill, styleAt, placeOf}
+use Rattle.setting.specs.Paths.{Arm, inFirst, inSecond, inThird, holding, fieldStyle, fieldManner, fieldPlace, join, choiceWith, listPlace as placeAmong, Spot, among, within, put, itemsBefore, spotPlace, Step, listWith, itemStyle, stepStyle, stepSides, stepPlace, Path, whole, into, fill, styleAt, sidesAt, placeOf}
 use Rattle.answers.specs.FieldBytes.{PartAt, part-behind, part-within}
 
 -- ---- what stands where
@@ -79,14 +81,16 @@ pub data SetItem : Style → List ℕ → ℕ → Style → List ℕ → Type 0 
       ListField (drop (takenPlace v (drop at s)) (drop at s)) inner → SetItem v inner k w item →
       SetItem u s (at + (takenPlace v (drop at s) + listOpeningBytes) + k) w item
 
--- a place of a field of the item that s begins with, which is of this kind and in the style u, and the field's style
-pub data FieldAt (s : List ℕ) (kind : Kind) (u : Style) : ℕ → Style → Type 0 where
-  inOne : FieldAt s kind u (openingBytes kind) (firstStyle kind u)
-  inTwo : FieldAt s kind u (second s kind) (secondStyle kind u)
-  inThree : hasThird kind ≡ true → FieldAt s kind u (third s kind) (thirdStyle u)
+-- a place of a field of the item that s begins with, which is of this kind and in the style u, the field's style, and its
+-- sides
+pub data FieldAt (s : List ℕ) (kind : Kind) (u : Style) : ℕ → Style → Sides → Type 0 where
+  inOne : FieldAt s kind u (openingBytes kind) (firstStyle kind u) (sidesOf (firstManner kind u))
+  inTwo : FieldAt s kind u (second s kind) (secondStyle kind u) noSides
+  inThree : hasThird kind ≡ true → FieldAt s kind u (third s kind) (thirdStyle u) noSides
 
--- an item that is set in the list s, which starts in the style u, has at this place of s the kind byte of a list field in the style v
-pub record OwnListField (u : Style) (s : List ℕ) (place : ℕ) (v : Style) (field : List ℕ) : Type 0 where
+-- an item that is set in the list s, which starts in the style u, has at this place of s the kind byte of a list field in the style v,
+-- between these sides
+pub record OwnListField (u : Style) (s : List ℕ) (place : ℕ) (v : Style) (sides : Sides) (field : List ℕ) : Type 0 where
   pub item-place : ℕ
   pub item-style : Style
   pub item : List ℕ
@@ -94,15 +98,34 @@ pub record OwnListField (u : Style) (s : List ℕ) (place : ℕ) (v : Style) (fi
   pub kind : Kind
   pub opens : openingOf item ≡ Fields kind
   pub field-place : ℕ
-  pub in-item : FieldAt item kind item-style field-place v
+  pub in-item : FieldAt item kind item-style field-place v sides
   pub place-is : place ≡ item-place + field-place
   pub is-list : ListField (drop field-place item) field
 
--- at this place of s, which starts in the style u, stands the kind byte of a list field in the style v that holds these bytes
-pub data ListFieldAt (u : Style) (s : List ℕ) : ℕ → Style → List ℕ → Type 0 where
-  own : {place : ℕ} {v : Style} {field : List ℕ} → OwnListField u s place v field → ListFieldAt u s place v field
-  deeper : {outer inner : ℕ} {v w : Style} {around field : List ℕ} → ListFieldAt u s outer v around →
-      OwnListField v around inner w field → ListFieldAt u s (outer + listOpeningBytes + inner) w field
+-- at this place of s, which starts in the style u, stands the kind byte of a list field in the style v, between these sides, that
+-- holds these bytes
+pub data ListFieldAt (u : Style) (s : List ℕ) : ℕ → Style → Sides → List ℕ → Type 0 where
+  own : {place : ℕ} {v : Style} {sides : Sides} {field : List ℕ} → OwnListField u s place v sides field →
+      ListFieldAt u s place v sides field
+  deeper : {outer inner : ℕ} {v w : Style} {beside sides : Sides} {around field : List ℕ} → ListFieldAt u s outer v beside around →
+      OwnListField v around inner w sides field → ListFieldAt u s (outer + listOpeningBytes + inner) w sides field
+
+-- ---- the fields that have sides
+
+pub field-sides : {s : List ℕ} {kind : Kind} {u v : Style} {at : ℕ} {sides : Sides} → FieldAt s kind u at v sides →
+    holdsList kind ≡ false → sides ≡ noSides
+field-sides {kind = kind} {u} inOne e = first-sides kind u ∙ ap heldSides e
+field-sides inTwo e = refl
+field-sides (inThree has) e = refl
+
+-- by a path's last step
+pub step-sides : (u : Style) (t : Step) → holdsList (t .kind) ≡ false → stepSides u t ≡ noSides
+step-sides u t e = go (t .arm)
+  where
+    go : (g : Arm) → sidesOf (fieldManner (t .kind) g (itemStyle u t)) ≡ noSides
+    go (inFirst y z) = first-sides (t .kind) (itemStyle u t) ∙ ap heldSides e
+    go (inSecond x z) = refl
+    go (inThird x y) = refl
 
 -- ---- a list field reads to the tree of the bytes that it holds
 
@@ -132,13 +155,6 @@ list-read s field (listField low high rest) good =
     go true e good = (good, refl, refl, omega (arith, leb-true n (length rest) e, length-take n rest))
     go false e good = absurd good
 
-good-field : (s : List ℕ) (h : FieldHead) → GoodList s h → GoodField s h
-good-field s NoField g = absurd g
-good-field s Empty g = absurd g
-good-field s (Symbol family code) g = absurd g
-good-field s (Sublist opening n) g = g
-good-field s CutSublist g = absurd g
-
 -- ---- the list that a choice takes
 
 record TakenRead (u : Style) (s inner : List ℕ) : Type 0 where
@@ -156,7 +172,8 @@ taken-read : (u : Style) (s inner : List ℕ) → openingOf s ≡ Choice → Rea
 taken-read u s inner e r f =
     let k = among-lists (u .level) (u .cramped) in
     let at = takenPlace u s in
-    let l = list-read (drop at s) inner f (good-field (drop at s) (headAt s at) (choice-at s e r .lists (takenNumber u) (k .5))) in
+    let good = list-good-field (drop at s) (headAt s at) (choice-at s e r .lists (takenNumber u) (k .5)) in
+    let l = list-read (drop at s) inner f (good .0) in
     record {
       readable = l .readable;
       items-are = sym (taken-all (listIn s) u refl refl refl refl) ∙ l .items-are;
@@ -289,21 +306,29 @@ spot-of (inTaken {u} {v} {w} {s} {inner} {item} {at} {k} i c f j) r kind e =
 
 -- ---- a list field of the first item
 
-record Held (s : List ℕ) (kind : Kind) (u : Style) (at : ℕ) (v : Style) (field : List ℕ) : Type 0 where
+record Held (s : List ℕ) (kind : Kind) (u : Style) (at : ℕ) (v : Style) (sides : Sides) (field : List ℕ) : Type 0 where
   arm : Arm
   is : itemOf s (Fields kind) ≡ holding kind arm (treeOf field)
   style : fieldStyle kind arm u ≡ v
+  between : sidesOf (fieldManner kind arm u) ≡ sides
   place : fieldPlace kind arm ≡ at
   read : ListRead (drop at s) field
 
-held : (s : List ℕ) (kind : Kind) (u : Style) (at : ℕ) (v : Style) (field : List ℕ) → Noad s kind → FieldAt s kind u at v →
-    ListField (drop at s) field → Held s kind u at v field
-held s kind u at v field n inOne f =
+held : (s : List ℕ) (kind : Kind) (u : Style) (at : ℕ) (v : Style) (sides : Sides) (field : List ℕ) → Noad s kind →
+    FieldAt s kind u at v sides → ListField (drop at s) field → Held s kind u at v sides field
+held s kind u at v sides field n inOne f =
     let y = fieldIn s (second s kind) in
     let z = thirdIn s (hasThird kind) (third s kind) in
     let r = list-read _ field f (n .x) in
-    record { arm = inFirst y z; is = ap (λ (x : Field). noad kind x y z) (r .is); style = refl; place = refl; read = r }
-held s kind u at v field n inTwo f =
+    record {
+      arm = inFirst y z;
+      is = ap (λ (x : Field). noad kind x y z) (r .is);
+      style = refl;
+      between = refl;
+      place = refl;
+      read = r;
+    }
+held s kind u at v sides field n inTwo f =
     let x = fieldIn s (openingBytes kind) in
     let z = thirdIn s (hasThird kind) (third s kind) in
     let r = list-read _ field f (n .y) in
@@ -311,10 +336,11 @@ held s kind u at v field n inTwo f =
       arm = inSecond x z;
       is = ap (λ (y : Field). noad kind x y z) (r .is);
       style = refl;
+      between = refl;
       place = ap (λ (k : ℕ). openingBytes kind + k) (field-bytes s (openingBytes kind) (n .x));
       read = r;
     }
-held s kind u at v field n (inThree has) f =
+held s kind u at v sides field n (inThree has) f =
     let x = fieldIn s (openingBytes kind) in
     let y = fieldIn s (second s kind) in
     let r = list-read _ field f (third-good s (hasThird kind) (third s kind) has (n .z)) in
@@ -322,25 +348,27 @@ held s kind u at v field n (inThree has) f =
       arm = inThird x y;
       is = ap (λ (b : Bool). noad kind x y (thirdIn s b (third s kind))) has ∙ ap (noad kind x y) (r .is);
       style = refl;
+      between = refl;
       place = omega (arith, field-bytes s (openingBytes kind) (n .x), field-bytes s (second s kind) (n .y));
       read = r;
     }
 
 -- ---- a list field of an item of a list: one step
 
-record Entered (u : Style) (s : List ℕ) (place : ℕ) (v : Style) (field : List ℕ) : Type 0 where
+record Entered (u : Style) (s : List ℕ) (place : ℕ) (v : Style) (sides : Sides) (field : List ℕ) : Type 0 where
   by : Step
   readable : Readable field
   tree : treeOf s ≡ listWith u by (treeOf field)
   style : stepStyle u by ≡ v
+  between : stepSides u by ≡ sides
   there : stepPlace u by ≡ place + listOpeningBytes
   part : PartAt s (stepPlace u by) field
 
-entered : (u : Style) (s : List ℕ) (place : ℕ) (v : Style) (field : List ℕ) → Readable s → OwnListField u s place v field →
-    Entered u s place v field
-entered u s place v field r f =
+entered : (u : Style) (s : List ℕ) (place : ℕ) (v : Style) (sides : Sides) (field : List ℕ) → Readable s →
+    OwnListField u s place v sides field → Entered u s place v sides field
+entered u s place v sides field r f =
     let h = spot-of (f .is-set) r (f .kind) (f .opens) in
-    let g = held (f .item) (f .kind) (f .item-style) (f .field-place) v field (h .noad) (f .in-item) (f .is-list) in
+    let g = held (f .item) (f .kind) (f .item-style) (f .field-place) v sides field (h .noad) (f .in-item) (f .is-list) in
     let k = f .field-place + listOpeningBytes in
     let there : f .item-place + k ≡ spotPlace u (h .spot) + (fieldPlace (f .kind) (g .arm) + listOpeningBytes) =
     omega (arith, h .place, g .place)
@@ -350,6 +378,7 @@ entered u s place v field r f =
       readable = g .read .readable;
       tree = h .tree ∙ ap (put u (h .spot)) (g .is);
       style = ap (fieldStyle (f .kind) (g .arm)) (h .style) ∙ g .style;
+      between = ap (λ (w : Style). sidesOf (fieldManner (f .kind) (g .arm) w)) (h .style) ∙ g .between;
       there = omega (arith, h .place, g .place, f .place-is);
       part =
           subst (λ (x : ℕ). PartAt s x field) there
@@ -360,19 +389,21 @@ entered u s place v field r f =
 
 -- ---- a list field at any depth: a path
 
-pub record Reached (u : Style) (formula : List ℕ) (place : ℕ) (v : Style) (field : List ℕ) : Type 0 where
+pub record Reached (u : Style) (formula : List ℕ) (place : ℕ) (v : Style) (sides : Sides) (field : List ℕ) : Type 0 where
   pub p : Path
   pub t : Step
   pub readable : Readable field
   pub tree : treeOf formula ≡ fill u (into p t) (treeOf field)
   pub style : styleAt u (into p t) ≡ v
+  pub between : sidesAt u (into p t) ≡ sides
   pub there : placeOf u (into p t) ≡ place + listOpeningBytes
   pub part : PartAt formula (placeOf u (into p t)) field
 
 module _ (u : Style) (formula : List ℕ) (r : Readable formula) where
-  pub reached : {place : ℕ} {v : Style} {field : List ℕ} → ListFieldAt u formula place v field → Reached u formula place v field
-  reached (own {place} {v} {field} h) =
-      let e = entered u formula place v field r h in
+  pub reached : {place : ℕ} {v : Style} {sides : Sides} {field : List ℕ} → ListFieldAt u formula place v sides field →
+      Reached u formula place v sides field
+  reached (own {place} {v} {sides} {field} h) =
+      let e = entered u formula place v sides field r h in
       let start : stepPlace u (e .by) ≡ placeOf u (into whole (e .by)) = omega arith in
       record {
         p = whole;
@@ -380,19 +411,21 @@ module _ (u : Style) (formula : List ℕ) (r : Readable formula) where
         readable = e .readable;
         tree = e .tree;
         style = e .style;
+        between = e .between;
         there = omega (arith, e .there);
         part = subst (λ (k : ℕ). PartAt formula k field) start (e .part);
       }
-  reached (deeper {inner = inner} {w} {around} {field} h g) =
+  reached (deeper {inner = inner} {w} {sides = sides} {around} {field} h g) =
       let o = reached h in
       let p = into (o .p) (o .t) in
-      let e = entered (styleAt u p) around inner w field (o .readable) (rw (o .style) g) in
+      let e = entered (styleAt u p) around inner w sides field (o .readable) (rw (o .style) g) in
       record {
         p = p;
         t = e .by;
         readable = e .readable;
         tree = o .tree ∙ ap (fill u p) (e .tree);
         style = e .style;
+        between = e .between;
         there = omega (arith, o .there, e .there);
         part = part-within formula around field (placeOf u p) (stepPlace (styleAt u p) (e .by)) (o .part) (e .part);
       }

@@ -26,14 +26,16 @@ use Rattle.boxes.specs.declared.styles.Level.the-variants.{Display, Text, Scrip
 use Rattle.boxes.specs.declared.styles.Style.{Style}
 use Rattle.boxes.specs.Styles.{styleOf, fontSize}
 use Rattle.spacing.specs.Classes.{Neighbour}
-use Rattle.arrange.specs.Arrange.{firstStyle, secondStyle, thirdStyle, enlarges}
+use Rattle.arrange.specs.declared.Manner.{Manner}
+use Rattle.arrange.specs.declared.Manner.the-variants.{Plain}
+use Rattle.arrange.specs.Arrange.{firstStyle, secondStyle, thirdStyle, firstManner}
 use Rattle.arrange.proofs.ArrangeLaws.{own-before, own-behind, few-own}
 use Rattle.nodes.specs.NodeLaws.{length-moved}
-use Rattle.setting.specs.Setting.{Box, Line, Symbol, Part, symbolIn, symbolPart, signIn, isSigned, itemNodes, itemBox, taken, styleBehind, nextClass, start, placed, setItems, setItem, setField, setList}
-use Rattle.setting.specs.SettingLaws.{length-own, sign-found, setItem-choice, missingItem-choice}
+use Rattle.setting.specs.Setting.{Box, Line, Symbol, Part, symbolIn, symbolPart, signsIn, hasSigns, itemNodes, itemBox, taken, styleBehind, nextClass, start, noSides, sidesOf, closed, isEnlarged, placed, setItems, setItem, setField, setList}
+use Rattle.setting.specs.SettingLaws.{length-own, signs-found, setItem-choice, missingItem-choice}
 use Rattle.setting.specs.Missing.{_orElse_, later, absentAt, missingItems, missingItem, missingField}
 use Rattle.setting.specs.Fitting.{listFits}
-use Rattle.answers.specs.Answers.{Answered, Result, boxed, refused, refusal, accepted, noRoomNumber, ifFits, ifPresent, ifRead, ifGood, ifStyle, resultOf, measuredBy, measured, hasRoom, setBy, setting}
+use Rattle.answers.specs.Answers.{Answered, Result, boxed, refused, refusal, accepted, noRoomNumber, ifFits, ifPresent, ifRead, ifGood, ifStyle, resultOf, resultBetween, measuredBy, measured, measuredBetween, hasRoom, setBy, setting, settingBetween}
 
 -- ---- what is written in n bytes
 
@@ -58,8 +60,8 @@ ListIn (list l) = ItemsIn (itemsBytes l) l
 -- from one place of its item to another, k bytes
 pub record FieldIn (at end k : ℕ) (f : Field) : Type 0 where
   pub bytes : end ≡ at + k
-  pub missing : (F : Font) (s : Style) (enlarge : Bool) (place : ℕ) → missingField F s enlarge at f ≡ some place → place ≤ end
-  pub few : (F : Font) (s : Style) (enlarge : Bool) → at + length (setField F s enlarge f .nodes) ≤ end
+  pub missing : (F : Font) (s : Style) (manner : Manner) (place : ℕ) → missingField F s manner at f ≡ some place → place ≤ end
+  pub few : (F : Font) (s : Style) (manner : Manner) → at + length (setField F s manner f .nodes) ≤ end
   pub if-list : ListIn f
 
 -- ---- a field
@@ -87,8 +89,8 @@ unfolding missingField setField
 empty-in at end k e =
     record {
       bytes = e;
-      missing = λ F s enlarge place q. none-some q;
-      few = λ F s enlarge. omega arith;
+      missing = λ F s manner place q. none-some q;
+      few = λ F s manner. omega arith;
       if-list = tt;
     }
 
@@ -97,18 +99,26 @@ unfolding missingField setField
 symbol-in at family code =
     record {
       bytes = refl;
-      missing = λ F s enlarge place q. omega (arith, absent-place at place (symbolIn F (fontSize s) enlarge family code) q);
-      few = λ F s enlarge. omega (arith, symbol-few (fontSize s) family (symbolIn F (fontSize s) enlarge family code));
+      missing = λ F s manner place q. omega (arith, absent-place at place (symbolIn F (fontSize s) (isEnlarged manner) family code) q);
+      few = λ F s manner. omega (arith, symbol-few (fontSize s) family (symbolIn F (fontSize s) (isEnlarged manner) family code));
       if-list = tt;
     }
+
+-- the space at a list's end is no node
+closed-nodes : (F : Font) (s : Style) (right : Neighbour) (line : Line) → closed F s right line .nodes ≡ line .box .nodes
+closed-nodes F s none line = refl
+closed-nodes F s (some class) line = refl
 
 list-in : (at n : ℕ) (l : Items) → ItemsIn n l → FieldIn at (at + 3 + n) (fieldBytes (list l)) (list l)
 unfolding missingField setField fieldBytes
 list-in at n l h =
     record {
       bytes = omega (arith, h .bytes);
-      missing = λ F s enlarge place q. later-place (at + 3) n place (missingItems F s l) (h .missing F s) q;
-      few = λ F s enlarge. omega (arith, h .few F none (start s));
+      missing = λ F s manner place q. later-place (at + 3) n place (missingItems F s l) (h .missing F s) q;
+      few = λ F s manner.
+          let sides = sidesOf manner in
+          let line = setItems F (sides .right) (start (sides .left) s) l in
+          omega (arith, h .few F (sides .right) (start (sides .left) s), ap length (closed-nodes F s (sides .right) line));
       if-list = subst (λ (k : ℕ). ItemsIn k l) (sym (h .bytes)) h;
     }
 
@@ -125,12 +135,12 @@ item-few : (F : Font) (s : Style) (kind : Kind) (x y z : Part) →
 unfolding itemBox itemNodes
 item-few F s kind x y z =
     let p = F .parameter in
-    let sign = signIn F s kind (x .shape) in
-    let found = sign-found F s kind (x .shape) in
-    let ahead = own-before p s kind sign (x .shape) (y .shape) (z .shape) found in
-    let owned = own-behind p s kind sign (x .shape) (y .shape) (z .shape) found in
+    let signs = signsIn F s kind (x .shape) in
+    let found = signs-found F s kind (x .shape) in
+    let ahead = own-before p s kind signs (x .shape) (y .shape) (z .shape) found in
+    let owned = own-behind p s kind signs (x .shape) (y .shape) (z .shape) found in
     simp (length-append, length-moved, length-own)
-    (omega (arith, ahead, owned, few-own p s kind (isSigned F s kind), opening-long kind))
+    (omega (arith, ahead, owned, few-own p s kind (hasSigns F s kind), opening-long kind))
 
 module _ (kind : Kind) (x y z : Field) (m₁ m₂ m₃ : ℕ) (a : FieldIn (openingBytes kind) m₁ (fieldBytes x) x)
     (b : FieldIn m₁ m₂ (fieldBytes y) y) (c : FieldIn m₂ m₃ (thirdBytes kind (fieldBytes z)) z) where
@@ -139,13 +149,13 @@ module _ (kind : Kind) (x y z : Field) (m₁ m₂ m₃ : ℕ) (a : FieldIn (open
   noad-missing F s place e =
       let second : m₁ ≡ openingBytes kind + fieldBytes x = a .bytes in
       let third : m₂ ≡ openingBytes kind + fieldBytes x + fieldBytes y = omega (arith, a .bytes, b .bytes) in
-      let in-first = a .missing F (firstStyle kind s) (enlarges kind s) in
-      let in-second = subst (λ (k : ℕ). (p : ℕ) → missingField F (secondStyle kind s) false k y ≡ some p → p ≤ m₂) second (b .missing F (secondStyle kind s) false) in
-      let in-third = subst (λ (k : ℕ). (p : ℕ) → missingField F (thirdStyle s) false k z ≡ some p → p ≤ m₃) third (c .missing F (thirdStyle s) false) in
-      either-place m₃ place (missingField F (firstStyle kind s) (enlarges kind s) (openingBytes kind) x) _
+      let in-first = a .missing F (firstStyle kind s) (firstManner kind s) in
+      let in-second = subst (λ (k : ℕ). (p : ℕ) → missingField F (secondStyle kind s) Plain k y ≡ some p → p ≤ m₂) second (b .missing F (secondStyle kind s) Plain) in
+      let in-third = subst (λ (k : ℕ). (p : ℕ) → missingField F (thirdStyle s) Plain k z ≡ some p → p ≤ m₃) third (c .missing F (thirdStyle s) Plain) in
+      either-place m₃ place (missingField F (firstStyle kind s) (firstManner kind s) (openingBytes kind) x) _
       (λ p q. omega (arith, in-first p q, b .bytes, c .bytes))
       (λ p q.
-      either-place m₃ p (missingField F (secondStyle kind s) false (openingBytes kind + fieldBytes x) y) _
+      either-place m₃ p (missingField F (secondStyle kind s) Plain (openingBytes kind + fieldBytes x) y) _
       (λ p q. omega (arith, in-second p q, c .bytes))
       in-third
       q)
@@ -156,11 +166,11 @@ module _ (kind : Kind) (x y z : Field) (m₁ m₂ m₃ : ℕ) (a : FieldIn (open
   unfolding setItem placed
   noad-few F right line =
       let s = line .style in
-      let X = setField F (firstStyle kind s) (enlarges kind s) x in
-      let Y = setField F (secondStyle kind s) false y in
-      let Z = setField F (thirdStyle s) false z in
+      let X = setField F (firstStyle kind s) (firstManner kind s) x in
+      let Y = setField F (secondStyle kind s) Plain y in
+      let Z = setField F (thirdStyle s) Plain z in
       simp (length-append, length-moved)
-      (omega (arith, item-few F s kind X Y Z, a .few F (firstStyle kind s) (enlarges kind s), b .few F (secondStyle kind s) false, c .few F (thirdStyle s) false))
+      (omega (arith, item-few F s kind X Y Z, a .few F (firstStyle kind s) (firstManner kind s), b .few F (secondStyle kind s) Plain, c .few F (thirdStyle s) Plain))
 
   noad-in : ItemIn m₃ (noad kind x y z)
   unfolding itemBytes
@@ -264,42 +274,42 @@ FoundSmall (boxed b) = length (b .nodes) ≤ formulaLimit
 FoundSmall (refused number place) = place ≤ formulaLimit
 
 module _ (F : Font) (s : Style) where
-  tree-small : (n : ℕ) (l : Items) → n ≤ formulaLimit → ItemsIn n l → FoundSmall (ifRead F s (good l))
+  tree-small : (n : ℕ) (l : Items) → n ≤ formulaLimit → ItemsIn n l → FoundSmall (ifRead F noSides s (good l))
   unfolding ifRead ifPresent ifFits setList
   tree-small n l short h = present (missingItems F s l) refl
     where
-      fits : (t : Bool) → FoundSmall (ifFits t (setList F s l))
-      fits true = omega (arith, h .few F none (start s))
+      fits : (t : Bool) → FoundSmall (ifFits t (setList F noSides s l))
+      fits true = omega (arith, h .few F none (start none s))
       fits false = omega arith
 
-      present : (o : Option ℕ) → missingItems F s l ≡ o → FoundSmall (ifPresent F s l o)
-      present none e = fits (listFits F s l)
+      present : (o : Option ℕ) → missingItems F s l ≡ o → FoundSmall (ifPresent F noSides s l o)
+      present none e = fits (listFits F noSides s l)
       present (some place) e = omega (arith, h .missing F s place e)
 
-  reading-small : (n : ℕ) (r : Read) → n ≤ formulaLimit → ReadIn parts n r → FoundSmall (ifRead F s r)
+  reading-small : (n : ℕ) (r : Read) → n ≤ formulaLimit → ReadIn parts n r → FoundSmall (ifRead F noSides s r)
   unfolding ifRead
   reading-small n (good l) short h = tree-small n l short h
   reading-small n (fault why place) short h = omega arith
 
-  formula-small : (formula : List ℕ) → FoundSmall (ifRead F s (readFormula formula))
+  formula-small : (formula : List ℕ) → FoundSmall (ifRead F noSides s (readFormula formula))
   unfolding readFormula ifRead
   formula-small formula = go (ltb formulaLimit (length formula)) refl
     where
       go : (t : Bool) → ltb formulaLimit (length formula) ≡ t →
-          FoundSmall (ifRead F s (elim t [ true ↦ fault Unreadable 0 | false ↦ read (depthLimit - 1) formula ]))
+          FoundSmall (ifRead F noSides s (elim t [ true ↦ fault Unreadable 0 | false ↦ read (depthLimit - 1) formula ]))
       go true e = omega arith
       go false e =
           reading-small (length formula) (read (depthLimit - 1) formula) (ltb-false formulaLimit (length formula) e) (read-in parts parts-so (depthLimit - 1) formula)
 
 found-small : (style : ℕ) (table formula : List ℕ) → FoundSmall (resultOf style table formula)
-unfolding resultOf ifStyle ifGood
+unfolding resultBetween ifStyle ifGood
 found-small style table formula = styled (styleOf style)
   where
-    tabled : (s : Style) (t : Bool) → FoundSmall (ifGood t (fontOf table) s (readFormula formula))
+    tabled : (s : Style) (t : Bool) → FoundSmall (ifGood t (fontOf table) noSides s (readFormula formula))
     tabled s true = formula-small (fontOf table) s formula
     tabled s false = omega arith
 
-    styled : (o : Option Style) → FoundSmall (ifStyle table formula o)
+    styled : (o : Option Style) → FoundSmall (ifStyle noSides table formula o)
     styled none = omega arith
     styled (some s) = tabled s (goodTable table)
 
@@ -310,7 +320,7 @@ pub record Small (a : Answered) : Type 0 where
   pub count : a .count ≤ formulaLimit
 
 pub measured-small : (style : ℕ) (table formula : List ℕ) → Small (measured style table formula)
-unfolding measured measuredBy
+unfolding measuredBetween measuredBy
 measured-small style table formula = go (resultOf style table formula) (found-small style table formula)
   where
     go : (r : Result) → FoundSmall r → Small (measuredBy r)
@@ -318,7 +328,7 @@ measured-small style table formula = go (resultOf style table formula) (found-sm
     go (refused number place) h = record { place = h; count = omega arith }
 
 pub setting-small : (style : ℕ) (table formula : List ℕ) (room : ℕ) → Small (setting style table formula room)
-unfolding setting setBy
+unfolding settingBetween setBy
 setting-small style table formula room = go (resultOf style table formula) (found-small style table formula)
   where
     roomy : (b : Box) (t : Bool) → length (b .nodes) ≤ formulaLimit →

@@ -1,25 +1,29 @@
 -- An item, from the shapes of its fields: its size, where its fields stand, and its own nodes. Nothing but the shapes is
--- seen of a field, so that two lists of one size give one arrangement. The sign that was found for it is a root's.
+-- seen of a field, so that two lists of one size give one arrangement. The signs are those that were found for a root and for a fence.
 -- Assumes nothing.
 use mathlib.Core.Bool.{Bool, true, false}
 use mathlib.Core.Option.{Option, none, some}
 use Prim.Native.Nat.{ℕ}
 use lib.IntN.{pos}
 use Rattle.formula.specs.declared.Base.{Base}
-use Rattle.formula.specs.declared.Base.the-variants.{Atom, Over, Under, Root}
+use Rattle.formula.specs.declared.Base.the-variants.{Atom, Over, Under, Root, Fence}
 use Rattle.formula.specs.declared.Kind.{Kind}
 use Rattle.formula.specs.declared.Kind.the-variants.{Scripted, Fraction}
 use Rattle.formula.specs.Heads.{isOp}
 use Rattle.boxes.specs.declared.styles.Style.{Style}
 use Rattle.boxes.specs.Styles.{fontSize, isDisplay, superscriptStyle, subscriptStyle, numeratorStyle, denominatorStyle, crampedStyle}
 use Rattle.boxes.specs.Parameters.{Parameters, axisHeight, ruleThickness}
-use Rattle.boxes.specs.Boxes.{Size, Shape, Arranged, sizeOf, given, signedBefore}
-use Rattle.delimiters.specs.Delimiters.{Sign, signSize, signNodes}
+use Rattle.boxes.specs.Boxes.{Size, Shape, Arranged, sizeOf, given, signedBefore, signedAround}
+use Rattle.delimiters.specs.declared.HasSigns.{HasSigns}
+use Rattle.delimiters.specs.Delimiters.{Signs, signSize, signNodes}
 use Rattle.roots.specs.Roots.{Radical, root}
+use Rattle.fences.specs.Fences.{Fence as FenceParts, fenceOf}
 use Rattle.nucleus.specs.Nucleus.{Nucleus, atomNucleus, overline, underline}
 use Rattle.limits.specs.Limits.{hasLimits, limited}
 use Rattle.scripts.specs.Scripts.{scripted}
 use Rattle.fractions.specs.Fractions.{barThickness, hasBar, fraction}
+use Rattle.arrange.specs.declared.Manner.{Manner}
+use Rattle.arrange.specs.declared.Manner.the-variants.{Plain, Enlarged, Fenced}
 
 -- ---- the style of each field, at an item in the style s
 
@@ -29,6 +33,7 @@ baseStyle (Atom class limits) s = s
 baseStyle Over s = crampedStyle s
 baseStyle Under s = s
 baseStyle (Root d) s = crampedStyle s
+baseStyle (Fence left right) s = s
 
 abbrev pub firstStyle : Kind → Style → Style
 firstStyle (Scripted base) s = baseStyle base s
@@ -41,17 +46,24 @@ secondStyle (Fraction bar) s = denominatorStyle s
 abbrev pub thirdStyle : Style → Style
 thirdStyle s = subscriptStyle s
 
--- ---- whether a symbol in the first field gives way to its successor (rule 13)
+-- ---- the manner in which the first field is set; the others are set plainly
 
-abbrev pub baseEnlarges : Base → Style → Bool
-baseEnlarges (Atom class limits) s = elim (isOp class) [ true ↦ isDisplay (s .level) | false ↦ false ]
-baseEnlarges Over s = false
-baseEnlarges Under s = false
-baseEnlarges (Root d) s = false
+-- rule 13: in display styles the symbol of an Op gives way to its successor
+abbrev pub opManner : Bool → Manner
+opManner true = Enlarged
+opManner false = Plain
 
-abbrev pub enlarges : Kind → Style → Bool
-enlarges (Scripted base) s = baseEnlarges base s
-enlarges (Fraction bar) s = false
+-- rule 19: a fence's list stands between its delimiters
+abbrev pub baseManner : Base → Style → Manner
+baseManner (Atom class limits) s = elim (isOp class) [ true ↦ opManner (isDisplay (s .level)) | false ↦ Plain ]
+baseManner Over s = Plain
+baseManner Under s = Plain
+baseManner (Root d) s = Plain
+baseManner (Fence left right) s = Fenced
+
+abbrev pub firstManner : Kind → Style → Manner
+firstManner (Scripted base) s = baseManner base s
+firstManner (Fraction bar) s = Plain
 
 -- ---- the item
 
@@ -65,37 +77,51 @@ setsLimits s (Atom class limits) = hasLimits (s .level) class limits
 setsLimits s Over = false
 setsLimits s Under = false
 setsLimits s (Root d) = false
+setsLimits s (Fence left right) = false
 
 -- rule 11: a root's sign, if there is one, and its rule stand before its field
-abbrev pub rootNucleus : Radical → Option Sign → Nucleus
-rootNucleus r sign =
+abbrev pub rootNucleus : Radical → Signs → Nucleus
+rootNucleus r signs =
     record {
       size = r .size;
       first = r .nucleus;
       δ = pos 0;
-      isPlain = false;
-      own = signedBefore (signNodes (r .sign) sign) (r .rule);
+      isPlain = false;  -- a root counts as a box
+      own = signedBefore (signNodes (r .sign) (signs .before)) (r .rule);
+    }
+
+-- rule 19: a fence's delimiters, if there are any, stand on either side of its list
+abbrev pub fenceNucleus : FenceParts → Signs → Nucleus
+fenceNucleus f signs =
+    record {
+      size = f .size;
+      first = f .inside;
+      δ = pos 0;
+      isPlain = false;  -- and so does a fence
+      own = signedAround (signNodes (f .left) (signs .before)) (signNodes (f .right) (signs .behind));
     }
 
 -- what the scripts are set to; the test is whether there is a subscript
-unfoldable pub nucleusOf : Parameters → Style → Base → Option Sign → Bool → Shape → Nucleus
-nucleusOf p s (Atom class limits) sign subscript x =
+unfoldable pub nucleusOf : Parameters → Style → Base → Signs → Bool → Shape → Nucleus
+nucleusOf p s (Atom class limits) signs subscript x =
     atomNucleus (axisHeight p (fontSize s)) (isOp class) (hasLimits (s .level) class limits) subscript x
-nucleusOf p s Over sign subscript x = overline (ruleThickness p (fontSize s)) (sizeOf x)
-nucleusOf p s Under sign subscript x = underline (ruleThickness p (fontSize s)) (sizeOf x)
-nucleusOf p s (Root d) sign subscript x = rootNucleus (root p s (sizeOf x) (signSize sign)) sign
+nucleusOf p s Over signs subscript x = overline (ruleThickness p (fontSize s)) (sizeOf x)
+nucleusOf p s Under signs subscript x = underline (ruleThickness p (fontSize s)) (sizeOf x)
+nucleusOf p s (Root d) signs subscript x = rootNucleus (root p s (sizeOf x) (signSize (signs .before))) signs
+nucleusOf p s (Fence left right) signs subscript x =
+    fenceNucleus (fenceOf p s (signSize (signs .before)) (sizeOf x) (signSize (signs .behind))) signs
 
 -- the scripts set to a nucleus, as limits or beside it
 abbrev pub setScripts : Parameters → Style → Bool → Nucleus → Option Size → Option Size → Arranged
 setScripts p s true n superscript subscript = limited p (fontSize s) n superscript subscript
 setScripts p s false n superscript subscript = scripted p s n superscript subscript
 
-unfoldable pub arrange : Parameters → Style → Kind → Option Sign → Shape → Shape → Shape → Arranged
-arrange p s (Scripted base) sign x y z =
-    setScripts p s (setsLimits s base) (nucleusOf p s base sign (isGiven (given z)) x) (given y) (given z)
-arrange p s (Fraction bar) sign x y z = fraction p s bar (sizeOf x) (sizeOf y)
+unfoldable pub arrange : Parameters → Style → Kind → Signs → Shape → Shape → Shape → Arranged
+arrange p s (Scripted base) signs x y z =
+    setScripts p s (setsLimits s base) (nucleusOf p s base signs (isGiven (given z)) x) (given y) (given z)
+arrange p s (Fraction bar) signs x y z = fraction p s bar (sizeOf x) (sizeOf y)
 
--- ---- how many own nodes an item has, which its fields do not change; the test is whether a sign was found for it
+-- ---- how many own nodes an item has, which its fields do not change; the tests are on which side a sign was found for it
 
 pub record OwnCounts : Type 0 where
   pub before : ℕ
@@ -112,18 +138,23 @@ abbrev pub rootCounts : Bool → OwnCounts
 rootCounts true = countsBefore 2
 rootCounts false = countsBefore 1
 
+abbrev pub signCount : Bool → ℕ
+signCount true = 1
+signCount false = 0
+
 -- a line always
-abbrev pub baseCounts : Base → Bool → OwnCounts
+abbrev pub baseCounts : Base → HasSigns → OwnCounts
 baseCounts (Atom class limits) found = countsBehind 0
 baseCounts Over found = countsBehind 1
 baseCounts Under found = countsBehind 1
-baseCounts (Root d) found = rootCounts found
+baseCounts (Root d) found = rootCounts (found .before)
+baseCounts (Fence left right) found = record { before = signCount (found .before); behind = signCount (found .behind) }
 
 -- a bar where it has a thickness
 abbrev pub barCounts : Bool → OwnCounts
 barCounts true = countsBehind 1
 barCounts false = countsBehind 0
 
-unfoldable pub ownCounts : Parameters → Style → Kind → Bool → OwnCounts
+unfoldable pub ownCounts : Parameters → Style → Kind → HasSigns → OwnCounts
 ownCounts p s (Scripted base) found = baseCounts base found
 ownCounts p s (Fraction bar) found = barCounts (hasBar (barThickness p (fontSize s) bar))

@@ -1,11 +1,11 @@
 -- What the values of the code stand for in the definitions: counts of own nodes.
 -- Assumes nothing.
-use mathlib.Core.Bool.{Bool}
 use mathlib.Core.Path.{_≡_}
 use Prim.Native.Nat.{_+_, _≤_}
 use Rattle.formula.specs.declared.Kind.{Kind}
 use Rattle.boxes.specs.declared.styles.Style.{Style}
 use Rattle.boxes.specs.Parameters.{Parameters}
+use Rattle.delimiters.specs.declared.HasSigns.{HasSigns}
 use Rattle.arrange.specs.declared.OwnCounts.{OwnCounts}
 use Rattle.arrange.specs.Arrange.{OwnCounts as OwnCountsOf, ownCounts}
 
@@ -16,5 +16,5 @@ pub record CountsAre (n : OwnCountsOf) (r : OwnCounts) : Type 0 where
   pub few : r .before + r .behind ≤ 2
 
 -- those of an item
-abbrev pub OwnCountsAre : Parameters → Style → Kind → Bool → OwnCounts → Type 0
+abbrev pub OwnCountsAre : Parameters → Style → Kind → HasSigns → OwnCounts → Type 0
 OwnCountsAre p s kind found r = CountsAre (ownCounts p s kind found) r

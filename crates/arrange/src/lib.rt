@@ -7,6 +7,7 @@ use boxes::parameters::AXIS_HEIGHT;
 use boxes::parameters::Parameters;
 use boxes::parameters::parameter;
 use boxes::parameters::rule_thickness;
+use boxes::signed_around;
 use boxes::signed_before;
 use boxes::size_of;
 use boxes::styles::Style;
@@ -17,9 +18,12 @@ use boxes::styles::is_display;
 use boxes::styles::numerator_style;
 use boxes::styles::subscript_style;
 use boxes::styles::superscript_style;
-use delimiters::Chosen;
+use delimiters::HasSigns;
+use delimiters::Signs;
 use delimiters::sign_at;
 use delimiters::sign_size;
+use fences::Fence;
+use fences::fence_of;
 use formula::Base;
 use formula::Kind;
 use formula::heads::is_op;
@@ -38,15 +42,17 @@ use scaled::Sp;
 use scripts::scripted;
 ghost use mathlib.Core.Path.{_≡_};
 ghost use Prim.Native.Nat.{_≤_};
-ghost use Rattle.arrange.specs.Arrange.{baseStyle, firstStyle, secondStyle, thirdStyle, baseEnlarges, isGiven, setsLimits, rootNucleus, nucleusOf, countsBehind, countsBefore, rootCounts, baseCounts, barCounts};
+ghost use Rattle.arrange.specs.Arrange.{baseStyle, firstStyle, secondStyle, thirdStyle, opManner, baseManner, firstManner, isGiven, setsLimits, rootNucleus, fenceNucleus, nucleusOf, countsBehind, countsBefore, rootCounts, signCount, baseCounts, barCounts};
 ghost use Rattle.arrange.specs.Arrange as rule;
 ghost use Rattle.boxes.specs.Values.{parametersIn, shapeAs, scriptAs, arrangedAs};
-ghost use Rattle.delimiters.specs.Values.{chosenAs};
+ghost use Rattle.delimiters.specs.Values.{signsAs};
 ghost use Rattle.roots.specs.Values.{radicalAs};
+ghost use Rattle.fences.specs.Values.{fenceAs};
 ghost use Rattle.nucleus.specs.Values.{nucleusAs};
 ghost use Rattle.arrange.specs.Values.{CountsAre, OwnCountsAre};
 ghost use Rattle.boxes.specs.Bounds.{ModerateShape, Bounded};
 ghost use Rattle.roots.specs.Bounds.{ModerateRadical};
+ghost use Rattle.fences.specs.Bounds.{ModerateFence};
 ghost use Rattle.nucleus.specs.Bounds.{ModerateNucleus};
 
 // The style of the first field of an item in a style.
@@ -67,6 +73,7 @@ fn base_style(base: Base, style: Style) -> Style
         Base::Over => cramped_style(style),
         Base::Under => style,
         Base::Root(_) => cramped_style(style),
+        Base::Fence(_, _) => style,
     }
 }
 
@@ -85,51 +92,70 @@ pub fn third_style(style: Style) -> Style
     subscript_style(style)
 }
 
-// Rule 13: whether a symbol in the first field gives way to its successor.
-pub fn enlarges(kind: Kind, style: Style) -> bool
-    ensures { λ r. ⌜ r ≡ rule.enlarges kind style ⌝ }
+// How a field is set: as it is, with a symbol that gives way to its successor, or with a list between a fence's delimiters.
+pub enum Manner {
+    Plain,
+    Enlarged,
+    Fenced,
+}
+
+// The manner of the first field; the others are set plainly.
+pub fn first_manner(kind: Kind, style: Style) -> Manner
+    ensures { λ r. ⌜ r ≡ firstManner kind style ⌝ }
 {
     match kind {
-        Kind::Scripted(base) => base_enlarges(base, style),
-        Kind::Fraction(_) => false,
+        Kind::Scripted(base) => base_manner(base, style),
+        Kind::Fraction(_) => Manner::Plain,
     }
 }
 
-fn base_enlarges(base: Base, style: Style) -> bool
-    ensures { λ r. ⌜ r ≡ baseEnlarges base style ⌝ }
+fn base_manner(base: Base, style: Style) -> Manner
+    ensures { λ r. ⌜ r ≡ baseManner base style ⌝ }
 {
     match base {
         Base::Atom(class, _) => {
             if is_op(class) {
-                is_display(style)
+                op_manner(is_display(style))
             } else {
-                false
+                Manner::Plain
             }
         }
-        Base::Over => false,
-        Base::Under => false,
-        Base::Root(_) => false,
+        Base::Over => Manner::Plain,
+        Base::Under => Manner::Plain,
+        Base::Root(_) => Manner::Plain,
+        Base::Fence(_, _) => Manner::Fenced,
     }
 }
 
-// The sign that was found for the item is a root's.
+// Rule 13: in display styles the symbol of an Op gives way to its successor.
+fn op_manner(display: bool) -> Manner
+    ensures { λ r. ⌜ r ≡ opManner display ⌝ }
+{
+    if display {
+        Manner::Enlarged
+    } else {
+        Manner::Plain
+    }
+}
+
+// The signs are those that were found for a root or a fence.
 pub fn arrange(
     p: &Parameters,
     style: Style,
     kind: Kind,
-    sign: Chosen,
+    signs: Signs,
     x: Shape,
     y: Shape,
     z: Shape,
 ) -> Arranged
     requires { ⌜ ModerateShape x × ModerateShape y × ModerateShape z ⌝ }
-    ensures { λ r. ⌜ (arrangedAs r ≡ rule.arrange (parametersIn (now (p .entry))) style kind (chosenAs sign) (shapeAs x) (shapeAs y) (shapeAs z)) × Bounded r ⌝ }
+    ensures { λ r. ⌜ (arrangedAs r ≡ rule.arrange (parametersIn (now (p .entry))) style kind (signsAs signs) (shapeAs x) (shapeAs y) (shapeAs z)) × Bounded r ⌝ }
 {
     match kind {
         Kind::Scripted(base) => {
             let superscript = given(y);
             let subscript = given(z);
-            let n = nucleus_of(p, style, base, sign, is_given(subscript), x);
+            let n = nucleus_of(p, style, base, signs, is_given(subscript), x);
             if sets_limits(style, base) {
                 limited(p, font_size(style), n, superscript, subscript)
             } else {
@@ -149,6 +175,7 @@ fn sets_limits(style: Style, base: Base) -> bool
         Base::Over => false,
         Base::Under => false,
         Base::Root(_) => false,
+        Base::Fence(_, _) => false,
     }
 }
 
@@ -157,12 +184,12 @@ fn nucleus_of(
     p: &Parameters,
     style: Style,
     base: Base,
-    sign: Chosen,
+    signs: Signs,
     subscript: bool,
     x: Shape,
 ) -> Nucleus
     requires { ⌜ ModerateShape x ⌝ }
-    ensures { λ r. ⌜ (nucleusAs r ≡ nucleusOf (parametersIn (now (p .entry))) style base (chosenAs sign) subscript (shapeAs x)) × ModerateNucleus r ⌝ }
+    ensures { λ r. ⌜ (nucleusAs r ≡ nucleusOf (parametersIn (now (p .entry))) style base (signsAs signs) subscript (shapeAs x)) × ModerateNucleus r ⌝ }
 {
     match base {
         Base::Atom(class, limits) => {
@@ -172,23 +199,51 @@ fn nucleus_of(
         }
         Base::Over => overline(rule_thickness(p, style), size_of(x)),
         Base::Under => underline(rule_thickness(p, style), size_of(x)),
-        Base::Root(_) => root_nucleus(root(p, style, size_of(x), sign_size(sign)), sign),
+        Base::Root(_) => {
+            let before = signs.before;
+            root_nucleus(root(p, style, size_of(x), sign_size(before)), signs)
+        }
+        Base::Fence(_, _) => {
+            let before = signs.before;
+            let behind = signs.behind;
+            let fence = fence_of(p, style, sign_size(before), size_of(x), sign_size(behind));
+            fence_nucleus(fence, signs)
+        }
     }
 }
 
 // Rule 11: a root's sign, if there is one, and its rule stand before its field.
-fn root_nucleus(radical: Radical, sign: Chosen) -> Nucleus
+fn root_nucleus(radical: Radical, signs: Signs) -> Nucleus
     requires { ⌜ ModerateRadical radical ⌝ }
-    ensures { λ r. ⌜ (nucleusAs r ≡ rootNucleus (radicalAs radical) (chosenAs sign)) × ModerateNucleus r ⌝ }
+    ensures { λ r. ⌜ (nucleusAs r ≡ rootNucleus (radicalAs radical) (signsAs signs)) × ModerateNucleus r ⌝ }
 {
     let size = radical.size;
     let first = radical.nucleus;
+    let before = signs.before;
     Nucleus {
         size,
         first,
         delta: Sp(0),
         plain: false,
-        own: signed_before(sign_at(radical.sign, sign), radical.rule),
+        own: signed_before(sign_at(radical.sign, before), radical.rule),
+    }
+}
+
+// Rule 19: a fence's delimiters, if there are any, stand on either side of its list.
+fn fence_nucleus(fence: Fence, signs: Signs) -> Nucleus
+    requires { ⌜ ModerateFence fence ⌝ }
+    ensures { λ r. ⌜ (nucleusAs r ≡ fenceNucleus (fenceAs fence) (signsAs signs)) × ModerateNucleus r ⌝ }
+{
+    let size = fence.size;
+    let first = fence.inside;
+    let before = signs.before;
+    let behind = signs.behind;
+    Nucleus {
+        size,
+        first,
+        delta: Sp(0),
+        plain: false,
+        own: signed_around(sign_at(fence.left, before), sign_at(fence.right, behind)),
     }
 }
 
@@ -207,8 +262,8 @@ pub struct OwnCounts {
     pub behind: usize,
 }
 
-// The test is whether a sign was found for the item.
-pub fn own_counts(p: &Parameters, style: Style, kind: Kind, found: bool) -> OwnCounts
+// The tests are on which side a sign was found for the item.
+pub fn own_counts(p: &Parameters, style: Style, kind: Kind, found: HasSigns) -> OwnCounts
     ensures { λ r. ⌜ OwnCountsAre (parametersIn (now (p .entry))) style kind found r ⌝ }
 {
     match kind {
@@ -218,14 +273,15 @@ pub fn own_counts(p: &Parameters, style: Style, kind: Kind, found: bool) -> OwnC
 }
 
 // A line always.
-fn base_counts(base: Base, found: bool) -> OwnCounts
+fn base_counts(base: Base, found: HasSigns) -> OwnCounts
     ensures { λ r. ⌜ CountsAre (baseCounts base found) r ⌝ }
 {
     match base {
         Base::Atom(_, _) => counts_behind(0),
         Base::Over => counts_behind(1),
         Base::Under => counts_behind(1),
-        Base::Root(_) => root_counts(found),
+        Base::Root(_) => root_counts(found.before),
+        Base::Fence(_, _) => fence_counts(found),
     }
 }
 
@@ -238,6 +294,22 @@ fn root_counts(found: bool) -> OwnCounts
     } else {
         counts_before(1)
     }
+}
+
+// A sign on each side where one was found.
+fn fence_counts(found: HasSigns) -> OwnCounts
+    ensures { λ r. ⌜ CountsAre (record { before = signCount (found .before); behind = signCount (found .behind) }) r ⌝ }
+{
+    OwnCounts {
+        before: sign_count(found.before),
+        behind: sign_count(found.behind),
+    }
+}
+
+fn sign_count(found: bool) -> usize
+    ensures { λ r. ⌜ (r ≡ signCount found) × (r ≤ 1) ⌝ }
+{
+    if found { 1 } else { 0 }
 }
 
 // A bar where it has a thickness.

@@ -92,6 +92,10 @@ ruledBehind r = record { before = []; behind = ruled r ∷ [] }
 abbrev pub signedBefore : List OwnNode → Rule → Own
 signedBefore sign r = record { before = sign ++ (ruled r ∷ []); behind = [] }
 
+-- a delimiter's symbol on either side, if there is one
+abbrev pub signedAround : List OwnNode → List OwnNode → Own
+signedAround left right = record { before = left; behind = right }
+
 -- an item: its size, where its three fields stand, and its own nodes
 pub record Arranged : Type 0 where
   pub size : Size

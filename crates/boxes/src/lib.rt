@@ -199,10 +199,26 @@ pub fn signed_before(sign: Signing, rule: Rule) -> Own
     }
 }
 
+// A delimiter's symbol on either side, if there is one.
+pub fn signed_around(left: Signing, right: Signing) -> Own
+    requires { ⌜ SigningWithin itemWords left × SigningWithin itemWords right ⌝ }
+    ensures { λ r. ⌜ (ownAs r ≡ boxes.signedAround (signingAs left) (signingAs right)) × OwnWithin itemWords r ⌝ }
+{
+    let before = Owned {
+        sign: left,
+        ruling: Ruling::Unruled,
+    };
+    let behind = Owned {
+        sign: right,
+        ruling: Ruling::Unruled,
+    };
+    Own { before, behind }
+}
+
 // How far a box of width w is moved right to stand in the middle of the width all.
 pub fn centred(all: Sp, w: Sp) -> Sp
-    requires { ⌜ Within (words 4) (all .0) × Within (words 4) (w .0) ⌝ }
-    ensures { λ r. ⌜ (r .0 ≡ boxes.centred (all .0) (w .0)) × Within (words 5) (r .0) ⌝ }
+    requires { ⌜ Within (words 6) (all .0) × Within (words 6) (w .0) ⌝ }
+    ensures { λ r. ⌜ (r .0 ≡ boxes.centred (all .0) (w .0)) × Within (words 7) (r .0) ⌝ }
 {
     all.minus(w).half()
 }

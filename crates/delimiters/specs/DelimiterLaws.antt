@@ -15,11 +15,15 @@ use Rattle.font.specs.Chains.{longestChain, next, goesOn}
 use Rattle.font.specs.Table.{goodTable}
 use Rattle.font.specs.FontLaws.{chains-end}
 use Rattle.formula.specs.declared.Delimiter.{Delimiter}
-use Rattle.delimiters.specs.Delimiters.{Sign, fromNext, chainBy, chain, candidates, firstEnough, tallest, taken, signFor, hasAny, hasSign}
+use Rattle.delimiters.specs.declared.HasSigns.{HasSigns}
+use Rattle.delimiters.specs.Delimiters.{Sign, fromNext, chainBy, chain, candidates, firstEnough, tallest, taken, signFor, hasAny, hasSign, Signs}
 
 abbrev pub isFound : Option Sign → Bool
 isFound none = false
 isFound (some s) = true
+
+abbrev pub whichFound : Signs → HasSigns
+whichFound s = record { before = isFound (s .before); behind = isFound (s .behind) }
 
 taken-any : (needed : ℤ) (l : List Sign) → isFound (taken needed l) ≡ hasAny l
 unfolding taken hasAny

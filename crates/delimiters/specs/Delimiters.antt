@@ -5,6 +5,7 @@
 --     signFor       the one that is taken, if there is any
 --     signSize, signNodes    its box, and its node at a place
 --     hasSign       whether there is any
+--     Signs         what was taken for the delimiters of an item
 -- Assumes nothing.
 use mathlib.Core.Bool.{Bool, true, false, _&&_}
 use mathlib.Core.List.{List, [], _∷_, _++_}
@@ -100,3 +101,12 @@ hasAny (s ∷ l) = true
 
 unfoldable pub hasSign : Font → ℕ → Delimiter → Bool
 hasSign F size d = hasAny (candidates F size d)
+
+-- ---- for the delimiters of an item: before its first field, and behind it
+
+pub record Signs : Type 0 where
+  pub before : Option Sign
+  pub behind : Option Sign
+
+abbrev pub noSigns : Signs
+noSigns = record { before = none; behind = none }

@@ -7,7 +7,8 @@ use Rattle.delimiters.specs.declared.Chosen.{Chosen}
 use Rattle.delimiters.specs.declared.Chosen.the-variants as chosen
 use Rattle.delimiters.specs.declared.Search.{Search}
 use Rattle.delimiters.specs.declared.Search.the-variants.{Nothing, Short, Enough}
-use Rattle.delimiters.specs.Delimiters.{Sign}
+use Rattle.delimiters.specs.declared.Signs.{Signs}
+use Rattle.delimiters.specs.Delimiters.{Sign, Signs as SignsOf}
 use Rattle.delimiters.specs.Looking.{Looked, nothing, short, enough}
 
 abbrev pub signAs : declared.Sign → Sign
@@ -16,6 +17,9 @@ signAs s = record { size = s .size; family = s .family; code = s .code; metrics 
 abbrev pub chosenAs : Chosen → Option Sign
 chosenAs (chosen.Sign s) = some (signAs s)
 chosenAs chosen.Blank = none
+
+abbrev pub signsAs : Signs → SignsOf
+signsAs s = record { before = chosenAs (s .before); behind = chosenAs (s .behind) }
 
 abbrev pub searchAs : Search → Looked
 searchAs Nothing = nothing

@@ -40,6 +40,18 @@ pub enum Chosen {
     Blank,
 }
 
+// What stands for the delimiters of an item: before its first field, and behind it.
+pub struct Signs {
+    pub before: Chosen,
+    pub behind: Chosen,
+}
+
+// On which side an item has a sign.
+pub struct HasSigns {
+    pub before: bool,
+    pub behind: bool,
+}
+
 // How far a search has come: no symbol yet; none that suffices, and the tallest so far; one that suffices, which ends it.
 enum Search {
     Nothing,

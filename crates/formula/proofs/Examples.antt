@@ -1,16 +1,16 @@
--- Short lists with a style, with a choice and with a root, as the definition reads them: one table under one statement, `examples-hold`.
+-- Short lists with a style, with a choice, with a root and with a fence, as the definition reads them: one table under one statement, `examples-hold`.
 -- Assumes nothing.
 use mathlib.Core.Path.{_≡_, refl}
 use mathlib.Core.List.{List, [], _∷_, _++_, map}
 use Prim.Native.Nat.{ℕ}
 use Rattle.words.specs.Words.{littleEndian}
 use Rattle.formula.specs.declared.Fault.the-variants.{Unreadable, TooDeep}
-use Rattle.formula.specs.declared.Base.the-variants.{Root}
+use Rattle.formula.specs.declared.Base.the-variants.{Root, Fence}
 use Rattle.formula.specs.declared.Kind.the-variants.{Scripted}
-use Rattle.formula.specs.Tree.{Items, Item, nil, cons, noad, restyle, choice, empty, symbol}
+use Rattle.formula.specs.Tree.{Items, Item, nil, cons, noad, restyle, choice, empty, symbol, list}
 use Rattle.formula.specs.Marks.{markIn, markOf}
-use Rattle.formula.specs.Heads.{styleOpening, delimiter, rootOf, rootOpening, opens, openingOf, symbolHead, listHead, fieldHead}
-use Rattle.formula.specs.Reading.{Read, good, fault, listGot, fieldBy, onlyList, fieldAt, thirdAt, noadAt, listAt, choiceAt, openedBy, itemBy, before, restBy, listBy, readBy, read}
+use Rattle.formula.specs.Heads.{styleOpening, delimiter, rootOf, behindDelimiter, rootOpening, fenceOf, fenceOpening, opens, openingOf, symbolHead, listHead, fieldHead}
+use Rattle.formula.specs.Reading.{Read, good, fault, listGot, fieldBy, onlyList, heldIn, fieldAt, firstAt, thirdAt, noadAt, listAt, choiceAt, openedBy, itemBy, before, restBy, listBy, readBy, read}
 
 -- a style by its number; a choice by its four fields
 abbrev style : ℕ → List ℕ
@@ -35,6 +35,10 @@ listOf n s = 2 ∷ n ∷ 0 ∷ s
 
 abbrev none : List ℕ
 none = listOf 0 []
+
+-- a fence with no scripts, by the family of its right one's large symbol, and by its field
+abbrev fenceOn : ℕ → List ℕ → List ℕ
+fenceOn n held = (70 ∷ 69 ∷ 0 ∷ 40 ∷ 3 ∷ 0 ∷ 0 ∷ 41 ∷ n ∷ 1 ∷ held) ++ (noField ++ noField)
 
 one : Item → Items
 one i = cons i nil
@@ -74,8 +78,15 @@ rows =
     ∷ row 0 (sign 0 112 16 112 ++ (letter ++ (noField ++ noField))) (fault Unreadable 0)
     ∷ row 0 (82 ∷ 68 ∷ 2 ∷ 112 ∷ 3 ∷ []) (fault Unreadable 0)
     ∷ row 0 (sign 2 112 3 112 ++ (letter ++ noField)) (fault Unreadable 0)
+    -- a fence: its delimiters, a list, its scripts; what is no list is no fence, at whatever depth, and a family of 16 is a fault in the last pair too
+    ∷ row 1 (fenceOn 15 (listOf 3 (style 2))) (good (one (noad (Scripted (Fence (delimiter 0 40 3 0) (delimiter 0 41 15 1))) (list (one (restyle 2))) empty empty)))
+    ∷ row 1 (fenceOn 16 (listOf 3 (style 2))) (fault Unreadable 0)
+    ∷ row 1 (fenceOn 15 letter) (fault Unreadable 0)
+    ∷ row 0 (fenceOn 15 letter) (fault Unreadable 0)
+    ∷ row 0 (fenceOn 15 none) (fault TooDeep 10)
+    ∷ row 1 (fenceOn 15 (listOf 3 (style 8))) (fault Unreadable 13)
     ∷ []
 
 examples-hold : map (λ (r : Row). read (r .levels) (r .bytes)) rows ≡ map (λ (r : Row). r .reading) rows
-unfolding rows one littleEndian markIn markOf styleOpening rootOf rootOpening opens openingOf symbolHead listHead fieldHead listGot fieldBy onlyList fieldAt thirdAt noadAt listAt choiceAt openedBy itemBy before restBy listBy readBy read
+unfolding rows one littleEndian markIn markOf styleOpening rootOf behindDelimiter rootOpening fenceOf fenceOpening opens openingOf symbolHead listHead fieldHead listGot fieldBy onlyList heldIn fieldAt firstAt thirdAt noadAt listAt choiceAt openedBy itemBy before restBy listBy readBy read
 examples-hold = refl

@@ -3,6 +3,7 @@
 --     short-one ..         a function that says the same of every shorter list
 --     past, up, last       numbers that stand in a list of values, or past it
 --     kern-said .. kern-under     a kern: of its bytes, and in its range or on either side of it
+--     behind-none ..       what opens behind a delimiter, and behind the two of a fence
 --     kind-empty ..        a field, by its kind byte; list-said, empty-said    that it is a list, or empty
 --     list-in, list-cut    a list field, by its length
 -- Assumes nothing.
@@ -14,17 +15,20 @@ use Prim.Native.Nat.{_*_, ℕ, zero, suc, _+_, _-_, _≤_, _<_}
 use native.Mathlib.Omega.{arith}
 use lib.IntN.{ℤ, pos, negsuc}
 use lib.ListN.{length, take, drop, getD, getElem?, length-drop}
+use lib.Seq.{getD-drop}
 use lib.Dec.{leb, eqb}
 use borrow.Author.Tests.{le-leb, lt-leb, ne-eqb}
 use Rattle.scaled.specs.Signed.{above, below}
 use Rattle.words.specs.Words.{littleEndian, signedWord}
 use Rattle.formula.specs.declared.Class.{Class}
+use Rattle.formula.specs.declared.Delimiter.{Delimiter}
+use Rattle.formula.specs.declared.Opening.{Opening}
 use Rattle.formula.specs.declared.Opening.the-variants.{NoItem, Kern}
 use Rattle.formula.specs.declared.FieldHead.{FieldHead}
 use Rattle.formula.specs.declared.FieldHead.the-variants.{NoField, Empty, Symbol, Sublist, CutSublist}
 use Rattle.formula.specs.Tree.{listOpeningBytes}
-use Rattle.formula.specs.Heads.{atomOf, greatestKern, kernWithin, kernOpening, greatestFamily, symbolHead, listHead, fieldHead, isEmpty, isList}
-use Rattle.formula.specs.Slices.{tail-part}
+use Rattle.formula.specs.Heads.{atomOf, greatestKern, kernWithin, kernOpening, greatestFamily, behindDelimiter, fenceOf, fenceOpening, symbolHead, listHead, fieldHead, isEmpty, isList}
+use Rattle.formula.specs.Slices.{tail-part, delimiterAt}
 
 pub one : (s : List ℕ) → 1 ≤ length s → s ≡ getD s 0 0 ∷ drop 1 s
 one [] h = absurd (omega arith)
@@ -104,6 +108,30 @@ pub kern-under : (n : ℤ) → above n + greatestKern < below n → kernWithin n
 unfolding kernWithin
 kern-under (pos m) h = absurd (omega arith)
 kern-under (negsuc m) h = simp (kernWithin, lt-leb (suc m) greatestKern (omega arith))
+
+-- ---- a delimiter
+
+module _ (opening : Delimiter → List ℕ → Opening) where
+  pub behind-none : (s : List ℕ) → length s < 4 → behindDelimiter opening s ≡ NoItem
+  unfolding behindDelimiter
+  behind-none = short-four (behindDelimiter opening) NoItem refl (λ a. refl) (λ a b. refl) (λ a b c. refl)
+
+  pub behind-said : (s : List ℕ) → 4 ≤ length s → behindDelimiter opening s ≡ opening (delimiterAt s 0) (drop 4 s)
+  unfolding behindDelimiter
+  behind-said s h = ap (behindDelimiter opening) (four s h)
+
+pub fence-none : (s : List ℕ) → length s < 8 → fenceOpening s ≡ NoItem
+unfolding fenceOpening behindDelimiter
+fence-none [] h = refl
+fence-none (a ∷ []) h = refl
+fence-none (a ∷ b ∷ []) h = refl
+fence-none (a ∷ b ∷ c ∷ []) h = refl
+fence-none (a ∷ b ∷ c ∷ d ∷ s) h = behind-none _ s (omega arith)
+
+pub fence-said : (s : List ℕ) → 8 ≤ length s → fenceOpening s ≡ fenceOf (delimiterAt s 0) (delimiterAt s 4)
+unfolding fenceOpening
+fence-said s h =
+    behind-said _ s (omega arith) ∙ behind-said _ (drop 4 s) (omega (arith, length-drop 4 s)) ∙ simp getD-drop
 
 -- ---- a field
 

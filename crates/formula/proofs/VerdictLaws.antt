@@ -2,11 +2,12 @@
 --     later, verdict-step     a list: what its first item says, and then what the rest says
 --     fault-in, next-in       a fault's place lies in the list, and a part that is read ends in it, behind its start (`ReadIn`)
 --     field-step ..           a field, by its head; `noad-first` .. an item, by its fields
---     choice-said, inTurn     a choice says what its lists say in turn; list-yes, list-no    what a field that must be a list says
+--     held-yes, held-no, held-list     a field that may have to be a list, by the test of its kind
+--     choice-said, inTurn     a choice says what its lists say in turn
 --     list-next ..            a turn of the loop over a list's items
 -- Assumes nothing.
 use mathlib.Core.Path.{_≡_, refl, sym, subst, ap, _∙_}
-use mathlib.Core.Bool.{Bool, true, false}
+use mathlib.Core.Bool.{Bool, true, false, not, _&&_}
 use mathlib.Core.List.{List}
 use Prim.Native.Nat.{ℕ, zero, suc, _+_, _-_, _≤_, _<_}
 use native.Mathlib.Omega.{arith}
@@ -23,9 +24,9 @@ use Rattle.formula.specs.declared.Verdict.{Verdict}
 use Rattle.formula.specs.declared.Verdict.the-variants.{Good, Faulty}
 use Rattle.formula.specs.declared.PartRead.{PartRead}
 use Rattle.formula.specs.declared.PartRead.the-variants.{Next, Stop}
-use Rattle.formula.specs.Tree.{Item, noad, openingBytes, choiceOpeningBytes}
+use Rattle.formula.specs.Tree.{Item, Field, noad, empty, symbol, list, openingBytes, holdsList, choiceOpeningBytes}
 use Rattle.formula.specs.Heads.{openingOf, fieldHead, isList}
-use Rattle.formula.specs.Reading.{Read, good, fault, Got, got, stopped, _thenAt_, listGot, fieldBy, onlyList, fieldAt, thirdAt, noadAt, listAt, choiceAt, openedBy, itemBy, before, restBy, read}
+use Rattle.formula.specs.Reading.{Read, good, fault, Got, got, stopped, _thenAt_, listGot, fieldBy, onlyList, heldIn, fieldAt, firstAt, thirdAt, noadAt, listAt, choiceAt, openedBy, itemBy, before, restBy, read}
 use Rattle.formula.specs.Values.{told, partReadOf}
 use Rattle.formula.specs.Places.{headBytes, contents, choiceLists, hasThird}
 use Rattle.formula.specs.Slices.{tail-part, field-part}
@@ -172,7 +173,7 @@ module _ (levels at : ℕ) (s : List ℕ) where
 
   -- ---- a field that must be a list
 
-  pub list-yes : isList (fieldHead rest) ≡ true → partReadOf (listAt read levels s at) ≡ partReadOf (fieldAt read levels s at)
+  list-yes : isList (fieldHead rest) ≡ true → partReadOf (listAt read levels s at) ≡ partReadOf (fieldAt read levels s at)
   unfolding listAt fieldAt fieldBy listGot onlyList partReadOf
   list-yes e = go levels (fieldHead (drop at s)) (rw tail-part at e)
     where
@@ -190,7 +191,7 @@ module _ (levels at : ℕ) (s : List ℕ) where
       go zero CutSublist e = refl
       go (suc d) CutSublist e = refl
 
-  pub list-no : isList (fieldHead rest) ≡ false → partReadOf (listAt read levels s at) ≡ Stop Unreadable 0
+  list-no : isList (fieldHead rest) ≡ false → partReadOf (listAt read levels s at) ≡ Stop Unreadable 0
   unfolding listAt fieldAt fieldBy onlyList partReadOf
   list-no e = go (fieldHead (drop at s)) (rw tail-part at e)
     where
@@ -201,7 +202,7 @@ module _ (levels at : ℕ) (s : List ℕ) where
       go (Sublist opening n) e = let z : _≡_ {A = ℕ} 0 1 = cc in absurd (omega arith)
       go CutSublist e = let z : _≡_ {A = ℕ} 0 1 = cc in absurd (omega arith)
 
--- ---- an item, by its fields
+-- ---- one part behind another
 
 abbrev onFrom : PartRead → (ℕ → PartRead) → PartRead
 onFrom (Next m) k = k m
@@ -218,13 +219,56 @@ unfolding partReadOf
 then-last (got a m) k = refl
 then-last (stopped why place) k = refl
 
+-- ---- a field that may have to be a list
+
 module _ (levels : ℕ) (s : List ℕ) where
-  abbrev fieldSays : ℕ → PartRead
+  abbrev pub fieldSays : ℕ → PartRead
   fieldSays at = partReadOf (fieldAt read levels s at)
 
+  abbrev pub listSays : ℕ → PartRead
+  listSays at = partReadOf (listAt read levels s at)
+
+  abbrev pub heldSays : Bool → ℕ → PartRead
+  heldSays listed at = partReadOf (fieldAt read levels s at thenAt heldIn listed)
+
+  pub held-list : (at : ℕ) → heldSays true at ≡ listSays at
+  unfolding listAt heldIn partReadOf
+  held-list at = go (fieldAt read levels s at)
+    where
+      go : (g : Got Field) → partReadOf (g thenAt heldIn true) ≡ partReadOf (g thenAt onlyList)
+      go (got f m) = then-last (onlyList f m) list
+      go (stopped why place) = refl
+
+  pub held-yes : (at : ℕ) (listed is : Bool) → isList (fieldHead (rest levels at s)) ≡ is → (listed && not is) ≡ false →
+      heldSays listed at ≡ fieldSays at
+  unfolding heldIn
+  held-yes at true true test e = held-list at ∙ list-yes levels at s test
+  held-yes at true false test e = let z : _≡_ {A = ℕ} 0 1 = cc in absurd (omega arith)
+  held-yes at false is test e = then-last (fieldAt read levels s at) (λ f. f)
+
+  pub held-no : (at : ℕ) (listed is : Bool) → isList (fieldHead (rest levels at s)) ≡ is → (listed && not is) ≡ true →
+      heldSays listed at ≡ Stop Unreadable 0
+  held-no at true true test e = let z : _≡_ {A = ℕ} 0 1 = cc in absurd (omega arith)
+  held-no at true false test e = held-list at ∙ list-no levels at s test
+  held-no at false is test e = let z : _≡_ {A = ℕ} 0 1 = cc in absurd (omega arith)
+
+  pub held-next : (listed : Bool) (at m : ℕ) → at ≤ length s → heldSays listed at ≡ Next m → m ≤ length s
+  unfolding heldIn onlyList partReadOf
+  held-next listed at m l e = next-in s levels at m l (go listed (fieldAt read levels s at) e)
+    where
+      go : (listed : Bool) (g : Got Field) → partReadOf (g thenAt heldIn listed) ≡ Next m → partReadOf g ≡ Next m
+      go true (got empty k) e = let z : _≡_ {A = ℕ} 0 1 = cc in absurd (omega arith)
+      go true (got (symbol family code) k) e = let z : _≡_ {A = ℕ} 0 1 = cc in absurd (omega arith)
+      go true (got (list f) k) e = e
+      go false (got f k) e = e
+      go listed (stopped why place) e = e
+
+-- ---- an item, by its fields
+
+module _ (levels : ℕ) (s : List ℕ) where
   -- behind the second field: what the third says, if there is one
   abbrev pub lastSays : Bool → ℕ → PartRead
-  lastSays true at = fieldSays at
+  lastSays true at = fieldSays levels s at
   lastSays false at = Next at
 
   third-said : (kind : Kind) (at : ℕ) → partReadOf (thirdAt read levels s kind at) ≡ lastSays (hasThird kind) at
@@ -233,24 +277,28 @@ module _ (levels : ℕ) (s : List ℕ) where
   third-said (Fraction bar) at = refl
 
   module _ (kind : Kind) where
+    -- what the first field says
+    abbrev pub firstSays : PartRead
+    firstSays = heldSays levels s (holdsList kind) (openingBytes kind)
+
     noad-said : partReadOf (noadAt read levels s kind) ≡
-        onFrom (fieldSays (openingBytes kind)) (λ m. onFrom (fieldSays m) (lastSays (hasThird kind)))
-    unfolding noadAt
+        onFrom firstSays (λ m. onFrom (fieldSays levels s m) (lastSays (hasThird kind)))
+    unfolding noadAt firstAt
     noad-said =
-        then-said (fieldAt read levels s (openingBytes kind)) _ _ (λ a m₁.
+        then-said (firstAt read levels s kind) _ _ (λ a m₁.
         then-said (fieldAt read levels s m₁) _ _ (λ b m₂.
         then-last (thirdAt read levels s kind m₂) (noad kind a b) ∙ third-said kind m₂))
 
-    pub noad-first : (why : Fault) (place : ℕ) → fieldSays (openingBytes kind) ≡ Stop why place →
+    pub noad-first : (why : Fault) (place : ℕ) → firstSays ≡ Stop why place →
         partReadOf (noadAt read levels s kind) ≡ Stop why place
     noad-first why place first = noad-said ∙ rw first
 
-    module _ (m : ℕ) (first : fieldSays (openingBytes kind) ≡ Next m) where
-      pub noad-second : (why : Fault) (place : ℕ) → fieldSays m ≡ Stop why place →
+    module _ (m : ℕ) (first : firstSays ≡ Next m) where
+      pub noad-second : (why : Fault) (place : ℕ) → fieldSays levels s m ≡ Stop why place →
           partReadOf (noadAt read levels s kind) ≡ Stop why place
       noad-second why place second = noad-said ∙ rw (first, second)
 
-      pub noad-third : (e : ℕ) (has : Bool) → fieldSays m ≡ Next e → hasThird kind ≡ has →
+      pub noad-third : (e : ℕ) (has : Bool) → fieldSays levels s m ≡ Next e → hasThird kind ≡ has →
           partReadOf (noadAt read levels s kind) ≡ lastSays has e
       noad-third e has second h = noad-said ∙ rw (first, second, h)
 
@@ -261,17 +309,14 @@ unfoldable pub inTurn : (ℕ → PartRead) → ℕ → ℕ → PartRead
 inTurn says zero at = Next at
 inTurn says (suc n) at = onFrom (says at) (inTurn says n)
 
-module _ (levels : ℕ) (s : List ℕ) where
-  abbrev pub listSays : ℕ → PartRead
-  listSays at = partReadOf (listAt read levels s at)
-
-  pub choice-said : partReadOf (choiceAt read levels s) ≡ inTurn listSays choiceLists choiceOpeningBytes
-  unfolding choiceAt inTurn partReadOf
-  choice-said =
-      then-said (listAt read levels s choiceOpeningBytes) _ _ (λ d m₁.
-      then-said (listAt read levels s m₁) _ _ (λ t m₂.
-      then-said (listAt read levels s m₂) _ _ (λ sc m₃.
-      then-said (listAt read levels s m₃) _ _ (λ ss m₄. refl))))
+pub choice-said : (levels : ℕ) (s : List ℕ) →
+    partReadOf (choiceAt read levels s) ≡ inTurn (listSays levels s) choiceLists choiceOpeningBytes
+unfolding choiceAt inTurn partReadOf
+choice-said levels s =
+    then-said (listAt read levels s choiceOpeningBytes) _ _ (λ d m₁.
+    then-said (listAt read levels s m₁) _ _ (λ t m₂.
+    then-said (listAt read levels s m₂) _ _ (λ sc m₃.
+    then-said (listAt read levels s m₃) _ _ (λ ss m₄. refl))))
 
 module _ (says : ℕ → PartRead) (at : ℕ) where
   pub turn-next : (n m : ℕ) → 0 < n → says at ≡ Next m → inTurn says n at ≡ inTurn says (n - 1) m

@@ -7,10 +7,10 @@
 -- Each goes by the cases of the definition, whose tests `either` takes apart.
 -- Assumes nothing.
 use mathlib.Core.Path.{_≡_, refl, subst}
-use mathlib.Core.Bool.{Bool, true, false, _||_}
+use mathlib.Core.Bool.{Bool, true, false, _&&_, _||_}
 use mathlib.Core.List.{List, [], _∷_}
 use mathlib.Core.Option.{Option, none, some}
-use Prim.Native.Nat.{ℕ, _≤_, _<_}
+use Prim.Native.Nat.{ℕ, _+_, _≤_, _<_}
 use native.Mathlib.Omega.{arith}
 use lib.Dec.{leb, eqb}
 use lib.IntN.{ℤ, pos, negsuc, natAbs}
@@ -23,15 +23,18 @@ use Rattle.formula.specs.declared.Class.{Class}
 use Rattle.formula.specs.declared.Limits.{Limits}
 use Rattle.formula.specs.declared.Bar.{Bar}
 use Rattle.formula.specs.declared.Delimiter.{Delimiter}
+use Rattle.formula.specs.declared.Base.the-variants.{Atom, Root, Fence}
+use Rattle.formula.specs.declared.Kind.{Kind}
+use Rattle.formula.specs.declared.Kind.the-variants.{Scripted}
 use Rattle.formula.specs.declared.Mark.{Mark}
-use Rattle.formula.specs.declared.Mark.the-variants.{AT, OV, UN, FR, KN, ST, C4, RD, Unknown}
+use Rattle.formula.specs.declared.Mark.the-variants.{AT, OV, UN, FR, KN, ST, C4, RD, FE, Unknown}
 use Rattle.formula.specs.declared.Opening.{Opening}
 use Rattle.formula.specs.declared.Opening.the-variants.{NoItem, Fields, Kern, Restyle, Choice}
 use Rattle.formula.specs.declared.FieldHead.{FieldHead}
 use Rattle.formula.specs.declared.FieldHead.the-variants.{NoField, Empty, Symbol, Sublist, CutSublist}
-use Rattle.formula.specs.Tree.{kernBytes, restyleBytes, listOpeningBytes}
+use Rattle.formula.specs.Tree.{openingBytes, kernBytes, restyleBytes, listOpeningBytes}
 use Rattle.formula.specs.Marks.{markOf}
-use Rattle.formula.specs.Heads.{classes, limitKinds, bars, isOp, isDisplayOnly, atomOf, atomOpening, fractionOf, fractionOpening, greatestKern, kernWithin, kernOpening, greatestStyle, styleOpening, greatestFamily, goodDelimiter, rootOf, delimiter, rootOpening, opens, openingOf, symbolHead, listHead, fieldHead}
+use Rattle.formula.specs.Heads.{classes, limitKinds, bars, isOp, isDisplayOnly, atomOf, atomOpening, fractionOf, fractionOpening, greatestKern, kernWithin, kernOpening, greatestStyle, styleOpening, greatestFamily, goodDelimiter, rootOf, delimiter, behindDelimiter, rootOpening, fenceOf, fenceOpening, opens, openingOf, symbolHead, listHead, fieldHead}
 use Rattle.formula.specs.Places.{headBytes, contents, openedBytes}
 
 -- a choice by a test
@@ -104,12 +107,18 @@ NumberIn Choice = Unit {0}
 OpeningIn : List ℕ → Opening → Type 0
 OpeningIn s o = (openedBytes o ≤ length s) × NumberIn o
 
+-- a kind by a test
+kind-in : (s : List ℕ) (kind : Kind) (t : Bool) → openingBytes kind ≤ length s →
+    OpeningIn s (elim t [ true ↦ Fields kind | false ↦ NoItem ])
+unfolding OpeningIn NumberIn
+kind-in s kind true h = (h, tt)
+kind-in s kind false h = (omega arith, tt)
+
 atom-in : (s : List ℕ) (class : Option Class) (limits : Option Limits) → 4 ≤ length s → OpeningIn s (atomOf class limits)
 unfolding atomOf OpeningIn NumberIn
 atom-in s none limits h = (omega arith, tt)
 atom-in s (some class) none h = (omega arith, tt)
-atom-in s (some class) (some limits) h =
-    either (OpeningIn s) (isOp class || isDisplayOnly limits) (λ e. (h, tt)) (λ e. (omega arith, tt))
+atom-in s (some class) (some limits) h = kind-in s (Scripted (Atom class limits)) (isOp class || isDisplayOnly limits) h
 
 fraction-in : (s : List ℕ) (bar : Option Bar) → 3 ≤ length s → OpeningIn s (fractionOf bar)
 unfolding fractionOf OpeningIn NumberIn
@@ -132,11 +141,25 @@ style-in s n h =
     either (OpeningIn s) (leb n greatestStyle) (λ e. (h, leb-true n greatestStyle e)) (λ e. (omega arith, tt))
 
 root-in : (s : List ℕ) (sign : Delimiter) → 6 ≤ length s → OpeningIn s (rootOf sign)
-unfolding rootOf OpeningIn NumberIn
-root-in s sign h = either (OpeningIn s) (goodDelimiter sign) (λ e. (h, tt)) (λ e. (omega arith, tt))
+unfolding rootOf
+root-in s sign h = kind-in s (Scripted (Root sign)) (goodDelimiter sign) h
+
+fence-in : (s : List ℕ) (left right : Delimiter) → 10 ≤ length s → OpeningIn s (fenceOf left right)
+unfolding fenceOf
+fence-in s left right h = kind-in s (Scripted (Fence left right)) (goodDelimiter left && goodDelimiter right) h
+
+-- s are the last bytes of t
+behind-in : (t s : List ℕ) (opening : Delimiter → List ℕ → Opening) →
+    ((d : Delimiter) (r : List ℕ) → 4 + length r ≡ length s → OpeningIn t (opening d r)) → OpeningIn t (behindDelimiter opening s)
+unfolding behindDelimiter OpeningIn NumberIn
+behind-in t [] opening f = (omega arith, tt)
+behind-in t (a ∷ []) opening f = (omega arith, tt)
+behind-in t (a ∷ b ∷ []) opening f = (omega arith, tt)
+behind-in t (a ∷ b ∷ c ∷ []) opening f = (omega arith, tt)
+behind-in t (a ∷ b ∷ c ∷ d ∷ s) opening f = f (delimiter a b c d) s (omega arith)
 
 opens-in : (a b : ℕ) (m : Mark) (s : List ℕ) → OpeningIn (a ∷ b ∷ s) (opens m s)
-unfolding opens atomOpening fractionOpening kernOpening styleOpening rootOpening OpeningIn NumberIn
+unfolding opens atomOpening fractionOpening kernOpening styleOpening rootOpening fenceOpening OpeningIn NumberIn
 opens-in a b AT [] = (omega arith, tt)
 opens-in a b AT (c ∷ []) = (omega arith, tt)
 opens-in a b AT (c ∷ d ∷ s) =
@@ -154,11 +177,10 @@ opens-in a b KN (c ∷ d ∷ e ∷ f ∷ s) =
 opens-in a b ST [] = (omega arith, tt)
 opens-in a b ST (c ∷ s) = style-in (a ∷ b ∷ c ∷ s) c (omega arith)
 opens-in a b C4 s = (omega arith, tt)
-opens-in a b RD [] = (omega arith, tt)
-opens-in a b RD (c ∷ []) = (omega arith, tt)
-opens-in a b RD (c ∷ d ∷ []) = (omega arith, tt)
-opens-in a b RD (c ∷ d ∷ e ∷ []) = (omega arith, tt)
-opens-in a b RD (c ∷ d ∷ e ∷ f ∷ s) = root-in (a ∷ b ∷ c ∷ d ∷ e ∷ f ∷ s) (delimiter c d e f) (omega arith)
+opens-in a b RD s = behind-in (a ∷ b ∷ s) s _ (λ sign r l. root-in (a ∷ b ∷ s) sign (omega arith))
+opens-in a b FE s =
+    let t = a ∷ b ∷ s in
+    behind-in t s _ (λ left r l. behind-in t r _ (λ right q k. fence-in t left right (omega arith)))
 opens-in a b Unknown s = (omega arith, tt)
 
 opening-in : (s : List ℕ) → OpeningIn s (openingOf s)

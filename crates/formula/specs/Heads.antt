@@ -18,10 +18,10 @@ use Rattle.formula.specs.declared.Limits.the-variants.{DisplayOnly, Alwa
 use Rattle.formula.specs.declared.Bar.{Bar}
 use Rattle.formula.specs.declared.Bar.the-variants.{Default, Without}
 use Rattle.formula.specs.declared.Delimiter.{Delimiter}
-use Rattle.formula.specs.declared.Base.the-variants.{Atom, Over, Under, Root}
+use Rattle.formula.specs.declared.Base.the-variants.{Atom, Over, Under, Root, Fence}
 use Rattle.formula.specs.declared.Kind.the-variants.{Scripted, Fraction}
 use Rattle.formula.specs.declared.Mark.{Mark}
-use Rattle.formula.specs.declared.Mark.the-variants.{AT, OV, UN, FR, KN, ST, C4, RD, Unknown}
+use Rattle.formula.specs.declared.Mark.the-variants.{AT, OV, UN, FR, KN, ST, C4, RD, FE, Unknown}
 use Rattle.formula.specs.declared.FieldHead.{FieldHead}
 use Rattle.formula.specs.declared.FieldHead.the-variants.{NoField, Empty, Symbol, Sublist, CutSublist}
 use Rattle.formula.specs.declared.Opening.{Opening}
@@ -112,12 +112,24 @@ rootOf sign = elim (goodDelimiter sign) [ true ↦ Fields (Scripted (Root sign))
 abbrev pub delimiter : ℕ → ℕ → ℕ → ℕ → Delimiter
 delimiter a b c d = record { small = record { family = a; code = b }; large = record { family = c; code = d } }
 
+-- what opens behind a delimiter, from it and the bytes behind it
+unfoldable pub behindDelimiter : (Delimiter → List ℕ → Opening) → List ℕ → Opening
+behindDelimiter opening [] = NoItem
+behindDelimiter opening (a ∷ []) = NoItem
+behindDelimiter opening (a ∷ b ∷ []) = NoItem
+behindDelimiter opening (a ∷ b ∷ c ∷ []) = NoItem
+behindDelimiter opening (a ∷ b ∷ c ∷ d ∷ s) = opening (delimiter a b c d) s
+
 unfoldable pub rootOpening : List ℕ → Opening
-rootOpening [] = NoItem
-rootOpening (a ∷ []) = NoItem
-rootOpening (a ∷ b ∷ []) = NoItem
-rootOpening (a ∷ b ∷ c ∷ []) = NoItem
-rootOpening (a ∷ b ∷ c ∷ d ∷ s) = rootOf (delimiter a b c d)
+rootOpening s = behindDelimiter (λ sign r. rootOf sign) s
+
+-- a fence's left delimiter comes before its right one
+unfoldable pub fenceOf : Delimiter → Delimiter → Opening
+fenceOf left right =
+    elim (goodDelimiter left && goodDelimiter right) [ true ↦ Fields (Scripted (Fence left right)) | false ↦ NoItem ]
+
+unfoldable pub fenceOpening : List ℕ → Opening
+fenceOpening s = behindDelimiter (λ left r. behindDelimiter (λ right q. fenceOf left right) r) s
 
 -- what opens behind a mark, from the bytes behind the mark
 unfoldable pub opens : Mark → List ℕ → Opening
@@ -129,6 +141,7 @@ opens KN s = kernOpening s
 opens ST s = styleOpening s
 opens C4 s = Choice
 opens RD s = rootOpening s
+opens FE s = fenceOpening s
 opens Unknown s = NoItem
 
 unfoldable pub openingOf : List ℕ → Opening

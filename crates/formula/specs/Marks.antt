@@ -5,7 +5,7 @@ use mathlib.Core.List.{List, [], _∷_}
 use Prim.Native.Nat.{ℕ}
 use lib.Dec.{eqb}
 use Rattle.formula.specs.declared.Mark.{Mark}
-use Rattle.formula.specs.declared.Mark.the-variants.{AT, OV, UN, FR, KN, ST, C4, RD, Unknown}
+use Rattle.formula.specs.declared.Mark.the-variants.{AT, OV, UN, FR, KN, ST, C4, RD, FE, Unknown}
 
 -- two letters and the mark that they make
 pub record Row : Type 0 where
@@ -19,7 +19,8 @@ row first second mark = record { first = first; second = second; mark = mark }
 -- the letters in ASCII
 abbrev pub rows : List Row
 rows =
-    row 65 84 AT ∷ row 79 86 OV ∷ row 85 78 UN ∷ row 70 82 FR ∷ row 75 78 KN ∷ row 83 84 ST ∷ row 67 52 C4 ∷ row 82 68 RD ∷ []
+    row 65 84 AT ∷ row 79 86 OV ∷ row 85 78 UN ∷ row 70 82 FR ∷ row 75 78 KN ∷ row 83 84 ST ∷ row 67 52 C4 ∷ row 82 68 RD
+    ∷ row 70 69 FE ∷ []
 
 -- the mark of the first row that has both letters
 unfoldable pub markIn : List Row → ℕ → ℕ → Mark

@@ -19,7 +19,7 @@ use Rattle.formula.specs.declared.Opening.{Opening}
 use Rattle.formula.specs.declared.Opening.the-variants.{NoItem, Fields, Kern, Restyle, Choice}
 use Rattle.formula.specs.declared.FieldHead.{FieldHead}
 use Rattle.formula.specs.declared.FieldHead.the-variants.{NoField, Empty, Symbol, Sublist, CutSublist}
-use Rattle.formula.specs.Tree.{Items, Item, Field, nil, noad, kern, restyle, choice, empty, symbol, list, openingBytes, kernBytes, restyleBytes, choiceOpeningBytes, symbolBytes}
+use Rattle.formula.specs.Tree.{Items, Item, Field, nil, noad, kern, restyle, choice, empty, symbol, list, openingBytes, holdsList, kernBytes, restyleBytes, choiceOpeningBytes, symbolBytes}
 use Rattle.formula.specs.Heads.{fieldHead}
 use Rattle.formula.specs.Reading.{Read, good, fault, read}
 
@@ -163,10 +163,18 @@ module _ (s : List ℕ) where
   abbrev pub GoodListAt : ℕ → Type 0
   GoodListAt at = GoodList (drop at s) (headAt at)
 
+  -- a first field that must be a list
+  abbrev pub GoodHeld : Bool → ℕ → Type 0
+  GoodHeld true at = GoodListAt at
+  GoodHeld false at = Unit {0}
+
   abbrev pub GoodItem : Opening → Type 0
   GoodItem NoItem = ⊥
   GoodItem (Fields kind) =
-      GoodFieldAt (openingBytes kind) × GoodFieldAt (second kind) × GoodThird (hasThird kind) (third kind)
+      GoodFieldAt (openingBytes kind)
+      × GoodFieldAt (second kind)
+      × GoodThird (hasThird kind) (third kind)
+      × GoodHeld (holdsList kind) (openingBytes kind)
   GoodItem (Kern n) = Unit {0}
   GoodItem (Restyle n) = Unit {0}
   GoodItem Choice = (n : ℕ) → n < choiceLists → GoodListAt (listPlace n)

@@ -3,6 +3,7 @@
 --     step                 a list that is not empty is its first item, given by its opening, and a readable rest.
 --                          A list field of that item is `Readable` by itself, and the field is the list of its tree
 --     Noad, noad-at        where the fields of a first item with fields stand; Chosen, choice-at    where the lists of a choice stand
+--     list-good-field      a field that must be a list, as a field
 --     items-bytes, item-bytes, field-bytes, list-bytes     a list, an item, a field and a list of a choice are as long as their
 --                          tree is written
 --     formula-good, formula-fault     what the verdict of a formula says of its reading
@@ -15,7 +16,7 @@ use native.Mathlib.Omega.{arith}
 use lib.Dec.{ltb}
 use lib.ListN.{length, drop, length-drop}
 use borrow.Author.Tests.{ltb-false}
-use Rattle.formula.specs.declared.Base.the-variants.{Atom, Over, Under, Root}
+use Rattle.formula.specs.declared.Base.the-variants.{Atom, Over, Under, Root, Fence}
 use Rattle.formula.specs.declared.Kind.{Kind}
 use Rattle.formula.specs.declared.Kind.the-variants.{Scripted, Fraction}
 use Rattle.formula.specs.declared.Opening.{Opening}
@@ -25,13 +26,13 @@ use Rattle.formula.specs.declared.FieldHead.the-variants.{NoField, Empty
 use Rattle.formula.specs.declared.Fault.{Fault}
 use Rattle.formula.specs.declared.Fault.the-variants.{Unreadable}
 use Rattle.formula.specs.declared.Verdict.the-variants.{Good, Faulty}
-use Rattle.formula.specs.Tree.{Items, Item, Field, nil, cons, list, openingBytes, listOpeningBytes, sublistBytes, itemsBytes, itemBytes, fieldBytes}
+use Rattle.formula.specs.Tree.{Items, Item, Field, nil, cons, list, openingBytes, holdsList, listOpeningBytes, sublistBytes, itemsBytes, itemBytes, fieldBytes}
 use Rattle.formula.specs.Heads.{openingOf, fieldHead}
 use Rattle.formula.specs.Reading.{formulaLimit, depthLimit, Read, good, fault, read, readFormula}
 use Rattle.formula.specs.Values.{told}
-use Rattle.formula.specs.Places.{treeIn, IsGood, Readable, treeOf, headBytes, contents, fieldOf, GoodField, listOf, GoodList, choiceLists, hasThird, headAt, second, third, thirdEnd, end, listPlace, itemSize, fieldIn, thirdIn, listIn, itemOf, GoodFieldAt, GoodThird, GoodListAt, GoodItem}
+use Rattle.formula.specs.Places.{treeIn, IsGood, Readable, treeOf, headBytes, contents, fieldOf, GoodField, listOf, GoodList, choiceLists, hasThird, headAt, second, third, thirdEnd, end, listPlace, itemSize, fieldIn, thirdIn, listIn, itemOf, GoodFieldAt, GoodThird, GoodListAt, GoodHeld, GoodItem}
 use Rattle.formula.specs.HeadLaws.{list-opening, contents-shorter, opening-fits}
-use Rattle.formula.specs.ReadingLaws.{by-length, FieldIs, ThirdIs, ItemIs, item-map, list-place-in, size-fits, size-some, Below, read-none, list-good, agree}
+use Rattle.formula.specs.ReadingLaws.{by-length, FieldIs, IsHeld, FieldAtIs, ThirdIs, ItemIs, item-map, list-place-in, size-fits, size-some, Below, read-none, list-good, agree}
 
 -- ---- a readable list
 
@@ -81,6 +82,10 @@ third-known : (s : List ℕ) (has : Bool) (at : ℕ) (f : Field) → ThirdIs Kno
 third-known s true at f i = field-known (drop at s) (headAt s at) f i
 third-known s false at f i = (tt, i)
 
+held-known : (s : List ℕ) (only : Bool) (at : ℕ) (f : Field) → FieldAtIs Known s at f → IsHeld only f → GoodHeld s only at
+held-known s true at f i h = list-known (drop at s) (headAt s at) (h .0) (rw (h .1) at i) .0
+held-known s false at f i h = tt
+
 item-known : (s : List ℕ) (o : Opening) (i : Item) → ItemIs Known s o i → GoodItem s o × (i ≡ itemOf s o)
 item-known s NoItem i h = absurd h
 item-known s (Fields kind) i h =
@@ -88,7 +93,8 @@ item-known s (Fields kind) i h =
     let a = field-known (drop first s) (headAt s first) (h .a) (h .a-is) in
     let b = field-known (drop (second s kind) s) (headAt s (second s kind)) (h .b) (h .b-is) in
     let c = third-known s (hasThird kind) (third s kind) (h .c) (h .c-is) in
-    ((a .0, b .0, c .0), (cc))
+    let d = held-known s (holdsList kind) first (h .a) (h .a-is) (h .held) in
+    ((a .0, b .0, c .0, d), (cc))
 item-known s (Kern n) i h = (tt, h)
 item-known s (Restyle n) i h = (tt, h)
 item-known s Choice i h =
@@ -152,6 +158,7 @@ opening-long (Scripted (Atom class limits)) = omega arith
 opening-long (Scripted Over) = omega arith
 opening-long (Scripted Under) = omega arith
 opening-long (Scripted (Root sign)) = omega arith
+opening-long (Scripted (Fence left right)) = omega arith
 opening-long (Fraction bar) = omega arith
 
 -- its fields and what stands behind it are good, and they stand one behind the other
@@ -159,6 +166,7 @@ pub record Noad (s : List ℕ) (kind : Kind) : Type 0 where
   pub x : GoodFieldAt s (openingBytes kind)
   pub y : GoodFieldAt s (second s kind)
   pub z : GoodThird s (hasThird kind) (third s kind)
+  pub held : GoodHeld s (holdsList kind) (openingBytes kind)
   pub rest : Readable (drop (end s kind) s)
   pub opened : 2 ≤ openingBytes kind
   pub first-in : openingBytes kind < second s kind
@@ -177,6 +185,7 @@ noad-at s kind e readable =
       x = p .item .0;
       y = p .item .1;
       z = p .item .2;
+      held = p .item .3;
       rest = p .rest;
       opened = two;
       first-in = omega arith;
@@ -198,15 +207,15 @@ noad-at s kind e readable =
     five (Scripted base) a b g = omega (arith, opening-long (Scripted base), some (third s (Scripted base)) g)
     five (Fraction bar) a b g = omega arith
 
--- ---- a choice
-
 -- a field that is a list that reads, as a field
-list-good-field : (s : List ℕ) (h : FieldHead) → GoodList s h → GoodField s h × (fieldOf s h ≡ list (listOf s h))
+pub list-good-field : (s : List ℕ) (h : FieldHead) → GoodList s h → GoodField s h × (fieldOf s h ≡ list (listOf s h))
 list-good-field s NoField g = absurd g
 list-good-field s Empty g = absurd g
 list-good-field s (Symbol family code) g = absurd g
 list-good-field s (Sublist opening n) g = (g, refl)
 list-good-field s CutSublist g = absurd g
+
+-- ---- a choice
 
 list-long : (s : List ℕ) (h : FieldHead) → fieldHead s ≡ h → GoodList s h → listOpeningBytes ≤ headBytes h
 list-long s NoField e g = absurd g

@@ -6,6 +6,7 @@
 --     field-in, item-in, read-in     then it holds of whatever is read
 -- Assumes nothing.
 use mathlib.Core.Path.{_≡_, refl, sym, subst}
+use mathlib.Core.Bool.{Bool, true, false}
 use mathlib.Core.List.{List, [], _∷_}
 use Prim.Native.Nat.{ℕ, zero, suc, _+_, _≤_}
 use native.Mathlib.Omega.{arith}
@@ -19,9 +20,9 @@ use Rattle.formula.specs.declared.Opening.{Opening}
 use Rattle.formula.specs.declared.Opening.the-variants.{NoItem, Fields, Kern, Restyle, Choice}
 use Rattle.formula.specs.declared.FieldHead.{FieldHead}
 use Rattle.formula.specs.declared.FieldHead.the-variants.{NoField, Empty, Symbol, Sublist, CutSublist}
-use Rattle.formula.specs.Tree.{Items, Item, Field, nil, cons, noad, kern, restyle, choice, empty, symbol, list, openingBytes, kernBytes, restyleBytes, choiceOpeningBytes, symbolBytes, listOpeningBytes}
+use Rattle.formula.specs.Tree.{Items, Item, Field, nil, cons, noad, kern, restyle, choice, empty, symbol, list, openingBytes, holdsList, kernBytes, restyleBytes, choiceOpeningBytes, symbolBytes, listOpeningBytes}
 use Rattle.formula.specs.Heads.{openingOf, fieldHead}
-use Rattle.formula.specs.Reading.{Read, good, fault, Got, got, stopped, _thenAt_, listGot, fieldBy, onlyList, fieldAt, thirdAt, noadAt, listAt, choiceAt, openedBy, itemBy, before, restBy, listBy, readBy, read}
+use Rattle.formula.specs.Reading.{Read, good, fault, Got, got, stopped, _thenAt_, listGot, fieldBy, onlyList, heldIn, fieldAt, firstAt, thirdAt, noadAt, listAt, choiceAt, openedBy, itemBy, before, restBy, listBy, readBy, read}
 use Rattle.formula.specs.Places.{contents, openedBytes}
 use Rattle.formula.specs.HeadLaws.{head-fits, list-opening, contents-shorter, opening-fits}
 
@@ -110,15 +111,30 @@ module _ (p : Parts) (rules : Closed p) where
         some (stopped why place) h = h
     third-in s (Fraction bar) at l = (rules .no-third bar at, l)
 
+    only-in : (at hi : ℕ) (f : Field) (end : ℕ) → FieldFrom at f end → end ≤ hi → GotIn (ListFrom at) hi (onlyList f end)
+    unfolding onlyList
+    only-in at hi empty end a h = omega arith
+    only-in at hi (symbol family code) end a h = omega arith
+    only-in at hi (list l) end a h = (a, h)
+
     list-at-in : (s : List ℕ) (at : ℕ) → at ≤ length s → GotIn (ListFrom at) (length s) (listAt R levels s at)
-    unfolding listAt onlyList
+    unfolding listAt
     list-at-in s at l =
-        then-in (FieldFrom at) (ListFrom at) (length s) (fieldAt R levels s at) onlyList (field-by-in s at l) only
-      where
-        only : (f : Field) (end : ℕ) → FieldFrom at f end → end ≤ length s → GotIn (ListFrom at) (length s) (onlyList f end)
-        only empty end a h = omega arith
-        only (symbol family code) end a h = omega arith
-        only (list l) end a h = (a, h)
+        then-in (FieldFrom at) (ListFrom at) (length s) (fieldAt R levels s at) onlyList (field-by-in s at l) (only-in at (length s))
+
+    held-in : (only : Bool) (at hi : ℕ) (f : Field) (end : ℕ) → FieldFrom at f end → end ≤ hi → GotIn (FieldFrom at) hi (heldIn only f end)
+    unfolding heldIn
+    held-in true at hi f end a h =
+        then-in (ListFrom at) (FieldFrom at) hi (onlyList f end) _ (only-in at hi f end a h) (λ l m b k. (b, k))
+    held-in false at hi f end a h = (a, h)
+
+    first-in : (s : List ℕ) (kind : Kind) → openingBytes kind ≤ length s →
+        GotIn (FieldFrom (openingBytes kind)) (length s) (firstAt R levels s kind)
+    unfolding firstAt
+    first-in s kind l =
+        let first = openingBytes kind in
+        then-in (FieldFrom first) (FieldFrom first) (length s) (fieldAt R levels s first) _ (field-by-in s first l)
+        (held-in (holdsList kind) first (length s))
 
     -- ---- an item
 
@@ -130,8 +146,7 @@ module _ (p : Parts) (rules : Closed p) where
         go NoItem h = omega arith
         go (Fields kind) h =
             let n = length s in
-            let first = openingBytes kind in
-            then-in (FieldFrom first) ItemTo n (fieldAt R levels s first) _ (field-by-in s first h) (λ x m₁ a l₁.
+            then-in (FieldFrom (openingBytes kind)) ItemTo n (firstAt R levels s kind) _ (first-in s kind h) (λ x m₁ a l₁.
             then-in (FieldFrom m₁) ItemTo n (fieldAt R levels s m₁) _ (field-by-in s m₁ l₁) (λ y m₂ b l₂.
             then-in (ThirdFrom kind m₂) ItemTo n (thirdAt R levels s kind m₂) _ (third-in s kind m₂ l₂) (λ z m₃ c l₃.
             (rules .noad-is kind x y z m₁ m₂ m₃ a b c, l₃))))

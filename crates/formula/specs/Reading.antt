@@ -3,11 +3,11 @@
 -- A list is read with the number of levels that may still be entered below it. Places within an item count from its
 -- first byte, and places within a list from the list's first byte. `R` stands for the reading of shorter lists.
 --     fieldBy      a field, by its head
---     itemBy       an item: its opening, then its fields in order; the fields of a choice must be lists
+--     itemBy       an item: its opening, then its fields in order; the fields of a choice, and the first of a fence, must be lists
 --     listBy       a list: its first item, then the rest
 --     read         the whole
 -- Assumes nothing.
-use mathlib.Core.Bool.{true, false}
+use mathlib.Core.Bool.{Bool, true, false}
 use mathlib.Core.List.{List, [], _∷_}
 use Prim.Native.Nat.{ℕ, zero, suc, _+_, _-_}
 use lib.Dec.{ltb}
@@ -20,7 +20,7 @@ use Rattle.formula.specs.declared.FieldHead.{FieldHead}
 use Rattle.formula.specs.declared.FieldHead.the-variants.{NoField, Empty, Symbol, Sublist, CutSublist}
 use Rattle.formula.specs.declared.Fault.{Fault}
 use Rattle.formula.specs.declared.Fault.the-variants.{Unreadable, TooDeep}
-use Rattle.formula.specs.Tree.{Items, Item, Field, nil, cons, noad, kern, restyle, choice, empty, symbol, list, openingBytes, kernBytes, restyleBytes, choiceOpeningBytes, symbolBytes}
+use Rattle.formula.specs.Tree.{Items, Item, Field, nil, cons, noad, kern, restyle, choice, empty, symbol, list, openingBytes, holdsList, kernBytes, restyleBytes, choiceOpeningBytes, symbolBytes}
 use Rattle.formula.specs.Heads.{openingOf, fieldHead}
 
 -- ---- the numbers of the format
@@ -75,11 +75,19 @@ onlyList empty end = unreadable
 onlyList (symbol family code) end = unreadable
 onlyList (list l) end = got l end
 
+-- an item's first field, where it must be a list, or may be any field
+unfoldable pub heldIn : Bool → Field → ℕ → Got Field
+heldIn true f end = onlyList f end thenAt λ l at. got (list l) at
+heldIn false f end = got f end
+
 -- ---- an item, from its first byte to the end of its list
 
 module _ (R : ℕ → List ℕ → Read) (levels : ℕ) (s : List ℕ) where
   unfoldable pub fieldAt : ℕ → Got Field
   fieldAt at = fieldBy R levels at (drop at s) (fieldHead (drop at s))
+
+  unfoldable pub firstAt : Kind → Got Field
+  firstAt kind = fieldAt (openingBytes kind) thenAt heldIn (holdsList kind)
 
   -- a fraction has two fields, a base with scripts three
   unfoldable pub thirdAt : Kind → ℕ → Got Field
@@ -88,7 +96,7 @@ module _ (R : ℕ → List ℕ → Read) (levels : ℕ) (s : List ℕ) where
 
   unfoldable pub noadAt : Kind → Got Item
   noadAt kind =
-      fieldAt (openingBytes kind) thenAt λ a at₂.
+      firstAt kind thenAt λ a at₂.
       fieldAt at₂ thenAt λ b at₃.
       thirdAt kind at₃ thenAt λ c end.
       got (noad kind a b c) end

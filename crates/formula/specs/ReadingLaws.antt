@@ -21,9 +21,9 @@ use Rattle.formula.specs.declared.Opening.the-variants.{NoItem, Fields, 
 use Rattle.formula.specs.declared.FieldHead.{FieldHead}
 use Rattle.formula.specs.declared.FieldHead.the-variants.{NoField, Empty, Symbol, Sublist, CutSublist}
 use Rattle.formula.specs.declared.Fault.{Fault}
-use Rattle.formula.specs.Tree.{Items, Item, Field, nil, cons, noad, kern, restyle, choice, empty, symbol, list, openingBytes, choiceOpeningBytes}
+use Rattle.formula.specs.Tree.{Items, Item, Field, nil, cons, noad, kern, restyle, choice, empty, symbol, list, openingBytes, holdsList, choiceOpeningBytes}
 use Rattle.formula.specs.Heads.{openingOf, fieldHead}
-use Rattle.formula.specs.Reading.{Read, good, fault, Got, got, stopped, _thenAt_, listGot, fieldBy, onlyList, fieldAt, thirdAt, noadAt, listAt, choiceAt, openedBy, itemBy, before, restBy, listBy, readBy, read}
+use Rattle.formula.specs.Reading.{Read, good, fault, Got, got, stopped, _thenAt_, listGot, fieldBy, onlyList, heldIn, fieldAt, firstAt, thirdAt, noadAt, listAt, choiceAt, openedBy, itemBy, before, restBy, listBy, readBy, read}
 use Rattle.formula.specs.Places.{headBytes, contents, choiceLists, hasThird, openedBytes, headAt, fieldEnd, second, third, thirdEnd, end, listPlace, itemSize}
 use Rattle.formula.specs.HeadLaws.{head-fits, list-opening, contents-shorter, opening-fits}
 
@@ -48,6 +48,11 @@ FieldIs P s (Symbol family code) f = f ≡ symbol family code
 FieldIs P s (Sublist opening n) f = (l : Items) × P (contents opening n s) l × (f ≡ list l)
 FieldIs P s CutSublist f = ⊥
 
+-- what must be a list is one
+abbrev pub IsHeld : Bool → Field → Type 0
+IsHeld true f = (l : Items) × (f ≡ list l)
+IsHeld false f = Unit {0}
+
 module _ (P : Says) (s : List ℕ) where
   abbrev pub FieldAtIs : ℕ → Field → Type 0
   FieldAtIs at f = FieldIs P (drop at s) (headAt s at) f
@@ -63,6 +68,7 @@ module _ (P : Says) (s : List ℕ) where
     pub a-is : FieldAtIs (openingBytes kind) a
     pub b-is : FieldAtIs (second s kind) b
     pub c-is : ThirdIs (hasThird kind) (third s kind) c
+    pub held : IsHeld (holdsList kind) a
     pub is : i ≡ noad kind a b c
 
   -- list number n of a choice is `lists n`
@@ -114,6 +120,7 @@ module _ (P Q : Says) (s : List ℕ)
         a-is = field-map (openingBytes kind) (h .a) (h .a-is);
         b-is = field-map (second s kind) (h .b) (h .b-is);
         c-is = third-map (hasThird kind) (third s kind) (h .c) (h .c-is);
+        held = h .held;
         is = h .is;
       }
   item-map (Kern n) i h = h
@@ -189,6 +196,25 @@ unfolding listGot
 list-got at opening n (good l) f e q = (l, refl, (cc), (cc))
 list-got at opening n (fault why place) f e q = stopped-got q
 
+only-got : (f : Field) (m : ℕ) (l : Items) (e : ℕ) → onlyList f m ≡ got l e → (f ≡ list l) × (m ≡ e)
+unfolding onlyList
+only-got empty m l e q = stopped-got q
+only-got (symbol family code) m l e q = stopped-got q
+only-got (list k) m l e q = ((cc), (cc))
+
+held-got : (only : Bool) (f : Field) (m : ℕ) (g : Field) (e : ℕ) → heldIn only f m ≡ got g e → (f ≡ g) × (m ≡ e) × IsHeld only g
+unfolding heldIn
+held-got true f m g e q =
+    let t = then-got (onlyList f m) _ g e q in
+    let o = only-got f m (t .0) (t .1) (t .2) in
+    ((cc), (cc), (t .0, (cc)))
+held-got false f m g e q = ((cc), (cc), tt)
+
+got-held : (only : Bool) (f : Field) (m : ℕ) → IsHeld only f → heldIn only f m ≡ got f m
+unfolding heldIn onlyList
+got-held true f m i = rw (i .1)
+got-held false f m i = refl
+
 -- one of four lists, by its number
 abbrev oneOf : Items → Items → Items → Items → ℕ → Items
 oneOf d t sc ss zero = d
@@ -240,6 +266,22 @@ module _ (R : Reader) where
     unfolding fieldAt
     got-field at f i = got-field-by levels at (drop at s) (headAt s at) f i
 
+    first-got : (kind : Kind) (f : Field) (e : ℕ) → firstAt R levels s kind ≡ got f e →
+        FieldAtIs (Below R levels) s (openingBytes kind) f × (e ≡ second s kind) × IsHeld (holdsList kind) f
+    unfolding firstAt
+    first-got kind f e q =
+        let g = then-got (fieldAt R levels s (openingBytes kind)) _ f e q in
+        let h = held-got (holdsList kind) (g .0) (g .1) f e (g .3) in
+        let a = field-got (openingBytes kind) f e (cc) in
+        (a .0, a .1, h .2)
+
+    got-first : (kind : Kind) (f : Field) → FieldAtIs (Below R levels) s (openingBytes kind) f → IsHeld (holdsList kind) f →
+        firstAt R levels s kind ≡ got f (second s kind)
+    unfolding firstAt
+    got-first kind f i h =
+        ap (λ (g : Got Field). g thenAt heldIn (holdsList kind)) (got-field (openingBytes kind) f i)
+        ∙ got-held (holdsList kind) f (second s kind) h
+
     third-got : (kind : Kind) (at : ℕ) (f : Field) (e : ℕ) → thirdAt R levels s kind at ≡ got f e →
         ThirdIs (Below R levels) s (hasThird kind) at f × (e ≡ thirdEnd s (hasThird kind) at)
     unfolding thirdAt
@@ -256,8 +298,8 @@ module _ (R : Reader) where
         NoadIs (Below R levels) s kind i × (e ≡ end s kind)
     unfolding noadAt
     noad-got kind i e q =
-        let g₁ = then-got (fieldAt R levels s (openingBytes kind)) _ i e q in
-        let f₁ = field-got (openingBytes kind) (g₁ .0) (g₁ .1) (g₁ .2) in
+        let g₁ = then-got (firstAt R levels s kind) _ i e q in
+        let f₁ = first-got kind (g₁ .0) (g₁ .1) (g₁ .2) in
         let g₂ = then-got (fieldAt R levels s (g₁ .1)) _ i e (g₁ .3) in
         let f₂ = field-got (second s kind) (g₂ .0) (g₂ .1) (ap (fieldAt R levels s) (sym (f₁ .1)) ∙ g₂ .2) in
         let g₃ = then-got (thirdAt R levels s kind (g₂ .1)) _ i e (g₂ .3) in
@@ -269,6 +311,7 @@ module _ (R : Reader) where
             a-is = f₁ .0;
             b-is = f₂ .0;
             c-is = f₃ .0;
+            held = f₁ .2;
             is = (cc);
           },
           (cc),
@@ -277,23 +320,18 @@ module _ (R : Reader) where
     got-noad : (kind : Kind) (i : Item) → NoadIs (Below R levels) s kind i → noadAt R levels s kind ≡ got i (end s kind)
     unfolding noadAt
     got-noad kind i h =
-        let a = got-field (openingBytes kind) (h .a) (h .a-is) in
+        let a = got-first kind (h .a) (h .a-is) (h .held) in
         let b = got-field (second s kind) (h .b) (h .b-is) in
         let c = got-third kind (third s kind) (h .c) (h .c-is) in
         rw (a, b, c, h .is)
 
     sublist-got : (at : ℕ) (l : Items) (e : ℕ) → listAt R levels s at ≡ got l e →
         FieldAtIs (Below R levels) s at (list l) × (e ≡ fieldEnd s at)
-    unfolding listAt onlyList
+    unfolding listAt
     sublist-got at l e q =
         let g = then-got (fieldAt R levels s at) onlyList l e q in
-        only (g .0) (g .1) (g .2) (g .3)
-      where
-        only : (f : Field) (m : ℕ) → fieldAt R levels s at ≡ got f m → onlyList f m ≡ got l e →
-            FieldAtIs (Below R levels) s at (list l) × (e ≡ fieldEnd s at)
-        only empty m a b = stopped-got b
-        only (symbol family code) m a b = stopped-got b
-        only (list k) m a b = let same : k ≡ l = cc in let here : m ≡ e = cc in field-got at (list l) e (cc)
+        let o = only-got (g .0) (g .1) l e (g .3) in
+        field-got at (list l) e (cc)
 
     got-sublist : (at : ℕ) (l : Items) → FieldAtIs (Below R levels) s at (list l) → listAt R levels s at ≡ got l (fieldEnd s at)
     unfolding listAt onlyList
@@ -386,10 +424,14 @@ module _ (R R′ : Reader) (levels : ℕ) (s : List ℕ)
   third-same (Scripted base) at = field-same at
   third-same (Fraction bar) at = refl
 
+  first-same : (kind : Kind) → firstAt R levels s kind ≡ firstAt R′ levels s kind
+  unfolding firstAt
+  first-same kind = then-same _ _ _ _ (field-same (openingBytes kind)) (λ f m. refl)
+
   noad-same : (kind : Kind) → noadAt R levels s kind ≡ noadAt R′ levels s kind
   unfolding noadAt
   noad-same kind =
-      then-same _ _ _ _ (field-same (openingBytes kind)) (λ a m.
+      then-same _ _ _ _ (first-same kind) (λ a m.
       then-same _ _ _ _ (field-same m) (λ b m.
       then-same _ _ _ _ (third-same kind m) (λ c m. refl)))
 

@@ -1,13 +1,14 @@
 -- A formula as a tree (document 01, "Bytes of a formula"), and the number of bytes that each part of it is written in.
 -- An item with fields is a noad, TeX's word: it has a kind and three fields, which are nucleus, superscript and
--- subscript, or numerator, denominator and an empty one. The kind of a root (RD) has the delimiter that is its sign. A style change
--- (ST) has the style's number, a choice (C4) four lists.
+-- subscript, or numerator, denominator and an empty one. The kind of a root (RD) has the delimiter that is its sign, that of a
+-- fence (FE) the two on either side of its first field, which is a list. A style change (ST) has the style's number, a choice (C4) four lists.
 -- A tree holds no places: each part is written in one way, so that a place follows from the bytes of what stands before it.
 -- Assumes nothing.
+use mathlib.Core.Bool.{Bool, true, false}
 use Prim.Native.Nat.{ℕ, _+_}
 use lib.IntN.{ℤ}
 use Rattle.formula.specs.declared.Base.{Base}
-use Rattle.formula.specs.declared.Base.the-variants.{Atom, Over, Under, Root}
+use Rattle.formula.specs.declared.Base.the-variants.{Atom, Over, Under, Root, Fence}
 use Rattle.formula.specs.declared.Kind.{Kind}
 use Rattle.formula.specs.declared.Kind.the-variants.{Scripted, Fraction}
 
@@ -27,16 +28,29 @@ mutual
     symbol : ℕ → ℕ → Field  -- family, code
     list : Items → Field
 
--- mark and what stands before the fields: class and limits, nothing, two families and codes, or the bar
+-- mark and what stands before the fields: class and limits, nothing, the families and codes of delimiters, or the bar
 abbrev pub baseBytes : Base → ℕ
 baseBytes (Atom class limits) = 4
 baseBytes Over = 2
 baseBytes Under = 2
 baseBytes (Root sign) = 6
+baseBytes (Fence left right) = 10
 
 abbrev pub openingBytes : Kind → ℕ
 openingBytes (Scripted base) = baseBytes base
 openingBytes (Fraction bar) = 3
+
+-- a fence holds a list; the first field of another item may be any
+abbrev pub baseHoldsList : Base → Bool
+baseHoldsList (Atom class limits) = false
+baseHoldsList Over = false
+baseHoldsList Under = false
+baseHoldsList (Root sign) = false
+baseHoldsList (Fence left right) = true
+
+abbrev pub holdsList : Kind → Bool
+holdsList (Scripted base) = baseHoldsList base
+holdsList (Fraction bar) = false
 
 -- mark and four bytes
 abbrev pub kernBytes : ℕ

@@ -6,11 +6,12 @@ ghost use mathlib.Core.Option.{some};
 ghost use Prim.Native.Nat.{_+_, _*_, _^_, _<_, _≤_};
 ghost use lib.Dec.{eqb};
 ghost use lib.ListN.{length, getElem?};
-ghost use Rattle.formula.specs.Tree.{baseBytes, openingBytes};
+ghost use Rattle.formula.specs.Tree.{baseBytes, openingBytes, baseHoldsList, holdsList};
 ghost use Rattle.formula.specs.Marks.{markOf};
-ghost use Rattle.formula.specs.Heads.{classes, limitKinds, isOp, isDisplayOnly, atomOf, atomOpening, fractionOpening, kernWithin, kernOpening, styleOpening, goodDelimiter, rootOf, rootOpening, opens, openingOf, symbolHead, listHead, fieldHead, isEmpty, isList};
+ghost use Rattle.formula.specs.Heads.{classes, limitKinds, isOp, isDisplayOnly, atomOf, atomOpening, fractionOpening, kernWithin, kernOpening, styleOpening, goodDelimiter, rootOf, rootOpening, fenceOf, fenceOpening, opens, openingOf, symbolHead, listHead, fieldHead, isEmpty, isList};
 ghost use Rattle.formula.specs.declared.Opening.the-variants.{Fields, Choice};
 ghost use Rattle.formula.specs.Places.{headBytes, hasThird, fieldEnd, end, listPlace};
+ghost use Rattle.formula.specs.Slices.{delimiterAt};
 use crate::Bar;
 use crate::Base;
 use crate::Class;
@@ -53,7 +54,7 @@ const LIST_KIND: u8 = 2;
 const LIST_OPENING_BYTES: usize = 3;
 
 // The letters of the marks, and the marks in the same order; most items are atoms.
-const LETTERS: [[u8; 2]; 8] = [
+const LETTERS: [[u8; 2]; 9] = [
     [b'A', b'T'],
     [b'O', b'V'],
     [b'U', b'N'],
@@ -62,9 +63,10 @@ const LETTERS: [[u8; 2]; 8] = [
     [b'S', b'T'],
     [b'C', b'4'],
     [b'R', b'D'],
+    [b'F', b'E'],
 ];
 
-const MARKS: [Mark; 8] = [
+const MARKS: [Mark; 9] = [
     Mark::AT,
     Mark::OV,
     Mark::UN,
@@ -73,6 +75,7 @@ const MARKS: [Mark; 8] = [
     Mark::ST,
     Mark::C4,
     Mark::RD,
+    Mark::FE,
 ];
 
 // What opens with the first byte of s.
@@ -98,6 +101,7 @@ fn opened(mark: Mark, s: &[u8]) -> Opening
         Mark::ST => style_opening(s),
         Mark::C4 => Opening::Choice,
         Mark::RD => root_opening(s),
+        Mark::FE => fence_opening(s),
         Mark::Unknown => Opening::NoItem,
     }
 }
@@ -120,6 +124,29 @@ fn base_bytes(base: Base) -> usize
         Base::Over => 2,
         Base::Under => 2,
         Base::Root(_) => 6,
+        Base::Fence(_, _) => 10,
+    }
+}
+
+// Whether the first field of an item must be a list.
+pub fn holds_list(kind: Kind) -> bool
+    ensures { λ r. ⌜ r ≡ holdsList kind ⌝ }
+{
+    match kind {
+        Kind::Scripted(base) => base_holds_list(base),
+        Kind::Fraction(_) => false,
+    }
+}
+
+fn base_holds_list(base: Base) -> bool
+    ensures { λ r. ⌜ r ≡ baseHoldsList base ⌝ }
+{
+    match base {
+        Base::Atom(_, _) => false,
+        Base::Over => false,
+        Base::Under => false,
+        Base::Root(_) => false,
+        Base::Fence(_, _) => true,
     }
 }
 
@@ -291,15 +318,32 @@ fn root_opening(s: &[u8]) -> Opening
     if s.len() < 4 {
         return Opening::NoItem;
     }
+    root(delimiter_at(s, 0))
+}
+
+fn fence_opening(s: &[u8]) -> Opening
+    ensures { λ r. ⌜ r ≡ fenceOpening (now (s .entry)) ⌝ }
+{
+    if s.len() < 8 {
+        return Opening::NoItem;
+    }
+    fence(delimiter_at(s, 0), delimiter_at(s, 4))
+}
+
+// The delimiter whose four bytes stand at a place of s.
+fn delimiter_at(s: &[u8], at: usize) -> Delimiter
+    requires { ⌜ at + 4 ≤ length (now s) ⌝ }
+    ensures { λ r. ⌜ r ≡ delimiterAt (now (s .entry)) at ⌝ }
+{
     let small = Pair {
-        family: s[0],
-        code: s[1],
+        family: s[at],
+        code: s[at + 1],
     };
     let large = Pair {
-        family: s[2],
-        code: s[3],
+        family: s[at + 2],
+        code: s[at + 3],
     };
-    root(Delimiter { small, large })
+    Delimiter { small, large }
 }
 
 fn root(sign: Delimiter) -> Opening
@@ -307,6 +351,16 @@ fn root(sign: Delimiter) -> Opening
 {
     if is_good_delimiter(sign) {
         Opening::Fields(Kind::Scripted(Base::Root(sign)))
+    } else {
+        Opening::NoItem
+    }
+}
+
+fn fence(left: Delimiter, right: Delimiter) -> Opening
+    ensures { λ r. ⌜ r ≡ fenceOf left right ⌝ }
+{
+    if is_good_delimiter(left) & is_good_delimiter(right) {
+        Opening::Fields(Kind::Scripted(Base::Fence(left, right)))
     } else {
         Opening::NoItem
     }

@@ -43,12 +43,13 @@ pub struct Delimiter {
     pub large: Pair,
 }
 
-// What the scripts of an item are set to. A root has its sign.
+// What the scripts of an item are set to. A root has its sign, a fence its left delimiter and its right one.
 pub enum Base {
     Atom(Class, Limits),
     Over,
     Under,
     Root(Delimiter),
+    Fence(Delimiter, Delimiter),
 }
 
 // What an item with fields is: a base with scripts, or a fraction.
@@ -67,6 +68,7 @@ pub enum Mark {
     ST,
     C4,
     RD,
+    FE,
     Unknown,
 }
 

@@ -5,7 +5,7 @@ ghost use Prim.Native.Nat.{_≤_};
 ghost use lib.ListN.{length};
 ghost use Rattle.formula.specs.declared.Opening.the-variants.{Fields, Choice};
 ghost use Rattle.formula.specs.Heads.{openingOf};
-ghost use Rattle.formula.specs.Reading.{fieldAt, noadAt, choiceAt, itemBy, read, readFormula};
+ghost use Rattle.formula.specs.Reading.{_thenAt_, heldIn, fieldAt, noadAt, choiceAt, itemBy, read, readFormula};
 ghost use Rattle.formula.specs.Values.{told, partReadOf};
 use crate::Fault;
 use crate::FieldHead;
@@ -19,6 +19,7 @@ use crate::heads::KERN_BYTES;
 use crate::heads::RESTYLE_BYTES;
 use crate::heads::field_head;
 use crate::heads::has_third;
+use crate::heads::holds_list;
 use crate::heads::is_list;
 use crate::heads::opening;
 use crate::heads::opening_bytes;
@@ -75,7 +76,7 @@ fn read_noad(s: &[u8], kind: Kind, levels: usize) -> PartRead
     requires { ⌜ openingOf (now s) ≡ Fields kind ⌝ }
     ensures { λ r. ⌜ r ≡ partReadOf (noadAt read levels (now (s .entry)) kind) ⌝ }
 {
-    let a = read_field(s, opening_bytes(kind), levels);
+    let a = read_held(s, opening_bytes(kind), holds_list(kind), levels);
     let PartRead::Next(second) = a else {
         return a;
     };
@@ -89,7 +90,7 @@ fn read_noad(s: &[u8], kind: Kind, levels: usize) -> PartRead
     PartRead::Next(third)
 }
 
-// Reads the lists of a choice, one behind the other. That a field is a list is judged before its depth.
+// Reads the lists of a choice, one behind the other.
 fn read_choice(s: &[u8], levels: usize) -> PartRead
     requires { ⌜ openingOf (now s) ≡ Choice ⌝ }
     ensures { λ r. ⌜ r ≡ partReadOf (choiceAt read levels (now (s .entry))) ⌝ }
@@ -97,10 +98,7 @@ fn read_choice(s: &[u8], levels: usize) -> PartRead
     let mut at = CHOICE_OPENING_BYTES;
     let mut left = CHOICE_LISTS;
     while left > 0 {
-        if !is_list(&s[at..]) {
-            return PartRead::Stop(Fault::Unreadable, 0);
-        }
-        let r = read_field(s, at, levels);
+        let r = read_held(s, at, true, levels);
         let PartRead::Next(end) = r else {
             return r;
         };
@@ -108,6 +106,17 @@ fn read_choice(s: &[u8], levels: usize) -> PartRead
         left -= 1;
     }
     PartRead::Next(at)
+}
+
+// Reads a field, which must be a list if `listed`; that it is one is judged before its depth.
+fn read_held(s: &[u8], at: usize, listed: bool, levels: usize) -> PartRead
+    requires { ⌜ at ≤ length (now s) ⌝ }
+    ensures { λ r. ⌜ r ≡ partReadOf (fieldAt read levels (now (s .entry)) at thenAt heldIn listed) ⌝ }
+{
+    if listed & !is_list(&s[at..]) {
+        return PartRead::Stop(Fault::Unreadable, 0);
+    }
+    read_field(s, at, levels)
 }
 
 // Reads the field whose kind byte stands at `at` of its item.

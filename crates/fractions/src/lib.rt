@@ -232,7 +232,7 @@ fn enclosed(w: Sp) -> Sp
 // Where a part stands in the middle of the width w, behind the blank.
 fn across_of(w: Sp, z: Size) -> Sp
     requires { ⌜ Within (words 2) (w .0) × Moderate z ⌝ }
-    ensures { λ r. ⌜ (r .0 ≡ acrossOf (w .0) (sizeAs z)) × Within (words 6) (r .0) ⌝ }
+    ensures { λ r. ⌜ (r .0 ≡ acrossOf (w .0) (sizeAs z)) × Within (words 8) (r .0) ⌝ }
 {
     Sp(NULL_DELIMITER_WIDTH).plus(centred(w, z.width))
 }

@@ -21,7 +21,7 @@ use Rattle.boxes.specs.declared.styles.Style.{Style}
 use Rattle.boxes.specs.Styles.{styleOf}
 use Rattle.boxes.specs.Values.{sizeAs}
 use Rattle.boxes.specs.ValueLaws.{taken-out}
-use Rattle.setting.specs.Setting.{setList}
+use Rattle.setting.specs.Setting.{noSides, setList}
 use Rattle.setting.specs.Missing.{missingItems}
 use Rattle.setting.specs.Fitting.{boxFits, itemsFit, listFits}
 use Rattle.answers.specs.Answers.{refusal, styleNumber, tableNumber, faultNumber, missingNumber, tooLargeNumber, ifRead, resultOf}
@@ -42,12 +42,12 @@ use Rattle.layout.specs.Answering.{Refuses, readResult, Reads, Examined,
 module _ (style : ℕ) (table formula : List ℕ) where
   pub style-refused : styleOf style ≡ none → Refuses NoStyle (resultOf style table formula)
   style-refused e =
-      record { number = styleNumber; place = 0; result-is = no-style style table formula e; answer-is = refl }
+      record { number = styleNumber; place = 0; result-is = no-style noSides style table formula e; answer-is = refl }
 
   module _ (s : Style) (is : styleOf style ≡ some s) where
     pub table-refused : goodTable table ≡ false → Refuses BadTable (resultOf style table formula)
     table-refused e =
-        record { number = tableNumber; place = 0; result-is = bad-table style table formula s is e; answer-is = refl }
+        record { number = tableNumber; place = 0; result-is = bad-table noSides style table formula s is e; answer-is = refl }
 
     module _ (good : goodTable table ≡ true) where
       pub fault-refused : (why : Fault) (place : ℕ) (a : Answer) → readFormula formula ≡ fault why place →
@@ -57,7 +57,7 @@ module _ (style : ℕ) (table formula : List ℕ) where
           record {
             number = faultNumber why;
             place = place;
-            result-is = read-is style table formula s is good (fault why place) e;
+            result-is = read-is noSides style table formula s is good (fault why place) e;
             answer-is = answer-is;
           }
 
@@ -68,7 +68,7 @@ module _ (style : ℕ) (table formula : List ℕ) where
             table-good = good;
             readable = f .readable;
             short = f .small;
-            result-is = read-is style table formula s is good _ (f .is);
+            result-is = read-is noSides style table formula s is good _ (f .is);
           }
 
 -- ---- the walk
@@ -88,20 +88,20 @@ module _ (s : Style) (table formula : List ℕ) where
   pub missing-examined : (place : ℕ) → missingItems F s tree ≡ some place →
       Refuses (Missing place) (readResult s table formula)
   missing-examined place e =
-      record { number = missingNumber; place = place; result-is = missing-refused F s tree place e; answer-is = refl }
+      record { number = missingNumber; place = place; result-is = missing-refused noSides F s tree place e; answer-is = refl }
 
-  module _ (bytes : ℕ) (c : lines.Line) (w : ListWhole F s tree bytes c) where
-    fits-is : listFits F s tree ≡ lineFits c
+  module _ (bytes : ℕ) (c : lines.Line) (w : ListWhole F noSides s tree bytes c) where
+    fits-is : listFits F noSides s tree ≡ lineFits c
     unfolding listFits
     fits-is = sym (line-fits w)
 
     pub whole-examined : (r : Finding) → Weighed c r → Examined s table formula r
     whole-examined (Boxed z n) h =
-        let items : itemsFit F s tree ≡ true = and-eq-true-iff (boxFits (setList F s tree)) _ .0 (sym (line-fits w) ∙ h .0) .1 in
+        let items : itemsFit F s tree ≡ true = and-eq-true-iff (boxFits (setList F noSides s tree)) _ .0 (sym (line-fits w) ∙ h .0) .1 in
         record {
           none-missing = w .present;
           fits = items;
-          result-is = box-is F s tree (w .present) (fits-is ∙ h .0);
+          result-is = box-is noSides F s tree (w .present) (fits-is ∙ h .0);
           size-is = ap sizeAs (h .1) ∙ w .size-is items;
           count-is = h .2 ∙ w .run-is items .count-is;
         }
@@ -109,6 +109,6 @@ module _ (s : Style) (table formula : List ℕ) where
         record {
           number = tooLargeNumber;
           place = 0;
-          result-is = large-refused F s tree (w .present) (fits-is ∙ h .0);
+          result-is = large-refused noSides F s tree (w .present) (fits-is ∙ h .0);
           answer-is = ap answeredAs (h .1);
         }

@@ -18,7 +18,7 @@ use Rattle.boxes.specs.declared.styles.Style.{Style}
 use Rattle.boxes.specs.declared.Size.{Size}
 use Rattle.nodes.specs.Nodes.{Node, bytesOf, bytesInNode}
 use Rattle.nodes.specs.Drawn.{Drawn}
-use Rattle.setting.specs.Setting.{Box, setList}
+use Rattle.setting.specs.Setting.{Box, noSides, setList}
 use Rattle.answers.specs.Answers.{boxed, resultOf, Answered, accepted, measured, setting, bufferAfter}
 use Rattle.answers.specs.AnswersLaws as answers
 use Rattle.walk.specs.declared.lists.ItemsSet.{ItemsSet}
@@ -43,7 +43,7 @@ module _ (style : ℕ) (table formula : List ℕ) where
   module _ (s : Style) (g : Reads style table formula s) where
     module _ (z : Size) (n : ℕ) (h : Boxes s table formula z n) where
       abbrev found : Box
-      found = setList (fontOf table) s (treeOf formula)
+      found = setList (fontOf table) noSides s (treeOf formula)
 
       found-is : resultOf style table formula ≡ boxed found
       found-is = g .result-is ∙ h .result-is
@@ -53,7 +53,7 @@ module _ (style : ℕ) (table formula : List ℕ) where
           let answer : answeredAs (Accepted z n) ≡ accepted found =
           λ i. record { number = 0; place = 0; size = h .size-is i; count = h .count-is i }
           in
-          answer ∙ sym (answers.measured-boxed style table formula found found-is)
+          answer ∙ sym (answers.measured-boxed noSides style table formula found found-is)
 
       count-measured : n ≡ measured style table formula .count
       count-measured = ap (λ (a : Answered). a .count) measured-is
@@ -61,17 +61,17 @@ module _ (style : ℕ) (table formula : List ℕ) where
       pub setting-is : (room : ℕ) → bytesInNode * n ≤ room → answeredAs (Accepted z n) ≡ setting style table formula room
       setting-is room l =
           measured-is
-          ∙ sym (answers.set-boxed style table formula found found-is room (subst (λ (k : ℕ). bytesInNode * k ≤ room) count-measured l))
+          ∙ sym (answers.set-boxed noSides style table formula found found-is room (subst (λ (k : ℕ). bytesInNode * k ≤ room) count-measured l))
 
       pub no-room-is : (b : List ℕ) → length b < bytesInNode * n →
           (answeredAs NoRoom ≡ setting style table formula (length b)) × (b ≡ bufferAfter style table formula b)
       no-room-is b l =
           let lacks : length b < bytesInNode * measured style table formula .count = rw count-measured at l in
-          let e = answers.no-room-is style table formula found found-is b lacks in
+          let e = answers.no-room-is noSides style table formula found found-is b lacks in
           (sym (e .0), sym (e .1))
 
       pub written-is : (b ys : List ℕ) (r : ItemsSet) → bytesInNode * n ≤ length b →
-          ListDone (fontOf table) s (treeOf formula) (length formula) (take (bytesInNode * n) b) r ys →
+          ListDone (fontOf table) noSides s (treeOf formula) (length formula) (take (bytesInNode * n) b) r ys →
           (ys ++ drop (bytesInNode * n) b) ≡ bufferAfter style table formula b
       written-is b ys (Missing place) l done = absurd (impossible (sym (h .none-missing) ∙ done .0))
         where
@@ -81,7 +81,7 @@ module _ (style : ℕ) (table formula : List ℕ) where
           let front : ys ≡ bytesOf (found .nodes) = drawn-whole (found .nodes) n b ys (h .count-is) l (done .1 (h .fits)) in
           ap (λ (r : List ℕ). r ++ drop (bytesInNode * n) b) front
           ∙ ap (λ (k : ℕ). bytesOf (found .nodes) ++ drop (bytesInNode * k) b) count-measured
-          ∙ sym (answers.buffer-boxed style table formula found found-is b (subst (λ (k : ℕ). bytesInNode * k ≤ length b) count-measured l))
+          ∙ sym (answers.buffer-boxed noSides style table formula found found-is b (subst (λ (k : ℕ). bytesInNode * k ≤ length b) count-measured l))
 
     pub refused-later : (a : Answer) → Refuses a (readResult s table formula) → Refuses a (resultOf style table formula)
     refused-later a h =
@@ -89,10 +89,10 @@ module _ (style : ℕ) (table formula : List ℕ) where
 
   module _ (a : Answer) (h : Refuses a (resultOf style table formula)) where
     pub measured-refused : answeredAs a ≡ measured style table formula
-    measured-refused = h .answer-is ∙ sym (answers.measured-refused style table formula _ _ (h .result-is))
+    measured-refused = h .answer-is ∙ sym (answers.measured-refused noSides style table formula _ _ (h .result-is))
 
     pub refused-is : (b : List ℕ) →
         (answeredAs a ≡ setting style table formula (length b)) × (b ≡ bufferAfter style table formula b)
     refused-is b =
-        let e = answers.refused-is style table formula _ _ (h .result-is) b in
+        let e = answers.refused-is noSides style table formula _ _ (h .result-is) b in
         (h .answer-is ∙ sym (e .0), sym (e .1))

@@ -17,7 +17,7 @@ use Rattle.formula.specs.Places.{Readable, treeOf}
 use Rattle.boxes.specs.declared.styles.Style.{Style}
 use Rattle.boxes.specs.declared.Size.{Size}
 use Rattle.boxes.specs.Values.{sizeAs}
-use Rattle.setting.specs.Setting.{setList}
+use Rattle.setting.specs.Setting.{noSides, setList}
 use Rattle.setting.specs.Missing.{missingItems}
 use Rattle.setting.specs.Fitting.{itemsFit}
 use Rattle.answers.specs.Answers.{refusal, Result, boxed, refused, ifPresent, resultOf}
@@ -41,7 +41,7 @@ pub record Refuses (a : Answer) (r : Result) : Type 0 where
 
 abbrev pub readResult : Style → List ℕ → List ℕ → Result
 readResult s table formula =
-    ifPresent (fontOf table) s (treeOf formula) (missingItems (fontOf table) s (treeOf formula))
+    ifPresent (fontOf table) noSides s (treeOf formula) (missingItems (fontOf table) s (treeOf formula))
 
 -- a formula that reads, in a style that there is, and a table that breaks no rule
 pub record Reads (style : ℕ) (table formula : List ℕ) (s : Style) : Type 0 where
@@ -60,9 +60,9 @@ ReadDone style table formula (reading.Refused a) = Refuses a (resultOf style tab
 pub record Boxes (s : Style) (table formula : List ℕ) (z : Size) (n : ℕ) : Type 0 where
   pub none-missing : missingItems (fontOf table) s (treeOf formula) ≡ none
   pub fits : itemsFit (fontOf table) s (treeOf formula) ≡ true
-  pub result-is : readResult s table formula ≡ boxed (setList (fontOf table) s (treeOf formula))
-  pub size-is : sizeAs z ≡ setList (fontOf table) s (treeOf formula) .size
-  pub count-is : n ≡ length (setList (fontOf table) s (treeOf formula) .nodes)
+  pub result-is : readResult s table formula ≡ boxed (setList (fontOf table) noSides s (treeOf formula))
+  pub size-is : sizeAs z ≡ setList (fontOf table) noSides s (treeOf formula) .size
+  pub count-is : n ≡ length (setList (fontOf table) noSides s (treeOf formula) .nodes)
 
 abbrev pub Examined : Style → List ℕ → List ℕ → Finding → Type 0
 Examined s table formula (finding.Boxed z n) = Boxes s table formula z n

@@ -91,7 +91,7 @@ pub fn limited(
 
 // All three boxes stand in the middle of the width.
 fn stacked(n: Nucleus, width: Sp, over: Side, under: Side) -> Arranged
-    requires { ⌜ ModerateNucleus n × Within (words 4) (width .0) × SideWithin 12 over × SideWithin 12 under ⌝ }
+    requires { ⌜ ModerateNucleus n × Within (words 6) (width .0) × SideWithin 12 over × SideWithin 12 under ⌝ }
     ensures { λ r. ⌜ (arrangedAs r ≡ rule.stacked (nucleusAs n) (width .0) (sideAs over) (sideAs under)) × Bounded r ⌝ }
 {
     let height = over.reach;
@@ -126,7 +126,7 @@ fn stacked(n: Nucleus, width: Sp, over: Side, under: Side) -> Arranged
 }
 
 fn widest(w: Sp, superscript: Script, subscript: Script) -> Sp
-    ensures { λ r. ⌜ (r .0 ≡ rule.widest (w .0) (scriptAs superscript) (scriptAs subscript)) × (Within (words 4) (w .0) × ModerateScript superscript × ModerateScript subscript → Within (words 4) (r .0)) ⌝ }
+    ensures { λ r. ⌜ (r .0 ≡ rule.widest (w .0) (scriptAs superscript) (scriptAs subscript)) × (Within (words 6) (w .0) × ModerateScript superscript × ModerateScript subscript → Within (words 6) (r .0)) ⌝ }
 {
     w.max(width_of(superscript)).max(width_of(subscript))
 }
@@ -178,7 +178,7 @@ fn one_side(
     right: Sp,
     script: Script,
 ) -> Side
-    requires { ⌜ (size < 3) × (gap < 35) × (distance < 35) × Within (words 7) (edge .0) × Within (words 4) (w .0) × Within (words 2) (right .0) × ModerateScript script ⌝ }
+    requires { ⌜ (size < 3) × (gap < 35) × (distance < 35) × Within (words 7) (edge .0) × Within (words 6) (w .0) × Within (words 2) (right .0) × ModerateScript script ⌝ }
     ensures { λ r. ⌜ (sideAs r ≡ rule.side (pos (parametersIn (now (p .entry)) size gap)) (pos (parametersIn (now (p .entry)) size distance)) (bigOpSpacing5 (parametersIn (now (p .entry))) size) (edge .0) (w .0) (right .0) (scriptAs script)) × SideWithin 12 r ⌝ }
 {
     match script {

@@ -12,7 +12,7 @@ pub record Nucleus : Type 0 where
   pub first : Offset  -- where its field stands
   pub δ : ℤ  -- the italic correction that a superscript of a pair, or the limits, still have to heed
   pub isPlain : Bool  -- whether the drops of rule 18a are 0
-  pub own : Own  -- its line, or its sign and its rule
+  pub own : Own  -- its line, its sign and its rule, or its two signs
 
 abbrev pub boxNucleus : Size → Nucleus
 boxNucleus z = record { size = z; first = origin; δ = pos 0; isPlain = false; own = noOwn }

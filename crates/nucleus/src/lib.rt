@@ -31,7 +31,7 @@ pub struct Nucleus {
     pub delta: Sp,
     // Whether the drops of rule 18a are 0.
     pub plain: bool,
-    // Its line, or its sign and its rule.
+    // Its line, its sign and its rule, or its two signs.
     pub own: Own,
 }
 

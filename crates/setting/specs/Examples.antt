@@ -11,6 +11,9 @@
 --     missing-in-taken       a symbol that the font lacks is looked for only in the taken list; the place is that of its kind byte
 -- Of roots:
 --     sign-by-nucleus        the sign is searched from the current size up, and reaches over the nucleus; a symbol too low is passed over
+-- Of fences:
+--     signs-by-list          both delimiters are searched as the list asks for them, from the current size up
+--     close-in-first-style   the space before the unseen Close goes by the style in which the list starts, not by the last one
 -- Assumes nothing.
 use mathlib.Core.Path.{_≡_, refl}
 use mathlib.Core.Bool.{true, false, _&&_}
@@ -19,11 +22,11 @@ use mathlib.Core.Option.{Option, none, some}
 use Prim.Native.Nat.{ℕ, zero, suc, _*_, _-_}
 use lib.Dec.{eqb}
 use lib.IntN.{pos, negsuc}
-use Rattle.scaled.specs.Length.{pick}
+use Rattle.scaled.specs.Length.{pick, maxℤ}
 use Rattle.font.specs.Font.{Font, Metrics}
-use Rattle.formula.specs.declared.Base.the-variants.{Atom, Root}
+use Rattle.formula.specs.declared.Base.the-variants.{Atom, Root, Fence}
 use Rattle.formula.specs.declared.Class.{Class}
-use Rattle.formula.specs.declared.Class.the-variants.{Ord, Bin, Rel}
+use Rattle.formula.specs.declared.Class.the-variants.{Ord, Bin, Rel, Open, Close, Punct}
 use Rattle.formula.specs.declared.Kind.{Kind}
 use Rattle.formula.specs.declared.Kind.the-variants.{Scripted}
 use Rattle.formula.specs.declared.Limits.the-variants.{DisplayOnly}
@@ -38,7 +41,7 @@ use Rattle.spacing.specs.Classes.{Neighbour, changedClass}
 use Rattle.spacing.specs.Spacing.{spaceBefore}
 use Rattle.nodes.specs.Nodes.{glyph, moved}
 use Rattle.nodes.specs.Bounds.{nodesFit}
-use Rattle.setting.specs.Setting.{Box, Line, found, enlarged, symbolIn, emptyPart, signIn, itemBox, emptyBox, start, beside, placed, styleAfter, styleBehind, nextClass, classAt, setItems, setItem, setField, setList}
+use Rattle.setting.specs.Setting.{Box, Line, found, enlarged, symbolIn, emptyPart, signsIn, itemBox, emptyBox, start, beside, kerned, placed, styleAfter, styleBehind, nextClass, classAt, noSides, fenceSides, setItems, setItem, setField, setList}
 use Rattle.setting.specs.Missing.{later, absentAt, missingItems, missingItem, missingField}
 use Rattle.setting.specs.Fitting.{boxFits, itemsFit, itemFits, listFits}
 
@@ -53,7 +56,7 @@ neighbours F line (cons i r) =
     next .left ∷ neighbours F next r
 
 two-bins : (F : Font) (s : Style) →
-    neighbours F (start s) (cons (atom Bin) (cons (atom Bin) (cons (atom Ord) nil))) ≡ some Ord ∷ some Bin ∷ some Ord ∷ []
+    neighbours F (start none s) (cons (atom Bin) (cons (atom Bin) (cons (atom Ord) nil))) ≡ some Ord ∷ some Bin ∷ some Ord ∷ []
 unfolding neighbours setItem placed nextClass classAt changedClass
 two-bins F s = refl
 
@@ -73,18 +76,18 @@ abbrev inText : Items → Item
 inText l = choice nil l nil nil
 
 style-behind-choice : (F : Font) →
-    setItems F none (start (plain Text)) (cons (inText (cons (restyle 0) nil)) (cons (atom Ord) nil)) .style ≡ plain Display
+    setItems F none (start none (plain Text)) (cons (inText (cons (restyle 0) nil)) (cons (atom Ord) nil)) .style ≡ plain Display
 unfolding setItems setItem placed styleOf
 style-behind-choice F = refl
 
 sees-into-choice : (F : Font) →
-    neighbours F (start (plain Text)) (cons (atom Ord) (cons (atom Bin) (cons (inText (cons (atom Rel) nil)) (cons (atom Ord) nil))))
+    neighbours F (start none (plain Text)) (cons (atom Ord) (cons (atom Bin) (cons (inText (cons (atom Rel) nil)) (cons (atom Ord) nil))))
     ≡ some Ord ∷ some Ord ∷ some Rel ∷ some Ord ∷ []
 unfolding neighbours setItems setItem placed styleAfter styleBehind nextClass classAt changedClass
 sees-into-choice F = refl
 
 sees-out-of-choice : (F : Font) →
-    neighbours F (start (plain Text)) (cons (atom Ord) (cons (inText (cons (inText (cons (atom Bin) nil)) nil)) (cons (atom Rel) nil)))
+    neighbours F (start none (plain Text)) (cons (atom Ord) (cons (inText (cons (inText (cons (atom Bin) nil)) nil)) (cons (atom Rel) nil)))
     ≡ some Ord ∷ some Ord ∷ some Rel ∷ []
 unfolding neighbours setItems setItem placed styleAfter styleBehind nextClass classAt changedClass
 sees-out-of-choice F = refl
@@ -93,7 +96,7 @@ abbrev atomBox : Font → Style → Class → Box
 atomBox F s class = itemBox F s (Scripted (Atom class DisplayOnly)) emptyPart emptyPart emptyPart
 
 space-of-its-style : (F : Font) →
-    setItems F none (start (plain Text)) (cons (atom Ord) (cons (restyle 4) (cons (atom Rel) nil))) .box
+    setItems F none (start none (plain Text)) (cons (atom Ord) (cons (restyle 4) (cons (atom Rel) nil))) .box
     ≡ beside (beside emptyBox (spaceBefore (F .parameter) (plain Text) none Ord) (atomBox F (plain Text) Ord))
     (spaceBefore (F .parameter) (plain Script) (some Ord) Rel) (atomBox F (plain Script) Rel)
 unfolding setItems setItem setField placed changedClass styleOf
@@ -120,8 +123,8 @@ wide zero = nil
 wide (suc n) = cons (kern (pos 8_388_607)) (wide n)
 
 fits-around-choice :
-    listFits bareFont (plain Text) (wide 129)
-    ∷ listFits bareFont (plain Text) (cons (inText (wide 129)) (cons (kern (negsuc 8_388_606)) nil))
+    listFits bareFont noSides (plain Text) (wide 129)
+    ∷ listFits bareFont noSides (plain Text) (cons (inText (wide 129)) (cons (kern (negsuc 8_388_606)) nil))
     ∷ []
     ≡ false ∷ true ∷ []
 unfolding wide listFits boxFits itemsFit itemFits setList setItems setItem nodesFit
@@ -151,11 +154,34 @@ abbrev signOf : ℕ → Option Sign
 signOf size = some record { size = size; family = 3; code = 80; metrics = signMetrics size }
 
 sign-by-nucleus :
-    signIn signs (plain Text) aRoot (high 0)
-    ∷ signIn signs (plain Script) aRoot (high 0)
-    ∷ signIn signs (plain Script) aRoot (high 200)
-    ∷ signIn signs (plain Script) aRoot (high 201)
+    signsIn signs (plain Text) aRoot (high 0) .before
+    ∷ signsIn signs (plain Script) aRoot (high 0) .before
+    ∷ signsIn signs (plain Script) aRoot (high 200) .before
+    ∷ signsIn signs (plain Script) aRoot (high 201) .before
     ∷ []
     ≡ signOf 0 ∷ signOf 1 ∷ signOf 1 ∷ signOf 0 ∷ []
-unfolding signMetrics chainBy chain inSizes ofPair candidates extent firstEnough taller tallest taken signFor signIn pick
+unfolding signMetrics chainBy chain inSizes ofPair candidates extent firstEnough taller tallest taken signFor signsIn pick
 sign-by-nucleus = refl
+
+-- ---- fences
+
+-- with a delimiter on its left alone
+abbrev aFence : Kind
+aFence = Scripted (Fence (delimiter 3 80 0 0) (delimiter 0 0 0 0))
+
+-- δ = 500 asks for 901, more than any symbol has; δ = 499 for nothing
+signs-by-list :
+    signsIn signs (plain Script) aFence (high 499)
+    ∷ signsIn signs (plain Script) aFence (high 500)
+    ∷ []
+    ≡ record { before = signOf 1; behind = none } ∷ record { before = signOf 0; behind = none } ∷ []
+unfolding signMetrics chainBy chain inSizes ofPair candidates extent firstEnough taller tallest taken signFor signsIn pick maxℤ
+signs-by-list = refl
+
+-- a Punct in S at the end of a list that starts in T
+close-in-first-style : (F : Font) →
+    setList F fenceSides (plain Text) (cons (restyle 4) (cons (atom Punct) nil))
+    ≡ kerned (setItems F (some Close) (start (some Open) (plain Text)) (cons (restyle 4) (cons (atom Punct) nil)) .box)
+    (spaceBefore (F .parameter) (plain Text) (some Punct) Close)
+unfolding setItems setItem setField setList placed changedClass styleOf
+close-in-first-style F = refl

@@ -1,11 +1,12 @@
--- What is not refused of the whole is not refused of a list field alone, in the style that the rules give the field.
+-- What is not refused of the whole is not refused of a list field alone, in the style that the rules give the field,
+-- between the neighbours that its list sees.
 --     missing-alone    if the font lacks no symbol of the whole, it lacks none of the field (answer 5)
 --     fits-alone       if the whole fits, the field's list fits (answer 6)
 -- Both go down the path, a step at a time: both tests of a list are made of those of its items, of a choice's taken list, and those of
 -- the fields.
 -- Assumes nothing.
 use mathlib.Core.Path.{_≡_, refl}
-use mathlib.Core.Bool.{Bool, true, false, _&&_, and-eq-true-iff}
+use mathlib.Core.Bool.{Bool, true, _&&_, and-eq-true-iff}
 use mathlib.Core.Option.{Option, none, some}
 use Prim.Native.Nat.{ℕ, _+_}
 use native.Mathlib.Omega.{arith}
@@ -15,11 +16,12 @@ use Rattle.formula.specs.Tree.{Items, Item, Field, nil, cons, noad, list, openi
 use Rattle.boxes.specs.declared.styles.Level.{Level}
 use Rattle.boxes.specs.declared.styles.Level.the-variants.{Display, Text, Script, Scriptscript}
 use Rattle.boxes.specs.declared.styles.Style.{Style}
-use Rattle.arrange.specs.Arrange.{firstStyle, secondStyle, thirdStyle, enlarges}
-use Rattle.setting.specs.Setting.{styleAfter, styleBehind, setList}
+use Rattle.arrange.specs.declared.Manner.the-variants.{Plain}
+use Rattle.arrange.specs.Arrange.{firstStyle, secondStyle, thirdStyle, firstManner}
+use Rattle.setting.specs.Setting.{noSides, sidesOf, styleAfter, styleBehind, setList}
 use Rattle.setting.specs.Missing.{_orElse_, later, missingItems, missingItem, missingField}
 use Rattle.setting.specs.Fitting.{boxFits, itemsFit, itemFits, fieldFits, listFits}
-use Rattle.setting.specs.Paths.{Arm, inFirst, inSecond, inThird, holding, fieldStyle, join, choiceWith, Spot, among, within, put, itemsBefore, holder, listWith, itemStyle, Path, whole, into, fill, styleAt}
+use Rattle.setting.specs.Paths.{Arm, inFirst, inSecond, inThird, holding, fieldStyle, fieldManner, join, choiceWith, Spot, among, within, put, itemsBefore, holder, listWith, itemStyle, Path, whole, into, fill, styleAt, sidesAt}
 use Rattle.setting.specs.Lines.{styleAfter-join}
 
 -- ---- answer 5
@@ -47,9 +49,9 @@ module _ (F : Font) where
   abbrev FieldsThere : Style → Kind → Field → Field → Field → Type 0
   FieldsThere s kind x y z =
       let second = openingBytes kind + fieldBytes x in
-      (missingField F (firstStyle kind s) (enlarges kind s) (openingBytes kind) x ≡ none)
-      × (missingField F (secondStyle kind s) false second y ≡ none)
-      × (missingField F (thirdStyle s) false (second + fieldBytes y) z ≡ none)
+      (missingField F (firstStyle kind s) (firstManner kind s) (openingBytes kind) x ≡ none)
+      × (missingField F (secondStyle kind s) Plain second y ≡ none)
+      × (missingField F (thirdStyle s) Plain (second + fieldBytes y) z ≡ none)
 
   fields-there : (s : Style) (kind : Kind) (x y z : Field) → missingItem F s (noad kind x y z) ≡ none → FieldsThere s kind x y z
   unfolding missingItem
@@ -122,15 +124,16 @@ all-true x y z e =
 
 module _ (F : Font) where
   fields-fit : (s : Style) (kind : Kind) (x y z : Field) → itemFits F s (noad kind x y z) ≡ true →
-      (fieldFits F (firstStyle kind s) x ≡ true)
-      × (fieldFits F (secondStyle kind s) y ≡ true)
-      × (fieldFits F (thirdStyle s) z ≡ true)
+      (fieldFits F (firstStyle kind s) (firstManner kind s) x ≡ true)
+      × (fieldFits F (secondStyle kind s) Plain y ≡ true)
+      × (fieldFits F (thirdStyle s) Plain z ≡ true)
   unfolding itemFits
   fields-fit s kind x y z e =
-      all-true (fieldFits F (firstStyle kind s) x) (fieldFits F (secondStyle kind s) y) (fieldFits F (thirdStyle s) z) e
+      all-true (fieldFits F (firstStyle kind s) (firstManner kind s) x) (fieldFits F (secondStyle kind s) Plain y)
+      (fieldFits F (thirdStyle s) Plain z) e
 
   fits-in-item : (s : Style) (kind : Kind) (g : Arm) (l : Items) →
-      itemFits F s (holding kind g l) ≡ true → listFits F (fieldStyle kind g s) l ≡ true
+      itemFits F s (holding kind g l) ≡ true → listFits F (sidesOf (fieldManner kind g s)) (fieldStyle kind g s) l ≡ true
   unfolding fieldFits listFits
   fits-in-item s kind (inFirst y z) l e = fields-fit s kind (list l) y z e .0
   fits-in-item s kind (inSecond x z) l e = fields-fit s kind x (list l) z e .1
@@ -172,11 +175,11 @@ module _ (F : Font) where
       (fits-in-choice t l a b c (fits-there s before (choiceWith (t .level) l a b c) after e)))
 
   pub fits-alone : (s : Style) (p : Path) (l : Items) →
-      listFits F s (fill s p l) ≡ true → listFits F (styleAt s p) l ≡ true
+      listFits F noSides s (fill s p l) ≡ true → listFits F (sidesAt s p) (styleAt s p) l ≡ true
   unfolding listFits
   fits-alone s whole l e = e
   fits-alone s (into p t) l e =
       let u = styleAt s p in
       let outer = listWith u t l in
-      let h = and-eq-true-iff (boxFits (setList F u outer)) (itemsFit F u outer) .0 (fits-alone s p outer e) in
+      let h = and-eq-true-iff (boxFits (setList F (sidesAt s p) u outer)) (itemsFit F u outer) .0 (fits-alone s p outer e) in
       fits-in-item (itemStyle u t) (t .kind) (t .arm) l (fits-at-spot u (t .spot) (holder t l) (h .1))

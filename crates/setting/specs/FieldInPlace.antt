@@ -3,12 +3,11 @@
 --                      nothing else of the list
 --     field-in-place   the whole's nodes are a frame around the nodes of the list set alone; the frame goes by the path and
 --                      the size of that list, so that another list of that size has the same frame (`same-frame`)
--- The proof looks at the three fields of an item and never at its kind: an item comes from three shapes by `arrangedIn`, a root's sign
--- too, and its nodes come in one order. What a list adds behind an item goes by the item's class and size alone (`setItems-after`). An item in the
+-- The proof looks at the three fields of an item and never at its kind: an item comes from three shapes by `arrangedIn`, the
+-- delimiters of a root and of a fence too, and its nodes come in one order. What a list adds behind an item goes by the item's class and size alone (`setItems-after`). An item in the
 -- taken list of a choice is set as if it stood in the choice's place (`spot-in-place` of `Lines`), so that a choice moves nothing.
 -- Assumes nothing.
 use mathlib.Core.Path.{_≡_, refl, sym, ap, ap₂, _∙_}
-use mathlib.Core.Bool.{false}
 use mathlib.Core.List.{List, [], _++_, append-nil, append-assoc}
 use mathlib.Core.Option.{none, some}
 use lib.IntN.{pos, _+ℤ_}
@@ -19,12 +18,13 @@ use Rattle.boxes.specs.declared.styles.Style.{Style}
 use Rattle.spacing.specs.Classes.{Neighbour, classOf, changedClass}
 use Rattle.spacing.specs.Spacing.{spaceBefore}
 use Rattle.boxes.specs.Boxes.{Size, box, Offset, Arranged, at}
-use Rattle.arrange.specs.Arrange.{firstStyle, secondStyle, thirdStyle, enlarges}
+use Rattle.arrange.specs.declared.Manner.the-variants.{Plain}
+use Rattle.arrange.specs.Arrange.{firstStyle, secondStyle, thirdStyle, firstManner}
 use Rattle.nodes.specs.Nodes.{Node}
-use Rattle.setting.specs.Setting.{Box, Part, Line, styleBehind, nextClass, classAt, emptyBox, start, movedTo, ownNodes, itemNodes, arrangedIn, itemBox, placed, setItems, setItem, setField, setList}
+use Rattle.setting.specs.Setting.{Box, Part, Line, styleBehind, nextClass, classAt, emptyBox, start, movedTo, ownNodes, itemNodes, arrangedIn, itemBox, placed, Sides, noSides, sidesOf, closed, setItems, setItem, setField, setList}
 use Rattle.setting.specs.SettingLaws.{taken-all, setItems-style}
 use Rattle.setting.specs.Frames.{Frame, movedBy, framed, bare, nest, framed-bare, framed-nest}
-use Rattle.setting.specs.Paths.{Arm, inFirst, inSecond, inThird, holding, fieldStyle, itemsBefore, itemsAfter, Step, holder, listWith, itemStyle, stepStyle, Path, whole, into, fill, styleAt}
+use Rattle.setting.specs.Paths.{Arm, inFirst, inSecond, inThird, holding, fieldStyle, fieldManner, itemsBefore, itemsAfter, Step, holder, listWith, itemStyle, stepStyle, stepSides, Path, whole, into, fill, styleAt, sidesAt}
 use Rattle.setting.specs.Lines.{setItems-join, spot-in-place}
 
 abbrev pub listPart : Box → Part
@@ -38,13 +38,13 @@ sized size nodes = record { size = size; nodes = nodes }
 -- the three fields of an item in the style s
 module _ (F : Font) (s : Style) (kind : Kind) where
   abbrev pub firstPart : Field → Part
-  firstPart x = setField F (firstStyle kind s) (enlarges kind s) x
+  firstPart x = setField F (firstStyle kind s) (firstManner kind s) x
 
   abbrev pub secondPart : Field → Part
-  secondPart y = setField F (secondStyle kind s) false y
+  secondPart y = setField F (secondStyle kind s) Plain y
 
   abbrev pub thirdPart : Field → Part
-  thirdPart z = setField F (thirdStyle s) false z
+  thirdPart z = setField F (thirdStyle s) Plain z
 
   -- what the rules make of it: the list is its size to them
   abbrev pub arrangedAround : Arm → Size → Arranged
@@ -109,7 +109,7 @@ module _ (F : Font) (s : Style) (kind : Kind) where
 pub size-used : (F : Font) (right : Neighbour) (line : Line) (kind : Kind) (g : Arm) (l : Items) →
     let s = line .style in
     setItem F right line (holding kind g l)
-    ≡ placed F right line (classOf kind) (itemAround F s kind g (setList F (fieldStyle kind g s) l))
+    ≡ placed F right line (classOf kind) (itemAround F s kind g (setList F (sidesOf (fieldManner kind g s)) (fieldStyle kind g s) l))
 unfolding setItem setField setList
 size-used F right line kind (inFirst y z) l = refl
 size-used F right line kind (inSecond x z) l = refl
@@ -145,16 +145,16 @@ module _ (F : Font) where
         sym (taken-all (afterNodes ns) (line .style) (sym (setItems-after right ns line d)) (sym (setItems-after right ns line t))
         (sym (setItems-after right ns line sc)) (sym (setItems-after right ns line ss)))
 
--- ---- the list that holds the item, which is of the size z
+-- ---- the list that holds the item, which is of the size z, between its own sides
 
-module _ (F : Font) (s : Style) (t : Step) where
+module _ (F : Font) (sides : Sides) (s : Style) (t : Step) where
   -- the items before it; it is the class beyond them
   abbrev pub lineBefore : Line
-  lineBefore = setItems F (some (classOf (t .kind))) (start s) (itemsBefore (t .spot))
+  lineBefore = setItems F (some (classOf (t .kind))) (start (sides .left) s) (itemsBefore (t .spot))
 
   -- the class behind it
   abbrev pub classBehind : Neighbour
-  classBehind = nextClass (itemStyle s t) none (itemsAfter (t .spot))
+  classBehind = nextClass (itemStyle s t) (sides .right) (itemsAfter (t .spot))
 
   -- with the item of the box b
   abbrev pub lineUpTo : Box → Line
@@ -168,13 +168,16 @@ module _ (F : Font) (s : Style) (t : Step) where
 
   -- what the items after it add
   abbrev pub lineAfter : Size → Line
-  lineAfter z = setItems F none (withoutNodes (lineUpTo (sized z []))) (itemsAfter (t .spot))
+  lineAfter z = setItems F (sides .right) (withoutNodes (lineUpTo (sized z []))) (itemsAfter (t .spot))
 
   abbrev pub listFrame : Size → Frame
   listFrame z = record { before = lineBefore .box .nodes; distance = itemOffset; after = lineAfter z .box .nodes }
 
+  abbrev pub listSize : Size → Size
+  listSize z = closed F s (sides .right) (lineAfter z) .size
+
   abbrev pub listAround : Box → Box
-  listAround b = sized (lineAfter (b .size) .box .size) (framed (listFrame (b .size)) (b .nodes))
+  listAround b = sized (listSize (b .size)) (framed (listFrame (b .size)) (b .nodes))
 
   lineUpTo-after : (b : Box) →
       lineUpTo b
@@ -202,97 +205,108 @@ module _ (F : Font) (s : Style) (t : Step) where
       go (inThird x y) = refl
 
   abbrev itemWith : Items → Box
-  itemWith l = itemAround F (itemStyle s t) (t .kind) (t .arm) (setList F (stepStyle s t) l)
+  itemWith l = itemAround F (itemStyle s t) (t .kind) (t .arm) (setList F (stepSides s t) (stepStyle s t) l)
 
   -- the item, behind the line before it
   line-with-item : (l : Items) →
-      setItem F (nextClass (styleBehind (lineBefore .style) (holder t l)) none (itemsAfter (t .spot))) lineBefore (holder t l)
+      setItem F (nextClass (styleBehind (lineBefore .style) (holder t l)) (sides .right) (itemsAfter (t .spot))) lineBefore (holder t l)
       ≡ lineUpTo (itemWith l)
   line-with-item l =
-      let here : lineBefore .style ≡ itemStyle s t = setItems-style F (some (classOf (t .kind))) (start s) (itemsBefore (t .spot)) in
-      ap (λ (u : Style). setItem F (nextClass u none (itemsAfter (t .spot))) lineBefore (holder t l))
+      let here : lineBefore .style ≡ itemStyle s t = setItems-style F (some (classOf (t .kind))) (start (sides .left) s) (itemsBefore (t .spot)) in
+      ap (λ (u : Style). setItem F (nextClass u (sides .right) (itemsAfter (t .spot))) lineBefore (holder t l))
       (styleBehind-holder (lineBefore .style) l ∙ here)
       ∙ size-used F classBehind lineBefore (t .kind) (t .arm) l
-      ∙ ap (λ (u : Style). lineUpTo (itemAround F u (t .kind) (t .arm) (setList F (fieldStyle (t .kind) (t .arm) u) l))) here
+      ∙ ap (λ (u : Style). lineUpTo (itemAround F u (t .kind) (t .arm)
+      (setList F (sidesOf (fieldManner (t .kind) (t .arm) u)) (fieldStyle (t .kind) (t .arm) u) l))) here
 
   line-through-item : (l : Items) →
-      setItems F none (start s) (listWith s t l) ≡ setItems F none (lineUpTo (itemWith l)) (itemsAfter (t .spot))
+      setItems F (sides .right) (start (sides .left) s) (listWith s t l)
+      ≡ setItems F (sides .right) (lineUpTo (itemWith l)) (itemsAfter (t .spot))
   unfolding setItems nextClass
   line-through-item l =
       let i = holder t l in
       let rest = itemsAfter (t .spot) in
-      spot-in-place s (t .spot) i .set-is F none none emptyBox
-      ∙ setItems-join F none (start s) (itemsBefore (t .spot)) (cons i rest)
-      ∙ ap (λ (n : Neighbour). setItems F none (setItems F n (start s) (itemsBefore (t .spot))) (cons i rest))
-      (classAt-holder (itemStyle s t) (nextClass (styleBehind (itemStyle s t) i) none rest) l)
-      ∙ ap (λ (m : Line). setItems F none m rest) (line-with-item l)
+      let right = sides .right in
+      spot-in-place s (t .spot) i .set-is F right (sides .left) emptyBox
+      ∙ setItems-join F right (start (sides .left) s) (itemsBefore (t .spot)) (cons i rest)
+      ∙ ap (λ (n : Neighbour). setItems F right (setItems F n (start (sides .left) s) (itemsBefore (t .spot))) (cons i rest))
+      (classAt-holder (itemStyle s t) (nextClass (styleBehind (itemStyle s t) i) right rest) l)
+      ∙ ap (λ (m : Line). setItems F right m rest) (line-with-item l)
 
   line-behind-item : (b : Box) →
-      setItems F none (lineUpTo b) (itemsAfter (t .spot))
+      setItems F (sides .right) (lineUpTo b) (itemsAfter (t .spot))
       ≡ afterNodes (lineBefore .box .nodes ++ movedBy itemOffset (b .nodes)) (lineAfter (b .size))
   line-behind-item b =
-      ap (λ (m : Line). setItems F none m (itemsAfter (t .spot))) (lineUpTo-after b)
-      ∙ setItems-after F none (lineBefore .box .nodes ++ movedBy itemOffset (b .nodes))
+      ap (λ (m : Line). setItems F (sides .right) m (itemsAfter (t .spot))) (lineUpTo-after b)
+      ∙ setItems-after F (sides .right) (lineBefore .box .nodes ++ movedBy itemOffset (b .nodes))
       (withoutNodes (lineUpTo (sized (b .size) []))) (itemsAfter (t .spot))
 
-  pub list-in-place : (l : Items) → setList F s (listWith s t l) ≡ listAround (itemWith l)
+  -- the space at a list's end changes none of its nodes
+  closed-after : (right : Neighbour) (ns : List Node) (line : Line) →
+      closed F s right (afterNodes ns line) ≡ sized (closed F s right line .size) (ns ++ line .box .nodes)
+  closed-after none ns line = refl
+  closed-after (some class) ns line = refl
+
+  pub list-in-place : (l : Items) → setList F sides s (listWith s t l) ≡ listAround (itemWith l)
   unfolding setList
   list-in-place l =
       let b = itemWith l in
-      ap (λ (m : Line). m .box) (line-through-item l ∙ line-behind-item b)
-      ∙ ap (sized (lineAfter (b .size) .box .size))
+      ap (closed F s (sides .right)) (line-through-item l ∙ line-behind-item b)
+      ∙ closed-after (sides .right) (lineBefore .box .nodes ++ movedBy itemOffset (b .nodes)) (lineAfter (b .size))
+      ∙ ap (sized (listSize (b .size)))
       (append-assoc (lineBefore .box .nodes) (movedBy itemOffset (b .nodes)) (lineAfter (b .size) .box .nodes))
 
 -- ---- the whole, by the path to a list of the size z within it
 
 module _ (F : Font) where
   -- one step: the size of the list that holds the field, and what stands in it around the field
-  module _ (s : Style) (t : Step) where
+  module _ (sides : Sides) (s : Style) (t : Step) where
     abbrev pub itemSize : Size → Size
     itemSize z = arrangedAround F (itemStyle s t) (t .kind) (t .arm) z .size
 
     abbrev pub stepSize : Size → Size
-    stepSize z = lineAfter F s t (itemSize z) .box .size
+    stepSize z = listSize F sides s t (itemSize z)
 
     abbrev pub stepFrame : Size → Frame
-    stepFrame z = nest (listFrame F s t (itemSize z)) (itemFrame F (itemStyle s t) (t .kind) (t .arm) z)
+    stepFrame z = nest (listFrame F sides s t (itemSize z)) (itemFrame F (itemStyle s t) (t .kind) (t .arm) z)
 
     step-in-place : (l : Items) →
-        let b = setList F (stepStyle s t) l in
-        setList F s (listWith s t l) ≡ sized (stepSize (b .size)) (framed (stepFrame (b .size)) (b .nodes))
+        let b = setList F (stepSides s t) (stepStyle s t) l in
+        setList F sides s (listWith s t l) ≡ sized (stepSize (b .size)) (framed (stepFrame (b .size)) (b .nodes))
     step-in-place l =
-        let b = setList F (stepStyle s t) l in
-        list-in-place F s t l
-        ∙ ap (listAround F s t) (item-in-place F (itemStyle s t) (t .kind) (t .arm) b)
+        let b = setList F (stepSides s t) (stepStyle s t) l in
+        list-in-place F sides s t l
+        ∙ ap (listAround F sides s t) (item-in-place F (itemStyle s t) (t .kind) (t .arm) b)
         ∙ ap (sized (stepSize (b .size)))
-        (framed-nest (listFrame F s t (itemSize (b .size))) (itemFrame F (itemStyle s t) (t .kind) (t .arm) (b .size)) (b .nodes))
+        (framed-nest (listFrame F sides s t (itemSize (b .size))) (itemFrame F (itemStyle s t) (t .kind) (t .arm) (b .size)) (b .nodes))
 
   module _ (s : Style) where
     abbrev pub sizeAround : Path → Size → Size
     sizeAround whole z = z
-    sizeAround (into p t) z = sizeAround p (stepSize (styleAt s p) t z)
+    sizeAround (into p t) z = sizeAround p (stepSize (sidesAt s p) (styleAt s p) t z)
 
     abbrev pub frame : Path → Size → Frame
     frame whole z = bare
-    frame (into p t) z = nest (frame p (stepSize (styleAt s p) t z)) (stepFrame (styleAt s p) t z)
+    frame (into p t) z = nest (frame p (stepSize (sidesAt s p) (styleAt s p) t z)) (stepFrame (sidesAt s p) (styleAt s p) t z)
 
     abbrev pub boxAround : Path → Box → Box
     boxAround p b = sized (sizeAround p (b .size)) (framed (frame p (b .size)) (b .nodes))
 
-    pub field-in-place : (p : Path) (l : Items) → setList F s (fill s p l) ≡ boxAround p (setList F (styleAt s p) l)
-    field-in-place whole l = let b = setList F s l in ap (sized (b .size)) (sym (framed-bare (b .nodes)))
+    pub field-in-place : (p : Path) (l : Items) →
+        setList F noSides s (fill s p l) ≡ boxAround p (setList F (sidesAt s p) (styleAt s p) l)
+    field-in-place whole l = let b = setList F noSides s l in ap (sized (b .size)) (sym (framed-bare (b .nodes)))
     field-in-place (into p t) l =
-        let b = setList F (styleAt s (into p t)) l in
+        let b = setList F (sidesAt s (into p t)) (styleAt s (into p t)) l in
         field-in-place p (listWith (styleAt s p) t l)
-        ∙ ap (boxAround p) (step-in-place (styleAt s p) t l)
+        ∙ ap (boxAround p) (step-in-place (sidesAt s p) (styleAt s p) t l)
         ∙ ap (sized (sizeAround (into p t) (b .size)))
-        (framed-nest (frame p (stepSize (styleAt s p) t (b .size))) (stepFrame (styleAt s p) t (b .size)) (b .nodes))
+        (framed-nest (frame p (stepSize (sidesAt s p) (styleAt s p) t (b .size))) (stepFrame (sidesAt s p) (styleAt s p) t (b .size)) (b .nodes))
 
     -- another list of the size that the first has
     pub same-frame : (p : Path) (l m : Items) →
-        let size = setList F (styleAt s p) l .size in
-        setList F (styleAt s p) m .size ≡ size →
-        setList F s (fill s p m) ≡ sized (sizeAround p size) (framed (frame p size) (setList F (styleAt s p) m .nodes))
+        let alone = setList F (sidesAt s p) (styleAt s p) in
+        let size = alone l .size in
+        alone m .size ≡ size → setList F noSides s (fill s p m) ≡ sized (sizeAround p size) (framed (frame p size) (alone m .nodes))
     same-frame p l m e =
-        let ns = setList F (styleAt s p) m .nodes in
+        let ns = setList F (sidesAt s p) (styleAt s p) m .nodes in
         field-in-place p m ∙ ap (λ (z : Size). sized (sizeAround p z) (framed (frame p z) ns)) e

@@ -3,15 +3,16 @@
 -- within an item from the item's. The fields of an item stand behind its opening bytes, one behind the other; so do a choice's
 -- lists, of which only the one taken is looked into. The style is that current at each item.
 -- Assumes nothing.
-use mathlib.Core.Bool.{Bool, false}
 use mathlib.Core.Option.{Option, none, some}
 use Prim.Native.Nat.{ℕ, _+_}
 use Rattle.font.specs.Font.{Font}
 use Rattle.formula.specs.Tree.{Items, Item, Field, nil, cons, noad, kern, restyle, choice, empty, symbol, list, openingBytes, choiceOpeningBytes, listOpeningBytes, sublistBytes, itemsBytes, itemBytes, fieldBytes}
 use Rattle.boxes.specs.declared.styles.Style.{Style}
 use Rattle.boxes.specs.Styles.{fontSize}
-use Rattle.arrange.specs.Arrange.{firstStyle, secondStyle, thirdStyle, enlarges}
-use Rattle.setting.specs.Setting.{Symbol, symbolIn, taken, styleBehind}
+use Rattle.arrange.specs.declared.Manner.{Manner}
+use Rattle.arrange.specs.declared.Manner.the-variants.{Plain}
+use Rattle.arrange.specs.Arrange.{firstStyle, secondStyle, thirdStyle, firstManner}
+use Rattle.setting.specs.Setting.{Symbol, symbolIn, isEnlarged, taken, styleBehind}
 
 -- the earlier of two places, where the first stands earlier in the formula
 abbrev pub _orElse_ : Option ℕ → Option ℕ → Option ℕ
@@ -37,9 +38,9 @@ unfoldable mutual
   missingItem F s (noad kind x y z) =
       let second = openingBytes kind + fieldBytes x in
       let third = second + fieldBytes y in
-      missingField F (firstStyle kind s) (enlarges kind s) (openingBytes kind) x
-      orElse missingField F (secondStyle kind s) false second y
-      orElse missingField F (thirdStyle s) false third z
+      missingField F (firstStyle kind s) (firstManner kind s) (openingBytes kind) x
+      orElse missingField F (secondStyle kind s) Plain second y
+      orElse missingField F (thirdStyle s) Plain third z
   missingItem F s (kern n) = none
   missingItem F s (restyle number) = none
   missingItem F s (choice d t sc ss) =
@@ -50,7 +51,7 @@ unfoldable mutual
       (taken s (missingItems F s d) (missingItems F s t) (missingItems F s sc) (missingItems F s ss))
 
   -- a field whose kind byte stands at a place of its item
-  pub missingField : Font → Style → Bool → ℕ → Field → Option ℕ
-  missingField F s enlarge at empty = none
-  missingField F s enlarge at (symbol family code) = absentAt at (symbolIn F (fontSize s) enlarge family code)
-  missingField F s enlarge at (list l) = later (at + listOpeningBytes) (missingItems F s l)
+  pub missingField : Font → Style → Manner → ℕ → Field → Option ℕ
+  missingField F s manner at empty = none
+  missingField F s manner at (symbol family code) = absentAt at (symbolIn F (fontSize s) (isEnlarged manner) family code)
+  missingField F s manner at (list l) = later (at + listOpeningBytes) (missingItems F s l)

@@ -6,6 +6,7 @@
 --     fill s p l     the formula that has the list l at the path p, where the formula is in the style s, by which its choices take
 --                    their lists; every formula with a list field that is set is one in this way
 --     styleAt s p    the style that the rules give the list at p, from the style current at the item that holds it
+--     sidesAt s p    the neighbours that it sees on its sides, though they are not in it: those of a fence, or none
 --     placeOf s p    the place of that list's first item in the bytes of the formula
 -- An item's kind goes along as it is: no function here looks at it but through the rules' own.
 -- Assumes nothing.
@@ -15,8 +16,10 @@ use Rattle.formula.specs.Tree.{Items, Item, Field, nil, cons, noad, choice, lis
 use Rattle.boxes.specs.declared.styles.Level.{Level}
 use Rattle.boxes.specs.declared.styles.Level.the-variants.{Display, Text, Script, Scriptscript}
 use Rattle.boxes.specs.declared.styles.Style.{Style}
-use Rattle.arrange.specs.Arrange.{firstStyle, secondStyle, thirdStyle}
-use Rattle.setting.specs.Setting.{styleAfter}
+use Rattle.arrange.specs.declared.Manner.{Manner}
+use Rattle.arrange.specs.declared.Manner.the-variants.{Plain}
+use Rattle.arrange.specs.Arrange.{firstStyle, secondStyle, thirdStyle, firstManner}
+use Rattle.setting.specs.Setting.{styleAfter, Sides, noSides, sidesOf}
 
 -- ---- a field of an item
 
@@ -35,6 +38,11 @@ abbrev pub fieldStyle : Kind → Arm → Style → Style
 fieldStyle kind (inFirst y z) s = firstStyle kind s
 fieldStyle kind (inSecond x z) s = secondStyle kind s
 fieldStyle kind (inThird x y) s = thirdStyle s
+
+abbrev pub fieldManner : Kind → Arm → Style → Manner
+fieldManner kind (inFirst y z) s = firstManner kind s
+fieldManner kind (inSecond x z) s = Plain
+fieldManner kind (inThird x y) s = Plain
 
 -- the place of the field's kind byte in the item
 abbrev pub fieldPlace : Kind → Arm → ℕ
@@ -110,6 +118,9 @@ itemStyle s t = styleAfter s (itemsBefore (t .spot))
 abbrev pub stepStyle : Style → Step → Style
 stepStyle s t = fieldStyle (t .kind) (t .arm) (itemStyle s t)
 
+abbrev pub stepSides : Style → Step → Sides
+stepSides s t = sidesOf (fieldManner (t .kind) (t .arm) (itemStyle s t))
+
 abbrev pub stepPlace : Style → Step → ℕ
 stepPlace s t = spotPlace s (t .spot) + (fieldPlace (t .kind) (t .arm) + listOpeningBytes)
 
@@ -122,6 +133,10 @@ pub data Path : Type 0 where
 abbrev pub styleAt : Style → Path → Style
 styleAt s whole = s
 styleAt s (into p t) = stepStyle (styleAt s p) t
+
+abbrev pub sidesAt : Style → Path → Sides
+sidesAt s whole = noSides
+sidesAt s (into p t) = stepSides (styleAt s p) t
 
 abbrev pub fill : Style → Path → Items → Items
 fill s whole l = l

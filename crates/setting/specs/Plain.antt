@@ -1,7 +1,7 @@
--- What change request 2 leaves as it was: a formula with no style change ST and no choice C4 in it, at any depth, is set as document 01
--- says (a root as request 3 does), in one style from a list's first item to its last. The definitions without ST and C4 stand here for
--- that; what they give an ST or a C4 means nothing.
---     Plain             no ST and no C4, in list fields neither
+-- What change requests 2 and 4 leave as it was: a formula with no style change ST, no choice C4 and no fence FE in it, at any depth, is
+-- set as document 01 says (a root as request 3 does), in one style from a list's first item to its last, with no neighbours beyond it.
+-- The definitions without them stand here for that; what they give an ST, a C4 or an FE means nothing.
+--     Plain             no ST, no C4 and no FE, in list fields neither
 --     PlainLine         what stands so far, with no style; setPlain, missingPlain, plainFits   the box, what is missing, what fits
 --     set-as-before, missing-as-before, fits-as-before     of a plain list these are `setList`, `missingItems`, `listFits`
 -- Assumes nothing.
@@ -11,14 +11,18 @@ use mathlib.Core.Option.{Option, none, some}
 use Prim.Native.Nat.{ℕ, _+_}
 use Rattle.font.specs.Font.{Font}
 use Rattle.formula.specs.declared.Class.{Class}
-use Rattle.formula.specs.Tree.{Items, Item, Field, nil, cons, noad, kern, restyle, choice, empty, symbol, list, openingBytes, listOpeningBytes, itemBytes, fieldBytes}
+use Rattle.formula.specs.Tree.{Items, Item, Field, nil, cons, noad, kern, restyle, choice, empty, symbol, list, openingBytes, holdsList, listOpeningBytes, itemBytes, fieldBytes}
 use Rattle.boxes.specs.declared.styles.Style.{Style}
 use Rattle.boxes.specs.Styles.{fontSize}
 use Rattle.spacing.specs.Classes.{Neighbour, classOf, changedClass}
 use Rattle.spacing.specs.Spacing.{spaceBefore}
 use Rattle.boxes.specs.Boxes.{box}
-use Rattle.arrange.specs.Arrange.{firstStyle, secondStyle, thirdStyle, enlarges}
-use Rattle.setting.specs.Setting.{Box, Part, Line, symbolIn, emptyPart, symbolPart, itemBox, styleBehind, nextClass, classAt, emptyBox, beside, kerned, placed, setItems, setItem, setField, setList}
+use Rattle.arrange.specs.declared.Manner.{Manner}
+use Rattle.arrange.specs.declared.Manner.the-variants.{Plain as Plainly}
+use Rattle.arrange.specs.Arrange.{firstStyle, secondStyle, thirdStyle, firstManner}
+use Rattle.setting.specs.Setting.{Box, Part, Line, symbolIn, emptyPart, symbolPart, itemBox, styleBehind, nextClass, classAt, emptyBox, beside, kerned, placed, Sides, noSides, sidesOf, isEnlarged, start, closed, setItems, setItem, setField, setList}
+use Rattle.setting.specs.SettingLaws.{heldSides, first-sides}
+use Rattle.setting.specs.FieldInPlace.{listPart}
 use Rattle.setting.specs.Missing.{_orElse_, later, absentAt, missingItems, missingItem, missingField}
 use Rattle.setting.specs.Fitting.{boxFits, itemsFit, itemFits, fieldFits, listFits}
 
@@ -28,7 +32,7 @@ unfoldable mutual
   Plain (cons i r) = PlainItem i × Plain r
 
   pub PlainItem : Item → Type 0
-  PlainItem (noad kind x y z) = PlainField x × PlainField y × PlainField z
+  PlainItem (noad kind x y z) = PlainField x × PlainField y × PlainField z × (holdsList kind ≡ false)
   PlainItem (kern n) = Unit {0}
   PlainItem (restyle number) = ⊥
   PlainItem (choice d t sc ss) = ⊥
@@ -68,7 +72,7 @@ unfoldable mutual
   setPlainItem F s right l (noad kind x y z) =
       plainPlaced F s right l (classOf kind)
       (itemBox F s kind
-      (setPlainField F (firstStyle kind s) (enlarges kind s) x)
+      (setPlainField F (firstStyle kind s) (isEnlarged (firstManner kind s)) x)
       (setPlainField F (secondStyle kind s) false y)
       (setPlainField F (thirdStyle s) false z))
   setPlainItem F s right l (kern n) = record { left = l .left; box = kerned (l .box) n }
@@ -97,7 +101,7 @@ unfoldable mutual
   missingPlainItem F s (noad kind x y z) =
       let second = openingBytes kind + fieldBytes x in
       let third = second + fieldBytes y in
-      missingPlainField F (firstStyle kind s) (enlarges kind s) (openingBytes kind) x
+      missingPlainField F (firstStyle kind s) (isEnlarged (firstManner kind s)) (openingBytes kind) x
       orElse missingPlainField F (secondStyle kind s) false second y
       orElse missingPlainField F (thirdStyle s) false third z
   missingPlainItem F s (kern n) = none
@@ -165,23 +169,23 @@ module _ (F : Font) where
     item-as-before : (s : Style) (right : Neighbour) (line : PlainLine) (i : Item) → PlainItem i →
         setItem F right (inStyle s line) i ≡ inStyle s (setPlainItem F s right line i)
     item-as-before s right line (noad kind x y z) h =
-        let first = field-as-before (firstStyle kind s) (enlarges kind s) x (h .0) in
-        let second = field-as-before (secondStyle kind s) false y (h .1) in
-        let third = field-as-before (thirdStyle s) false z (h .2) in
+        let first = field-as-before (firstStyle kind s) (firstManner kind s) x (h .0) (first-sides kind s ∙ ap heldSides (h .3)) in
+        let second = field-as-before (secondStyle kind s) Plainly y (h .1) refl in
+        let third = field-as-before (thirdStyle s) Plainly z (h .2) refl in
         rw (first, second, third)
     item-as-before s right line (kern n) h = refl
     item-as-before s right line (restyle number) h = absurd h
     item-as-before s right line (choice d t sc ss) h = absurd h
 
-    field-as-before : (s : Style) (enlarge : Bool) (f : Field) → PlainField f →
-        setField F s enlarge f ≡ setPlainField F s enlarge f
-    field-as-before s enlarge empty h = refl
-    field-as-before s enlarge (symbol family code) h = refl
-    field-as-before s enlarge (list l) h =
-        ap (λ (m : Line). record { shape = box (m .box .size); nodes = m .box .nodes })
-        (items-as-before s none (record { left = none; box = emptyBox }) l h)
+    field-as-before : (s : Style) (manner : Manner) (f : Field) → PlainField f → sidesOf manner ≡ noSides →
+        setField F s manner f ≡ setPlainField F s (isEnlarged manner) f
+    field-as-before s manner empty h e = refl
+    field-as-before s manner (symbol family code) h e = refl
+    field-as-before s manner (list l) h e =
+        ap (λ (sides : Sides). listPart (closed F s (sides .right) (setItems F (sides .right) (start (sides .left) s) l))) e
+        ∙ ap (λ (m : Line). listPart (m .box)) (items-as-before s none (record { left = none; box = emptyBox }) l h)
 
-  pub set-as-before : (s : Style) (l : Items) → Plain l → setList F s l ≡ setPlain F s l
+  pub set-as-before : (s : Style) (l : Items) → Plain l → setList F noSides s l ≡ setPlain F s l
   unfolding setList setPlain
   set-as-before s l h = ap (λ (m : Line). m .box) (items-as-before s none (record { left = none; box = emptyBox }) l h)
 
@@ -197,18 +201,18 @@ module _ (F : Font) where
     missing-item : (s : Style) (i : Item) → PlainItem i → missingItem F s i ≡ missingPlainItem F s i
     missing-item s (noad kind x y z) h =
         let second = openingBytes kind + fieldBytes x in
-        ap₂ _orElse_ (missing-field (firstStyle kind s) (enlarges kind s) (openingBytes kind) x (h .0))
-        (ap₂ _orElse_ (missing-field (secondStyle kind s) false second y (h .1))
-        (missing-field (thirdStyle s) false (second + fieldBytes y) z (h .2)))
+        ap₂ _orElse_ (missing-field (firstStyle kind s) (firstManner kind s) (openingBytes kind) x (h .0))
+        (ap₂ _orElse_ (missing-field (secondStyle kind s) Plainly second y (h .1))
+        (missing-field (thirdStyle s) Plainly (second + fieldBytes y) z (h .2)))
     missing-item s (kern n) h = refl
     missing-item s (restyle number) h = absurd h
     missing-item s (choice d t sc ss) h = absurd h
 
-    missing-field : (s : Style) (enlarge : Bool) (at : ℕ) (f : Field) → PlainField f →
-        missingField F s enlarge at f ≡ missingPlainField F s enlarge at f
-    missing-field s enlarge at empty h = refl
-    missing-field s enlarge at (symbol family code) h = refl
-    missing-field s enlarge at (list l) h = ap (later (at + listOpeningBytes)) (missing-as-before s l h)
+    missing-field : (s : Style) (manner : Manner) (at : ℕ) (f : Field) → PlainField f →
+        missingField F s manner at f ≡ missingPlainField F s (isEnlarged manner) at f
+    missing-field s manner at empty h = refl
+    missing-field s manner at (symbol family code) h = refl
+    missing-field s manner at (list l) h = ap (later (at + listOpeningBytes)) (missing-as-before s l h)
 
   mutual
     unfolding Plain PlainItem PlainField itemsFit itemFits fieldFits plainItemsFit plainItemFits plainFieldFits
@@ -221,17 +225,21 @@ module _ (F : Font) where
 
     item-fits : (s : Style) (i : Item) → PlainItem i → itemFits F s i ≡ plainItemFits F s i
     item-fits s (noad kind x y z) h =
-        ap₂ _&&_ (ap₂ _&&_ (field-fits (firstStyle kind s) x (h .0)) (field-fits (secondStyle kind s) y (h .1)))
-        (field-fits (thirdStyle s) z (h .2))
+        ap₂ _&&_
+        (ap₂ _&&_ (field-fits (firstStyle kind s) (firstManner kind s) x (h .0) (first-sides kind s ∙ ap heldSides (h .3)))
+        (field-fits (secondStyle kind s) Plainly y (h .1) refl))
+        (field-fits (thirdStyle s) Plainly z (h .2) refl)
     item-fits s (kern n) h = refl
     item-fits s (restyle number) h = absurd h
     item-fits s (choice d t sc ss) h = absurd h
 
-    field-fits : (s : Style) (f : Field) → PlainField f → fieldFits F s f ≡ plainFieldFits F s f
-    field-fits s empty h = refl
-    field-fits s (symbol family code) h = refl
-    field-fits s (list l) h = ap₂ _&&_ (ap boxFits (set-as-before s l h)) (items-fit s l h)
+    field-fits : (s : Style) (manner : Manner) (f : Field) → PlainField f → sidesOf manner ≡ noSides →
+        fieldFits F s manner f ≡ plainFieldFits F s f
+    field-fits s manner empty h e = refl
+    field-fits s manner (symbol family code) h e = refl
+    field-fits s manner (list l) h e =
+        ap₂ _&&_ (ap boxFits (ap (λ (sides : Sides). setList F sides s l) e ∙ set-as-before s l h)) (items-fit s l h)
 
-  pub fits-as-before : (s : Style) (l : Items) → Plain l → listFits F s l ≡ plainFits F s l
+  pub fits-as-before : (s : Style) (l : Items) → Plain l → listFits F noSides s l ≡ plainFits F s l
   unfolding listFits plainFits
   fits-as-before s l h = ap₂ _&&_ (ap boxFits (set-as-before s l h)) (items-fit s l h)

@@ -1,8 +1,9 @@
 -- The box of a list (document 01, "List" and "Fields"; rule 20): items left to right, each from the shapes of its fields.
 --     setField    a field alone, at its own reference point: its shape and its nodes
---     signIn      the sign of a root, searched as its nucleus asks for it
+--     signsIn     the sign of a root and the delimiters of a fence, searched as the first field asks for them
 --     setItem     an item, placed behind what stands so far
---     setItems    items, one behind the other; a list starts at `start` with no neighbour on either side
+--     setItems    items, one behind the other
+--     setList     a list, between the neighbours that it sees on its sides: none, or those of a fence (change request 4)
 -- The style is a part of the line (change request 2): a style change ST sets it, and a choice C4 goes on with the line through the
 -- list that its style takes, so that neither is an atom, and a style set in that list holds on behind the choice.
 -- A symbol that the font lacks stands as `nothing` here; such a formula is refused before its box matters (`Missing`).
@@ -15,8 +16,10 @@ use lib.IntN.{ℤ, pos, _+ℤ_}
 use Rattle.scaled.specs.Length.{maxℤ}
 use Rattle.font.specs.Font.{Font, Metrics}
 use Rattle.formula.specs.declared.Class.{Class}
+use Rattle.formula.specs.declared.Class.the-variants.{Open, Close}
+use Rattle.formula.specs.declared.Delimiter.{Delimiter}
 use Rattle.formula.specs.declared.Base.{Base}
-use Rattle.formula.specs.declared.Base.the-variants.{Atom, Over, Under, Root}
+use Rattle.formula.specs.declared.Base.the-variants.{Atom, Over, Under, Root, Fence}
 use Rattle.formula.specs.declared.Kind.{Kind}
 use Rattle.formula.specs.declared.Kind.the-variants.{Scripted, Fraction}
 use Rattle.formula.specs.Tree.{Items, Item, Field, nil, cons, noad, kern, restyle, choice, empty, symbol, list}
@@ -26,9 +29,13 @@ use Rattle.boxes.specs.Styles.{styleOf, fontSize}
 use Rattle.spacing.specs.Classes.{Neighbour, classOf, changedClass}
 use Rattle.spacing.specs.Spacing.{spaceBefore}
 use Rattle.boxes.specs.Boxes.{Size, Shape, nothing, char, box, sizeOf, Offset, OwnNode, ruled, signed, Arranged, zeroSize}
-use Rattle.delimiters.specs.Delimiters.{Sign, signFor, hasSign}
+use Rattle.delimiters.specs.declared.HasSigns.{HasSigns}
+use Rattle.delimiters.specs.Delimiters.{Signs, noSigns, signFor, hasSign}
 use Rattle.roots.specs.Roots.{signExtent}
-use Rattle.arrange.specs.Arrange.{arrange, firstStyle, secondStyle, thirdStyle, enlarges}
+use Rattle.fences.specs.Fences.{fenceExtent}
+use Rattle.arrange.specs.declared.Manner.{Manner}
+use Rattle.arrange.specs.declared.Manner.the-variants.{Plain, Enlarged, Fenced}
+use Rattle.arrange.specs.Arrange.{arrange, firstStyle, secondStyle, thirdStyle, firstManner}
 use Rattle.nodes.specs.Nodes.{Node, glyph, rule, moved}
 
 pub record Box : Type 0 where
@@ -73,27 +80,39 @@ symbolPart size family none = emptyPart
 symbolPart size family (some s) =
     record { shape = char (s .metrics); nodes = glyph (pos 0) (pos 0) size family (s .code) ∷ [] }
 
--- ---- the sign of a root, which goes by the shape of its nucleus; whether there is one does not (`sign-found`)
+-- ---- the sign of a root and the delimiters of a fence, which go by the shape of the first field; whether there are any does not
+-- (`signs-found`)
 
-abbrev pub baseSign : Font → Style → Base → Shape → Option Sign
-baseSign F s (Atom class limits) x = none
-baseSign F s Over x = none
-baseSign F s Under x = none
-baseSign F s (Root d) x = signFor F (fontSize s) d (signExtent (F .parameter) s (sizeOf x))
+abbrev pub signsFor : Font → Style → Delimiter → Delimiter → ℤ → Signs
+signsFor F s left right needed =
+    record { before = signFor F (fontSize s) left needed; behind = signFor F (fontSize s) right needed }
 
-abbrev pub baseSigned : Font → Style → Base → Bool
-baseSigned F s (Atom class limits) = false
-baseSigned F s Over = false
-baseSigned F s Under = false
-baseSigned F s (Root d) = hasSign F (fontSize s) d
+abbrev pub baseSigns : Font → Style → Base → Shape → Signs
+baseSigns F s (Atom class limits) x = noSigns
+baseSigns F s Over x = noSigns
+baseSigns F s Under x = noSigns
+baseSigns F s (Root d) x =
+    record { before = signFor F (fontSize s) d (signExtent (F .parameter) s (sizeOf x)); behind = none }
+baseSigns F s (Fence left right) x = signsFor F s left right (fenceExtent (F .parameter) s (sizeOf x))
 
-unfoldable pub signIn : Font → Style → Kind → Shape → Option Sign
-signIn F s (Scripted base) x = baseSign F s base x
-signIn F s (Fraction bar) x = none
+abbrev pub unsigned : HasSigns
+unsigned = record { before = false; behind = false }
 
-unfoldable pub isSigned : Font → Style → Kind → Bool
-isSigned F s (Scripted base) = baseSigned F s base
-isSigned F s (Fraction bar) = false
+abbrev pub baseHas : Font → Style → Base → HasSigns
+baseHas F s (Atom class limits) = unsigned
+baseHas F s Over = unsigned
+baseHas F s Under = unsigned
+baseHas F s (Root d) = record { before = hasSign F (fontSize s) d; behind = false }
+baseHas F s (Fence left right) =
+    record { before = hasSign F (fontSize s) left; behind = hasSign F (fontSize s) right }
+
+unfoldable pub signsIn : Font → Style → Kind → Shape → Signs
+signsIn F s (Scripted base) x = baseSigns F s base x
+signsIn F s (Fraction bar) x = noSigns
+
+unfoldable pub hasSigns : Font → Style → Kind → HasSigns
+hasSigns F s (Scripted base) = baseHas F s base
+hasSigns F s (Fraction bar) = unsigned
 
 -- ---- an item, at its own reference point: its own nodes stand before and behind field 1, and fields 2 and 3 behind them
 
@@ -118,7 +137,7 @@ itemNodes a x y z =
 
 -- what the rules make of three shapes
 abbrev pub arrangedIn : Font → Style → Kind → Shape → Shape → Shape → Arranged
-arrangedIn F s kind x y z = arrange (F .parameter) s kind (signIn F s kind x) x y z
+arrangedIn F s kind x y z = arrange (F .parameter) s kind (signsIn F s kind x) x y z
 
 unfoldable pub itemBox : Font → Style → Kind → Part → Part → Part → Box
 itemBox F s kind x y z =
@@ -171,8 +190,9 @@ pub record Line : Type 0 where
 abbrev pub emptyBox : Box
 emptyBox = record { size = zeroSize; nodes = [] }
 
-abbrev pub start : Style → Line
-start s = record { left = none; style = s; box = emptyBox }
+-- behind a neighbour
+abbrev pub start : Neighbour → Style → Line
+start left s = record { left = left; style = s; box = emptyBox }
 
 -- space, and then a box behind it
 abbrev pub beside : Box → ℤ → Box → Box
@@ -205,6 +225,35 @@ placed F right l class b =
       box = beside (l .box) (spaceBefore (F .parameter) (l .style) (l .left) c) b;
     }
 
+-- ---- the sides of a list: the atoms that it sees before its first and behind its last, though they are not in it
+
+pub record Sides : Type 0 where
+  pub left : Neighbour
+  pub right : Neighbour
+
+abbrev pub noSides : Sides
+noSides = record { left = none; right = none }
+
+-- within a fence (rule 19)
+abbrev pub fenceSides : Sides
+fenceSides = record { left = some Open; right = some Close }
+
+abbrev pub sidesOf : Manner → Sides
+sidesOf Plain = noSides
+sidesOf Enlarged = noSides
+sidesOf Fenced = fenceSides
+
+-- the space before the atom on the right counts in the list's width; s is the style in which the list starts
+abbrev pub closed : Font → Style → Neighbour → Line → Box
+closed F s none l = l .box
+closed F s (some class) l = kerned (l .box) (spaceBefore (F .parameter) s (l .left) class)
+
+-- whether a symbol gives way to its successor
+abbrev pub isEnlarged : Manner → Bool
+isEnlarged Plain = false
+isEnlarged Enlarged = true
+isEnlarged Fenced = false
+
 unfoldable mutual
   pub setItems : Font → Neighbour → Line → Items → Line
   setItems F beyond l nil = l
@@ -216,21 +265,23 @@ unfoldable mutual
       let s = l .style in
       placed F right l (classOf kind)
       (itemBox F s kind
-      (setField F (firstStyle kind s) (enlarges kind s) x)
-      (setField F (secondStyle kind s) false y)
-      (setField F (thirdStyle s) false z))
+      (setField F (firstStyle kind s) (firstManner kind s) x)
+      (setField F (secondStyle kind s) Plain y)
+      (setField F (thirdStyle s) Plain z))
   setItem F right l (kern n) = record { left = l .left; style = l .style; box = kerned (l .box) n }
   setItem F right l (restyle number) =
       record { left = l .left; style = restyled (l .style) number; box = l .box }
   setItem F right l (choice d t sc ss) =
       taken (l .style) (setItems F right l d) (setItems F right l t) (setItems F right l sc) (setItems F right l ss)
 
-  pub setField : Font → Style → Bool → Field → Part
-  setField F s enlarge empty = emptyPart
-  setField F s enlarge (symbol family code) = symbolPart (fontSize s) family (symbolIn F (fontSize s) enlarge family code)
-  setField F s enlarge (list l) =
-      let b = setItems F none (start s) l .box in
+  pub setField : Font → Style → Manner → Field → Part
+  setField F s manner empty = emptyPart
+  setField F s manner (symbol family code) =
+      symbolPart (fontSize s) family (symbolIn F (fontSize s) (isEnlarged manner) family code)
+  setField F s manner (list l) =
+      let sides = sidesOf manner in
+      let b = closed F s (sides .right) (setItems F (sides .right) (start (sides .left) s) l) in
       record { shape = box (b .size); nodes = b .nodes }
 
-unfoldable pub setList : Font → Style → Items → Box
-setList F s l = setItems F none (start s) l .box
+unfoldable pub setList : Font → Sides → Style → Items → Box
+setList F sides s l = closed F s (sides .right) (setItems F (sides .right) (start (sides .left) s) l)

@@ -1,27 +1,33 @@
 -- Laws of the box of a list.
 --     length-own       an item's own nodes are as many in the whole
---     sign-found       whether a root has a sign does not depend on its nucleus
+--     signs-found      on which side an item has a sign does not depend on its fields
+--     first-sides      the list in an item's first field sees a fence's sides where the item must hold a list, and otherwise none
 --     taken-all        what holds of each of a choice's four lists holds of the taken one
 --     styleBehind-choice, classAt-choice, setItem-choice, missingItem-choice, itemFits-choice
 --                      a choice is asked for what its taken list is
 --     setItem-style, setItems-style     the style of a line behind an item, and behind items, goes by them and the style before
 -- Assumes nothing.
-use mathlib.Core.Path.{_≡_, refl, sym, ap, _∙_}
+use mathlib.Core.Path.{_≡_, refl, sym, ap, ap₂, _∙_}
+use mathlib.Core.Bool.{Bool, true, false}
 use mathlib.Core.List.{List, [], _∷_}
 use Prim.Native.Nat.{suc, _+_}
 use lib.ListN.{length}
 use Rattle.font.specs.Font.{Font}
-use Rattle.formula.specs.declared.Base.the-variants.{Atom, Over, Under, Root}
+use Rattle.formula.specs.declared.Base.the-variants.{Atom, Over, Under, Root, Fence}
 use Rattle.formula.specs.declared.Kind.{Kind}
 use Rattle.formula.specs.declared.Kind.the-variants.{Scripted, Fraction}
-use Rattle.formula.specs.Tree.{Items, Item, nil, cons, noad, kern, restyle, choice, choiceOpeningBytes, listOpeningBytes, sublistBytes, itemsBytes}
+use Rattle.formula.specs.Heads.{isOp}
+use Rattle.formula.specs.Tree.{Items, Item, nil, cons, noad, kern, restyle, choice, choiceOpeningBytes, listOpeningBytes, sublistBytes, itemsBytes, holdsList}
 use Rattle.boxes.specs.declared.styles.Level.{Level}
 use Rattle.boxes.specs.declared.styles.Level.the-variants.{Display, Text, Script, Scriptscript}
 use Rattle.boxes.specs.declared.styles.Style.{Style}
+use Rattle.boxes.specs.Styles.{isDisplay}
 use Rattle.boxes.specs.Boxes.{Shape, OwnNode}
-use Rattle.delimiters.specs.DelimiterLaws.{isFound, found-anyway}
+use Rattle.delimiters.specs.DelimiterLaws.{whichFound, found-anyway}
 use Rattle.spacing.specs.Classes.{Neighbour}
-use Rattle.setting.specs.Setting.{signIn, isSigned, ownNodes, taken, styleAfter, styleBehind, nextClass, classAt, Line, placed, setItems, setItem}
+use Rattle.arrange.specs.declared.Manner.the-variants.{Plain}
+use Rattle.arrange.specs.Arrange.{opManner, firstManner}
+use Rattle.setting.specs.Setting.{signsIn, hasSigns, ownNodes, Sides, noSides, fenceSides, sidesOf, taken, styleAfter, styleBehind, nextClass, classAt, Line, placed, setItems, setItem}
 use Rattle.setting.specs.Missing.{later, missingItems, missingItem}
 use Rattle.setting.specs.Fitting.{itemsFit, itemFits}
 
@@ -30,13 +36,36 @@ unfolding ownNodes
 length-own [] = refl
 length-own (o ∷ os) = ap suc (length-own os)
 
-pub sign-found : (F : Font) (s : Style) (kind : Kind) (x : Shape) → isFound (signIn F s kind x) ≡ isSigned F s kind
-unfolding signIn isSigned
-sign-found F s (Scripted (Atom class limits)) x = refl
-sign-found F s (Scripted Over) x = refl
-sign-found F s (Scripted Under) x = refl
-sign-found F s (Scripted (Root d)) x = found-anyway F _ d _
-sign-found F s (Fraction bar) x = refl
+pub signs-found : (F : Font) (s : Style) (kind : Kind) (x : Shape) → whichFound (signsIn F s kind x) ≡ hasSigns F s kind
+unfolding signsIn hasSigns
+signs-found F s (Scripted (Atom class limits)) x = refl
+signs-found F s (Scripted Over) x = refl
+signs-found F s (Scripted Under) x = refl
+signs-found F s (Scripted (Root d)) x = ap (λ (t : Bool). record { before = t; behind = false }) (found-anyway F _ d _)
+signs-found F s (Scripted (Fence left right)) x =
+    ap₂ (λ (t u : Bool). record { before = t; behind = u }) (found-anyway F _ left _) (found-anyway F _ right _)
+signs-found F s (Fraction bar) x = refl
+
+-- ---- only a fence gives its list sides
+
+abbrev pub heldSides : Bool → Sides
+heldSides true = fenceSides
+heldSides false = noSides
+
+pub first-sides : (kind : Kind) (s : Style) → sidesOf (firstManner kind s) ≡ heldSides (holdsList kind)
+first-sides (Scripted (Atom class limits)) s = go (isOp class) (isDisplay (s .level))
+  where
+    go : (op display : Bool) → sidesOf (elim op [ true ↦ opManner display | false ↦ Plain ]) ≡ noSides
+    go true true = refl
+    go true false = refl
+    go false display = refl
+first-sides (Scripted Over) s = refl
+first-sides (Scripted Under) s = refl
+first-sides (Scripted (Root sign)) s = refl
+first-sides (Scripted (Fence left right)) s = refl
+first-sides (Fraction bar) s = refl
+
+-- ---- of a choice's four lists, the one taken
 
 module _ {A B : Type 0} (f : A → B) (s : Style) where
   pub taken-all : {d t sc ss : A} {d′ t′ sc′ ss′ : B} → f d ≡ d′ → f t ≡ t′ → f sc ≡ sc′ → f ss ≡ ss′ →

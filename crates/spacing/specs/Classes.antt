@@ -9,19 +9,20 @@ use mathlib.Core.Option.{Option, none, some}
 use Rattle.formula.specs.declared.Class.{Class}
 use Rattle.formula.specs.declared.Class.the-variants.{Ord, Op, Bin, Rel, Open, Close, Punct, Inner}
 use Rattle.formula.specs.declared.Base.{Base}
-use Rattle.formula.specs.declared.Base.the-variants.{Atom, Over, Under, Root}
+use Rattle.formula.specs.declared.Base.the-variants.{Atom, Over, Under, Root, Fence}
 use Rattle.formula.specs.declared.Kind.{Kind}
 use Rattle.formula.specs.declared.Kind.the-variants.{Scripted, Fraction}
 
 abbrev pub Neighbour : Type 0
 Neighbour = Option Class
 
--- lines and roots count as Ord (rule 16)
+-- lines and roots count as Ord (rule 16), fences as Inner (rule 19)
 abbrev pub baseClass : Base → Class
 baseClass (Atom class limits) = class
 baseClass Over = Ord
 baseClass Under = Ord
 baseClass (Root sign) = Ord
+baseClass (Fence left right) = Inner
 
 -- fractions count as Inner (rule 15e)
 abbrev pub classOf : Kind → Class

@@ -23,7 +23,7 @@ pub fn class_of(kind: Kind) -> Class
     }
 }
 
-// Lines and roots count as Ord (rule 16).
+// Lines and roots count as Ord (rule 16), fences as Inner (rule 19).
 fn base_class(base: Base) -> Class
     ensures { λ r. ⌜ r ≡ baseClass base ⌝ }
 {
@@ -32,6 +32,7 @@ fn base_class(base: Base) -> Class
         Base::Over => Class::Ord,
         Base::Under => Class::Ord,
         Base::Root(_) => Class::Ord,
+        Base::Fence(_, _) => Class::Inner,
     }
 }
 

@@ -2,33 +2,36 @@
 --     Head, head-at, head-short     the head that was found, and where the field ends
 --     head-empty, head-symbol       no symbol and no list; a symbol
 --     list-given                    what the setter of a list is given
---     head-whole, head-missing      a list, by what its setter came to
+--     head-line, head-whole, head-missing     a list, by what its setter came to
 -- Assumes nothing.
 use mathlib.Core.Path.{_≡_, refl, sym, subst, ap, _∙_}
-use mathlib.Core.Bool.{Bool, true}
+use mathlib.Core.Bool.{true}
 use mathlib.Core.List.{List}
-use mathlib.Core.Option.{none}
 use Prim.Native.Nat.{ℕ, _+_, _-_, _≤_, _<_}
 use native.Mathlib.Omega.{arith}
 use lib.ListN.{length, take, drop, length-drop}
 use Rattle.font.specs.Font.{Font}
 use Rattle.formula.specs.declared.FieldHead.{FieldHead}
 use Rattle.formula.specs.declared.FieldHead.the-variants.{NoField, Empty, Symbol, Sublist, CutSublist}
-use Rattle.formula.specs.Tree.{Field, empty, symbol, list, listOpeningBytes}
+use Rattle.formula.specs.Tree.{Items, Field, empty, symbol, list, listOpeningBytes}
 use Rattle.formula.specs.Heads.{fieldHead, isEmpty}
 use Rattle.formula.specs.Places.{treeOf, headBytes, headAt, contents, fieldOf, GoodField}
 use Rattle.formula.specs.Slices.{tail-part, field-part}
 use Rattle.formula.specs.HeadLaws.{head-fits, list-opening, contents-shorter}
 use Rattle.boxes.specs.declared.styles.Style.{Style}
+use Rattle.boxes.specs.Parameters.{Parameters}
+use Rattle.spacing.specs.Classes.{Neighbour}
+use Rattle.arrange.specs.declared.Manner.{Manner}
+use Rattle.setting.specs.Setting.{Sides, sidesOf}
 use Rattle.walk.specs.declared.parts.Part as parts
 use Rattle.walk.specs.declared.parts.FieldSet.{FieldSet}
 use Rattle.walk.specs.declared.parts.FieldSet.the-variants.{Whole, Missing}
 use Rattle.walk.specs.declared.lines.Line as lines
 use Rattle.walk.specs.declared.lists.ItemsSet.{ItemsSet}
 use Rattle.walk.specs.declared.lists.ItemsSet.the-variants as items
-use Rattle.walk.specs.Bounds.{longest}
-use Rattle.walk.specs.Walked.{EmptyPart, FieldGiven, FieldDone, HeadDone, StartLine, ListPart, ItemsGiven, ItemsDone, ListDone}
-use Rattle.walk.specs.WalkedLaws.{start-within, list-of-items}
+use Rattle.walk.specs.Bounds.{longest, LineWithin}
+use Rattle.walk.specs.Walked.{EmptyPart, FieldGiven, FieldDone, HeadDone, StartLine, ClosedLine, ClosedPart, ItemsGiven, ItemsDone, ListDone}
+use Rattle.walk.specs.WalkedLaws.{start-within, list-whole-of, list-lacks-of}
 use Rattle.walk.proofs.PartLaws.{field-empty, list-whole, list-missing}
 
 -- the field at a place has the head h and goes up to `end`
@@ -66,76 +69,79 @@ head-short {s = s} {at} {r} given read =
     let short = given .short in
     omega (arith, o .inside)
 
-module _ (F : Font) (st : Style) (enlarge : Bool) (b b′ : List ℕ) {s : List ℕ} {at end : ℕ} where
+module _ (F : Font) (st : Style) (manner : Manner) (b b′ : List ℕ) {s : List ℕ} {at end : ℕ} where
   head-done : {h : FieldHead} → Head s at h end → (r : FieldSet) →
-      FieldDone F st enlarge (fieldOf (drop at s) h) at end b r b′ → HeadDone F st enlarge s at b r b′
+      FieldDone F st manner (fieldOf (drop at s) h) at end b r b′ → HeadDone F st manner s at b r b′
   head-done {h} o r d =
-      subst (λ (h : FieldHead). FieldDone F st enlarge (fieldOf (drop at s) h) at (at + headBytes h) b r b′) (sym (o .is))
-      (subst (λ (e : ℕ). FieldDone F st enlarge (fieldOf (drop at s) h) at e b r b′) (o .goes) d)
+      subst (λ (h : FieldHead). FieldDone F st manner (fieldOf (drop at s) h) at (at + headBytes h) b r b′) (sym (o .is))
+      (subst (λ (e : ℕ). FieldDone F st manner (fieldOf (drop at s) h) at e b r b′) (o .goes) d)
 
   pub head-symbol : {family code : ℕ} → Head s at (Symbol family code) end → (r : FieldSet) →
-      FieldDone F st enlarge (symbol family code) at end b r b′ → HeadDone F st enlarge s at b r b′
+      FieldDone F st manner (symbol family code) at end b r b′ → HeadDone F st manner s at b r b′
   head-symbol o r d = head-done o r d
 
-  -- the list of n bytes behind the opening comes to l
-  module _ {opening n : ℕ} (o : Head s at (Sublist opening n) end) {start : lines.Line} (empty-line : StartLine st start) where
+  -- the list of n bytes behind the opening, whose setter comes to l between the sides of its manner
+  module _ {opening n : ℕ} (o : Head s at (Sublist opening n) end) (sides : Sides) (between : sides ≡ sidesOf manner)
+      {start : lines.Line} (empty-line : StartLine (sides .left) st start) (l : ItemsSet)
+      (d : let part = take (end - (at + opening)) (drop (at + opening) s) in
+      ItemsDone F (sides .right) (treeOf part) (length part) start b l b′) where
     inner : take (end - (at + opening)) (drop (at + opening) s) ≡ contents opening n (drop at s)
     inner =
         let e : end ≡ at + opening + n = omega (arith, o .goes) in
         rw e (field-part s at opening n)
 
-    long : length (contents opening n (drop at s)) ≡ n
-    long = contents-shorter (drop at s) opening n (o .is) .0
+    abbrev tree : Items
+    tree = treeOf (contents opening n (drop at s))
 
     goes-on : end ≡ at + listOpeningBytes + n
     goes-on = omega (arith, o .goes, list-opening (drop at s) opening n (o .is))
 
-    -- what its setter came to, as a list of its own
-    list-done : (l : ItemsSet) →
-        (let part = take (end - (at + opening)) (drop (at + opening) s) in
-        ItemsDone F none (treeOf part) (length part) start b l b′) →
-        ListDone F st (treeOf (contents opening n (drop at s))) n b l b′
-    list-done l d =
+    -- what it came to, of the bytes of the list
+    items-done : (r : ItemsSet) → l ≡ r → ItemsDone F (sides .right) tree n start b r b′
+    items-done r is =
+        let Done : List ℕ → ℕ → ItemsSet → Type 0 = λ p k r. ItemsDone F (sides .right) (treeOf p) k start b r b′ in
         let part = contents opening n (drop at s) in
-        let here : ItemsDone F none (treeOf part) (length part) start b l b′ =
-        subst (λ (p : List ℕ). ItemsDone F none (treeOf p) (length p) start b l b′) inner d in
-        list-of-items F (treeOf part) n b b′ l empty-line
-        (subst (λ (k : ℕ). ItemsDone F none (treeOf part) k start b l b′) long here)
+        subst (Done part n) is
+        (subst (λ (k : ℕ). Done part k l) (contents-shorter (drop at s) opening n (o .is) .0)
+        (subst (λ (p : List ℕ). Done p (length p) l) inner d))
 
-    module _ (l : ItemsSet) (d : let part = take (end - (at + opening)) (drop (at + opening) s) in
-        ItemsDone F none (treeOf part) (length part) start b l b′) where
-      pub head-whole : {line : lines.Line} {c : parts.Part} → l ≡ items.Whole line → ListPart end line c →
-          HeadDone F st enlarge s at b (Whole c) b′
-      head-whole {line} {c} is p =
-          let tree = treeOf (contents opening n (drop at s)) in
-          let w = subst (λ (l : ItemsSet). ListDone F st tree n b l b′) is (list-done l d) in
-          head-done o (Whole c) (list-whole F st enlarge at end b tree n goes-on b′ line c w p)
+    -- a line of its own bytes alone
+    pub head-line : {line : lines.Line} → l ≡ items.Whole line → LineWithin (0 + n) line
+    head-line {line} is = items-done (items.Whole line) is .1 .grows 0 (start-within 0 empty-line)
 
-      pub head-missing : {place : ℕ} → l ≡ items.Missing place →
-          HeadDone F st enlarge s at b (Missing (at + opening + place)) b′ × (at + opening + place ≤ length s)
-      head-missing {place} is =
-          let tree = treeOf (contents opening n (drop at s)) in
-          let w = subst (λ (l : ItemsSet). ListDone F st tree n b l b′) is (list-done l d) in
-          let e : at + listOpeningBytes ≡ at + opening = omega (arith, list-opening (drop at s) opening n (o .is)) in
-          let low = w .1 in
-          let in-list = o .inside in (
-            head-done o (Missing (at + opening + place))
-                (subst (λ (k : ℕ). FieldDone F st enlarge (list tree) at end b (Missing (k + place)) b′) e
-                (list-missing F st enlarge at end b tree n goes-on b′ place w)),
-            omega (arith, o .goes),
-          )
+    pub head-whole : {P : Parameters} {line : lines.Line} {c : parts.Part} → P ≡ F .parameter → l ≡ items.Whole line →
+        ClosedPart P st (sides .right) end line c → HeadDone F st manner s at b (Whole c) b′
+    head-whole {P} {line} {c} params is p =
+        let closed = p .closed in
+        let end-is = subst (λ (P : Parameters). ClosedLine P st (sides .right) line closed) params (p .closed-is) in
+        let w = subst (λ (sides : Sides). ListDone F sides st tree n b (items.Whole closed) b′) between
+        (list-whole-of F sides tree n b b′ empty-line line closed (items-done (items.Whole line) is) end-is) in
+        head-done o (Whole c) (list-whole F st manner at end b tree n goes-on b′ closed c w (p .part-is))
 
-module _ (F : Font) (st : Style) (enlarge : Bool) (b : List ℕ) {s : List ℕ} {at end : ℕ} where
+    pub head-missing : {place : ℕ} → l ≡ items.Missing place →
+        HeadDone F st manner s at b (Missing (at + opening + place)) b′ × (at + opening + place ≤ length s)
+    head-missing {place} is =
+        let w = list-lacks-of F sides tree n b b′ empty-line place (items-done (items.Missing place) is) in
+        let e : at + listOpeningBytes ≡ at + opening = omega (arith, list-opening (drop at s) opening n (o .is)) in
+        let low = w .1 in
+        let in-list = o .inside in (
+          head-done o (Missing (at + opening + place))
+              (subst (λ (k : ℕ). FieldDone F st manner (list tree) at end b (Missing (k + place)) b′) e
+              (list-missing F st manner at end b tree n goes-on b′ place w)),
+          omega (arith, o .goes),
+        )
+
+module _ (F : Font) (st : Style) (manner : Manner) (b : List ℕ) {s : List ℕ} {at end : ℕ} where
   pub head-empty : {h : FieldHead} {c : parts.Part} → Head s at h end → fieldOf (drop at s) h ≡ empty → EmptyPart end c →
-      HeadDone F st enlarge s at b (Whole c) b
+      HeadDone F st manner s at b (Whole c) b
   head-empty {h} {c} o none-there e =
-      head-done F st enlarge b b o (Whole c)
-      (subst (λ (f : Field). FieldDone F st enlarge f at end b (Whole c) b) (sym none-there)
-      (field-empty F st enlarge at end b c (omega (arith, o .goes)) e))
+      head-done F st manner b b o (Whole c)
+      (subst (λ (f : Field). FieldDone F st manner f at end b (Whole c) b) (sym none-there)
+      (field-empty F st manner at end b c (omega (arith, o .goes)) e))
 
 -- what the setter of a list is given, and that the list is shorter than what holds the item
-pub list-given : {t : List ℕ} {p : List (List ℕ)} {s : List ℕ} {at end opening n : ℕ} {st : Style} {start : lines.Line} → FieldGiven t p s at →
-    Head s at (Sublist opening n) end → StartLine st start →
+pub list-given : {t : List ℕ} {p : List (List ℕ)} {s : List ℕ} {at end opening n : ℕ} {left : Neighbour} {st : Style} {start : lines.Line} → FieldGiven t p s at →
+    Head s at (Sublist opening n) end → StartLine left st start →
     let part = take (end - (at + opening)) (drop (at + opening) s) in
     ItemsGiven t p part start × (length part < length s)
 list-given {s = s} {at} {end} {opening} {n} given o empty-line =

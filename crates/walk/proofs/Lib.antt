@@ -2,7 +2,6 @@
 mod PartLaws
 mod FieldLaws
 mod PlaceLaws
-mod SignLaws
 mod ItemLaws
 mod Laid
 mod ListLaws

@@ -28,7 +28,9 @@ use Rattle.boxes.specs.Parameters.{Parameters}
 use Rattle.spacing.specs.Classes.{Neighbour, classOf, changedClass}
 use Rattle.spacing.specs.Spacing.{spaceBefore}
 use Rattle.boxes.specs.Boxes.{Arranged}
-use Rattle.arrange.specs.Arrange.{arrange, ownCounts, firstStyle, secondStyle, thirdStyle, enlarges}
+use Rattle.arrange.specs.declared.Manner.{Manner}
+use Rattle.arrange.specs.declared.Manner.the-variants.{Plain}
+use Rattle.arrange.specs.Arrange.{arrange, ownCounts, firstStyle, secondStyle, thirdStyle, firstManner}
 use Rattle.arrange.proofs.ArrangeLaws.{own-before, own-behind, few-own}
 use Rattle.spacing.specs.Values.{neighbourAs}
 use Rattle.boxes.specs.Values.{sizeAs, shapeAs}
@@ -37,10 +39,10 @@ use Rattle.nodes.specs.Buffer.{roomFor}
 use Rattle.nodes.specs.Drawn.{Drawn}
 use Rattle.nodes.specs.Kept.{Kept, kept-more, kept-then}
 use Rattle.nodes.specs.Values.{isLarge}
-use Rattle.delimiters.specs.Delimiters.{Sign}
-use Rattle.delimiters.specs.DelimiterLaws.{isFound}
-use Rattle.setting.specs.Setting.{Part, signIn, isSigned, styleBehind, nextClass, itemNodes, itemBox, placed, setField, setItem}
-use Rattle.setting.specs.SettingLaws.{sign-found}
+use Rattle.delimiters.specs.Delimiters.{Signs}
+use Rattle.delimiters.specs.DelimiterLaws.{whichFound}
+use Rattle.setting.specs.Setting.{Part, signsIn, hasSigns, styleBehind, nextClass, itemNodes, itemBox, placed, setField, setItem}
+use Rattle.setting.specs.SettingLaws.{signs-found}
 use Rattle.setting.specs.Missing.{_orElse_, missingField, missingItem}
 use Rattle.setting.specs.Fitting.{fieldFits, itemFits}
 use Rattle.walk.specs.declared.parts.Part as parts
@@ -62,18 +64,18 @@ or-nots true b = refl
 or-nots false b = refl
 
 -- a field that was set, by equal names
-pub head-as : (F : Font) (bytes b b′ : List ℕ) {st st′ : Style} {e e′ : Bool} {at at′ : ℕ} {r r′ : FieldSet} → st ≡ st′ → e ≡ e′ →
-    at ≡ at′ → r ≡ r′ → HeadDone F st e bytes at b r b′ → HeadDone F st′ e′ bytes at′ b r′ b′
-head-as F bytes b b′ {st} {st′} {e} {e′} {at} {at′} {r} {r′} style enlarge place is d =
-    subst (λ (r : FieldSet). HeadDone F st′ e′ bytes at′ b r b′) is
-    (subst (λ (at : ℕ). HeadDone F st′ e′ bytes at b r b′) place
-    (subst (λ (e : Bool). HeadDone F st′ e bytes at b r b′) enlarge (subst (λ (st : Style). HeadDone F st e bytes at b r b′) style d)))
+pub head-as : (F : Font) (bytes b b′ : List ℕ) {st st′ : Style} {m m′ : Manner} {at at′ : ℕ} {r r′ : FieldSet} → st ≡ st′ → m ≡ m′ →
+    at ≡ at′ → r ≡ r′ → HeadDone F st m bytes at b r b′ → HeadDone F st′ m′ bytes at′ b r′ b′
+head-as F bytes b b′ {st} {st′} {m} {m′} {at} {at′} {r} {r′} style manner place is d =
+    subst (λ (r : FieldSet). HeadDone F st′ m′ bytes at′ b r b′) is
+    (subst (λ (at : ℕ). HeadDone F st′ m′ bytes at b r b′) place
+    (subst (λ (m : Manner). HeadDone F st′ m bytes at b r b′) manner (subst (λ (st : Style). HeadDone F st m bytes at b r b′) style d)))
 
 -- an item that was finished by the parameters P, where these are Q
-pub finished-by : {P Q : Parameters} {s : Style} {kind : Kind} {sign : Option Sign} {right : Neighbour} {l r : lines.Line} {a b c : parts.Part} {v v′ : List ℕ} →
-    P ≡ Q → Finished P s kind sign right l a b c r v v′ → Finished Q s kind sign right l a b c r v v′
-finished-by {s = s} {kind} {sign} {right} {l} {r} {a} {b} {c} {v} {v′} e d =
-    subst (λ (P : Parameters). Finished P s kind sign right l a b c r v v′) e d
+pub finished-by : {P Q : Parameters} {s : Style} {kind : Kind} {signs : Signs} {right : Neighbour} {l r : lines.Line} {a b c : parts.Part} {v v′ : List ℕ} →
+    P ≡ Q → Finished P s kind signs right l a b c r v v′ → Finished Q s kind signs right l a b c r v v′
+finished-by {s = s} {kind} {signs} {right} {l} {r} {a} {b} {c} {v} {v′} e d =
+    subst (λ (P : Parameters). Finished P s kind signs right l a b c r v v′) e d
 
 -- the fields of the item at the head of some bytes, each set alone
 module _ (F : Font) (s : Style) (kind : Kind) (bytes : List ℕ) where
@@ -87,40 +89,40 @@ module _ (F : Font) (s : Style) (kind : Kind) (bytes : List ℕ) where
   fieldZ = thirdIn bytes (hasThird kind) (third bytes kind)
 
   abbrev pub partX : Part
-  partX = setField F (firstStyle kind s) (enlarges kind s) fieldX
+  partX = setField F (firstStyle kind s) (firstManner kind s) fieldX
 
   abbrev pub partY : Part
-  partY = setField F (secondStyle kind s) false fieldY
+  partY = setField F (secondStyle kind s) Plain fieldY
 
   abbrev pub partZ : Part
-  partZ = setField F (thirdStyle s) false fieldZ
+  partZ = setField F (thirdStyle s) Plain fieldZ
 
   abbrev pub fitsX : Bool
-  fitsX = fieldFits F (firstStyle kind s) fieldX
+  fitsX = fieldFits F (firstStyle kind s) (firstManner kind s) fieldX
 
   abbrev pub fitsY : Bool
-  fitsY = fieldFits F (secondStyle kind s) fieldY
+  fitsY = fieldFits F (secondStyle kind s) Plain fieldY
 
   abbrev pub fitsZ : Bool
-  fitsZ = fieldFits F (thirdStyle s) fieldZ
+  fitsZ = fieldFits F (thirdStyle s) Plain fieldZ
 
   abbrev pub lacksX : Option ℕ
-  lacksX = missingField F (firstStyle kind s) (enlarges kind s) (openingBytes kind) fieldX
+  lacksX = missingField F (firstStyle kind s) (firstManner kind s) (openingBytes kind) fieldX
 
   abbrev pub lacksY : Option ℕ
-  lacksY = missingField F (secondStyle kind s) false (second bytes kind) fieldY
+  lacksY = missingField F (secondStyle kind s) Plain (second bytes kind) fieldY
 
   abbrev pub lacksZ : Option ℕ
-  lacksZ = missingField F (thirdStyle s) false (third bytes kind) fieldZ
+  lacksZ = missingField F (thirdStyle s) Plain (third bytes kind) fieldZ
 
   abbrev pub WholeX : parts.Part → Type 0
-  WholeX a = FieldWhole F (firstStyle kind s) (enlarges kind s) fieldX (openingBytes kind) (second bytes kind) a
+  WholeX a = FieldWhole F (firstStyle kind s) (firstManner kind s) fieldX (openingBytes kind) (second bytes kind) a
 
   abbrev pub WholeY : parts.Part → Type 0
-  WholeY b = FieldWhole F (secondStyle kind s) false fieldY (second bytes kind) (third bytes kind) b
+  WholeY b = FieldWhole F (secondStyle kind s) Plain fieldY (second bytes kind) (third bytes kind) b
 
   abbrev pub WholeZ : parts.Part → Type 0
-  WholeZ c = FieldWhole F (thirdStyle s) false fieldZ (third bytes kind) (end bytes kind) c
+  WholeZ c = FieldWhole F (thirdStyle s) Plain fieldZ (third bytes kind) (end bytes kind) c
 
   pub item-lacks : Noad bytes kind → missingItem F s (itemOf bytes (Fields kind)) ≡ (lacksX orElse lacksY orElse lacksZ)
   unfolding missingItem
@@ -129,7 +131,7 @@ module _ (F : Font) (s : Style) (kind : Kind) (bytes : List ℕ) where
       let y = field-bytes bytes (second bytes kind) (n .y) in
       let at₂ : openingBytes kind + fieldBytes fieldX ≡ second bytes kind = omega arith in
       let at₃ : openingBytes kind + fieldBytes fieldX + fieldBytes fieldY ≡ third bytes kind = omega arith in
-      ap₂ (λ (y z : ℕ). lacksX orElse missingField F (secondStyle kind s) false y fieldY orElse missingField F (thirdStyle s) false z fieldZ)
+      ap₂ (λ (y z : ℕ). lacksX orElse missingField F (secondStyle kind s) Plain y fieldY orElse missingField F (thirdStyle s) Plain z fieldZ)
       at₂ at₃
 
   pub first-lacks : {place : ℕ} → Noad bytes kind → lacksX ≡ some place → missingItem F s (itemOf bytes (Fields kind)) ≡ some place
@@ -154,16 +156,16 @@ module _ (F : Font) (s : Style) (kind : Kind) (bytes : List ℕ) where
   -- what stands so far in the buffer v, which was b₀, with room for the item's own nodes: the first field a
   pub record One (o₁ o₂ : ℕ) (b₀ : List ℕ) (a : parts.Part) (v : List ℕ) : Type 0 where
     pub noad : Noad bytes kind
-    pub own₁ : o₁ ≡ ownCounts (F .parameter) s kind (isSigned F s kind) .before
-    pub own₂ : o₂ ≡ ownCounts (F .parameter) s kind (isSigned F s kind) .behind
+    pub own₁ : o₁ ≡ ownCounts (F .parameter) s kind (hasSigns F s kind) .before
+    pub own₂ : o₂ ≡ ownCounts (F .parameter) s kind (hasSigns F s kind) .behind
     pub wx : WholeX a
     pub so : Laid b₀ (second bytes kind) (o₁ + a .run .count + o₂) fitsX ((gap₁ a o₁ o₂ b₀ ++ bytesOf (partX .nodes)) ++ gap₂ a o₁ o₂ b₀) v
 
   -- and the second, b
   pub record Two (o₁ o₂ : ℕ) (b₀ : List ℕ) (a b : parts.Part) (v : List ℕ) : Type 0 where
     pub noad : Noad bytes kind
-    pub own₁ : o₁ ≡ ownCounts (F .parameter) s kind (isSigned F s kind) .before
-    pub own₂ : o₂ ≡ ownCounts (F .parameter) s kind (isSigned F s kind) .behind
+    pub own₁ : o₁ ≡ ownCounts (F .parameter) s kind (hasSigns F s kind) .before
+    pub own₂ : o₂ ≡ ownCounts (F .parameter) s kind (hasSigns F s kind) .behind
     pub wx : WholeX a
     pub wy : WholeY b
     pub so : Laid b₀ (third bytes kind) (o₁ + a .run .count + o₂ + b .run .count) (fitsX && fitsY)
@@ -172,8 +174,8 @@ module _ (F : Font) (s : Style) (kind : Kind) (bytes : List ℕ) where
   -- and the third, c
   pub record Three (o₁ o₂ : ℕ) (b₀ : List ℕ) (a b c : parts.Part) (v : List ℕ) : Type 0 where
     pub noad : Noad bytes kind
-    pub own₁ : o₁ ≡ ownCounts (F .parameter) s kind (isSigned F s kind) .before
-    pub own₂ : o₂ ≡ ownCounts (F .parameter) s kind (isSigned F s kind) .behind
+    pub own₁ : o₁ ≡ ownCounts (F .parameter) s kind (hasSigns F s kind) .before
+    pub own₂ : o₂ ≡ ownCounts (F .parameter) s kind (hasSigns F s kind) .behind
     pub wx : WholeX a
     pub wy : WholeY b
     pub wz : WholeZ c
@@ -187,16 +189,16 @@ module _ (F : Font) (s : Style) (kind : Kind) (bytes : List ℕ) where
       Kept (end bytes kind) b₀ v × (lacksZ ≡ some place) × (place ≤ end bytes kind)
 
   -- before its fields an item has two own nodes at most, and at least so many bytes
-  own-few : {o₁ o₂ : ℕ} → Noad bytes kind → o₁ ≡ ownCounts (F .parameter) s kind (isSigned F s kind) .before →
-      o₂ ≡ ownCounts (F .parameter) s kind (isSigned F s kind) .behind → o₁ + o₂ ≤ openingBytes kind
-  own-few n own₁ own₂ = omega (arith, few-own (F .parameter) s kind (isSigned F s kind), n .opened)
+  own-few : {o₁ o₂ : ℕ} → Noad bytes kind → o₁ ≡ ownCounts (F .parameter) s kind (hasSigns F s kind) .before →
+      o₂ ≡ ownCounts (F .parameter) s kind (hasSigns F s kind) .behind → o₁ + o₂ ≤ openingBytes kind
+  own-few n own₁ own₂ = omega (arith, few-own (F .parameter) s kind (hasSigns F s kind), n .opened)
 
-  module _ {o₁ o₂ j : ℕ} (b₀ r : List ℕ) (n : Noad bytes kind) (own₁ : o₁ ≡ ownCounts (F .parameter) s kind (isSigned F s kind) .before)
-      (own₂ : o₂ ≡ ownCounts (F .parameter) s kind (isSigned F s kind) .behind) (at : j ≡ roomFor o₁ (length b₀)) where
+  module _ {o₁ o₂ j : ℕ} (b₀ r : List ℕ) (n : Noad bytes kind) (own₁ : o₁ ≡ ownCounts (F .parameter) s kind (hasSigns F s kind) .before)
+      (own₂ : o₂ ≡ ownCounts (F .parameter) s kind (hasSigns F s kind) .behind) (at : j ≡ roomFor o₁ (length b₀)) where
     -- the first field's part of the buffer, and what its setter came to
     abbrev FirstSet : FieldSet → Type 0
     FirstSet x =
-        HeadDone F (firstStyle kind s) (enlarges kind s) bytes (openingBytes kind) (take (length b₀ - j) (drop j b₀)) x r
+        HeadDone F (firstStyle kind s) (firstManner kind s) bytes (openingBytes kind) (take (length b₀ - j) (drop j b₀)) x r
 
     front : Laid b₀ (openingBytes kind) o₁ true (take (bytesInNode * o₁) b₀) b₀
     front = laid-start b₀ o₁ (omega (arith, own-few n own₁ own₂))
@@ -230,7 +232,7 @@ module _ (F : Font) (s : Style) (kind : Kind) (bytes : List ℕ) where
   module _ {o₁ o₂ j : ℕ} {b₀ v : List ℕ} {a : parts.Part} (q : One o₁ o₂ b₀ a v) (r : List ℕ)
       (at : j ≡ roomFor (o₁ + a .run .count + o₂) (length v)) where
     abbrev SecondSet : FieldSet → Type 0
-    SecondSet y = HeadDone F (secondStyle kind s) false bytes (second bytes kind) (take (length v - j) (drop j v)) y r
+    SecondSet y = HeadDone F (secondStyle kind s) Plain bytes (second bytes kind) (take (length v - j) (drop j v)) y r
 
     pub set-two : {b : parts.Part} → SecondSet (field.Whole b) → Two o₁ o₂ b₀ a b (putMid j (length v - j) v r)
     set-two {b} (wy, drawn, kept) =
@@ -266,16 +268,16 @@ module _ (F : Font) (s : Style) (kind : Kind) (bytes : List ℕ) where
 
     pub set-three : {j : ℕ} (z : FieldSet) (r : List ℕ) → hasThird kind ≡ true →
         j ≡ roomFor (o₁ + a .run .count + o₂ + b .run .count) (length v) →
-        HeadDone F (thirdStyle s) false bytes (third bytes kind) (take (length v - j) (drop j v)) z r →
+        HeadDone F (thirdStyle s) Plain bytes (third bytes kind) (take (length v - j) (drop j v)) z r →
         ThirdDone o₁ o₂ b₀ a b z (putMid j (length v - j) v r)
     set-three {j} z r has at d =
         let lent = take (length v - j) (drop j v) in
-        let here : FieldDone F (thirdStyle s) false fieldZ (third bytes kind) (end bytes kind) lent z r =
-        subst (λ (t : Bool). FieldDone F (thirdStyle s) false (thirdIn bytes t (third bytes kind)) (third bytes kind) (thirdEnd bytes t (third bytes kind)) lent z r)
+        let here : FieldDone F (thirdStyle s) Plain fieldZ (third bytes kind) (end bytes kind) lent z r =
+        subst (λ (t : Bool). FieldDone F (thirdStyle s) Plain (thirdIn bytes t (third bytes kind)) (third bytes kind) (thirdEnd bytes t (third bytes kind)) lent z r)
         (sym has) d in
         go z here
       where
-        go : (z : FieldSet) → FieldDone F (thirdStyle s) false fieldZ (third bytes kind) (end bytes kind) (take (length v - j) (drop j v)) z r →
+        go : (z : FieldSet) → FieldDone F (thirdStyle s) Plain fieldZ (third bytes kind) (end bytes kind) (take (length v - j) (drop j v)) z r →
             ThirdDone o₁ o₂ b₀ a b z (putMid j (length v - j) v r)
         go (field.Whole c) (wz, drawn, kept) =
             let few = q .so .few in
@@ -294,10 +296,10 @@ module _ (F : Font) (s : Style) (kind : Kind) (bytes : List ℕ) where
     none-third c has e =
         let k = third bytes kind in
         let ends : EmptyPart k c = subst (λ (n : ℕ). EmptyPart n c) (q .wy .end-is) e in
-        let d : FieldDone F (thirdStyle s) false (thirdIn bytes (hasThird kind) k) k (thirdEnd bytes (hasThird kind) k) v (field.Whole c) v =
-        subst (λ (t : Bool). FieldDone F (thirdStyle s) false (thirdIn bytes t k) k (thirdEnd bytes t k) v (field.Whole c) v) (sym has)
-        (field-empty F (thirdStyle s) false k k v c (omega arith) ends) in
-        let blank : partZ .nodes ≡ [] = ap (λ (t : Bool). setField F (thirdStyle s) false (thirdIn bytes t k) .nodes) has in
+        let d : FieldDone F (thirdStyle s) Plain (thirdIn bytes (hasThird kind) k) k (thirdEnd bytes (hasThird kind) k) v (field.Whole c) v =
+        subst (λ (t : Bool). FieldDone F (thirdStyle s) Plain (thirdIn bytes t k) k (thirdEnd bytes t k) v (field.Whole c) v) (sym has)
+        (field-empty F (thirdStyle s) Plain k k v c (omega arith) ends) in
+        let blank : partZ .nodes ≡ [] = ap (λ (t : Bool). setField F (thirdStyle s) Plain (thirdIn bytes t k) .nodes) has in
         let n = o₁ + a .run .count + o₂ + b .run .count + c .run .count in
         let w = ((gap₁ a o₁ o₂ b₀ ++ bytesOf (partX .nodes)) ++ gap₂ a o₁ o₂ b₀) ++ bytesOf (partY .nodes) in
         three (d .0)
@@ -307,11 +309,11 @@ module _ (F : Font) (s : Style) (kind : Kind) (bytes : List ℕ) where
   -- the item is finished: the line l, of the style s, became r, and the buffer v′
   pub record NoadSet (beyond right : Neighbour) (l r : lines.Line) (o₁ o₂ : ℕ) (b₀ : List ℕ) (a b c : parts.Part) (v v′ : List ℕ) : Type 0 where
     pub here : l .style ≡ s
-    pub sign : Option Sign
-    pub sign-is : sign ≡ signIn F s kind (shapeAs (a .shape))
+    pub signs : Signs
+    pub signs-is : signs ≡ signsIn F s kind (shapeAs (a .shape))
     pub fields : Three o₁ o₂ b₀ a b c v
     pub alike : ChangesAlike kind right beyond
-    pub done : Finished (F .parameter) s kind sign right l a b c r v v′
+    pub done : Finished (F .parameter) s kind signs right l a b c r v v′
 
   module _ {beyond right : Neighbour} {l r : lines.Line} {a b c : parts.Part} {o₁ o₂ : ℕ} {b₀ v v′ : List ℕ}
       (q : NoadSet beyond right l r o₁ o₂ b₀ a b c v v′) where
@@ -329,7 +331,7 @@ module _ (F : Font) (s : Style) (kind : Kind) (bytes : List ℕ) where
     at = l .size .width .0 +ℤ spaceBefore P s left class
 
     abbrev A : Arranged
-    A = arrange P s kind (signIn F s kind (partX .shape)) (partX .shape) (partY .shape) (partZ .shape)
+    A = arrange P s kind (signsIn F s kind (partX .shape)) (partX .shape) (partY .shape) (partZ .shape)
 
     abbrev nodes : List Node
     nodes = moved at (pos 0) (itemNodes A partX partY partZ)
@@ -358,22 +360,22 @@ module _ (F : Font) (s : Style) (kind : Kind) (bytes : List ℕ) where
     arranged-is : Fits → q .done .arranged ≡ A
     arranged-is h =
         q .done .arranged-is
-        ∙ rw (q .sign-is, q .fields .wx .is (x-fits h) .shape-is, q .fields .wy .is (y-fits h) .shape-is, q .fields .wz .is (z-fits h) .shape-is)
+        ∙ rw (q .signs-is, q .fields .wx .is (x-fits h) .shape-is, q .fields .wy .is (y-fits h) .shape-is, q .fields .wz .is (z-fits h) .shape-is)
 
-    -- how many own nodes there are, whatever the fields hold: whether there is a sign does not depend on the nucleus
-    found-is : isFound (q .sign) ≡ isSigned F s kind
-    found-is = ap isFound (q .sign-is) ∙ sign-found F s kind (shapeAs (a .shape))
+    -- how many own nodes there are, whatever the fields hold: on which sides there is a sign does not depend on the fields
+    found-is : whichFound (q .signs) ≡ hasSigns F s kind
+    found-is = ap whichFound (q .signs-is) ∙ signs-found F s kind (shapeAs (a .shape))
 
     own-before-is : length (q .done .arranged .own .before) ≡ o₁
     own-before-is =
         ap (λ (B : Arranged). length (B .own .before)) (q .done .arranged-is)
-        ∙ own-before P s kind (q .sign) _ _ _ found-is
+        ∙ own-before P s kind (q .signs) _ _ _ found-is
         ∙ sym (q .fields .own₁)
 
     own-behind-is : length (q .done .arranged .own .behind) ≡ o₂
     own-behind-is =
         ap (λ (B : Arranged). length (B .own .behind)) (q .done .arranged-is)
-        ∙ own-behind P s kind (q .sign) _ _ _ found-is
+        ∙ own-behind P s kind (q .signs) _ _ _ found-is
         ∙ sym (q .fields .own₂)
 
     few : itemCount (q .done .x) (q .done .arranged) (a .run .count) (b .run .count) (c .run .count) ≤ end bytes kind

@@ -4,7 +4,7 @@
 --     list-whole, list-missing         a list, from what the list comes to
 -- Assumes nothing.
 use mathlib.Core.Path.{_≡_, refl, sym, ap, subst, _∙_}
-use mathlib.Core.Bool.{Bool, true, and-eq-true-iff}
+use mathlib.Core.Bool.{true, and-eq-true-iff}
 use mathlib.Core.List.{List, [], _∷_}
 use mathlib.Core.Option.{none, some}
 use Prim.Native.Nat.{ℕ, _+_, _-_, _≤_, _<_}
@@ -27,7 +27,8 @@ use Rattle.nodes.specs.Kept.{kept-all, kept-more, kept-put}
 use Rattle.nodes.specs.Hull.{around, HullWithin}
 use Rattle.nodes.specs.Values.{RunIs, PointRun}
 use Rattle.nodes.specs.RunLaws.{run-none, run-node}
-use Rattle.setting.specs.Setting.{Part, symbolIn, symbolPart, setField, setList}
+use Rattle.arrange.specs.declared.Manner.{Manner}
+use Rattle.setting.specs.Setting.{Part, symbolIn, symbolPart, isEnlarged, sidesOf, setField, setList}
 use Rattle.setting.specs.Missing.{later, absentAt, missingField}
 use Rattle.setting.specs.Fitting.{fieldFits, itemsFit, boxFits}
 use Rattle.walk.specs.declared.symbols.Symbol as symbols
@@ -39,8 +40,8 @@ use Rattle.walk.specs.Values.{symbolAs, lineFits}
 use Rattle.walk.specs.Walked.{EmptyPart, FieldDone, ListDone, ListPart}
 use Rattle.walk.specs.WalkedLaws.{line-fits}
 
-module _ (F : Font) (s : Style) (enlarge : Bool) (at end : ℕ) (b : List ℕ) where
-  pub field-empty : (c : parts.Part) → at ≤ end → EmptyPart end c → FieldDone F s enlarge empty at end b (Whole c) b
+module _ (F : Font) (s : Style) (manner : Manner) (at end : ℕ) (b : List ℕ) where
+  pub field-empty : (c : parts.Part) → at ≤ end → EmptyPart end c → FieldDone F s manner empty at end b (Whole c) b
   unfolding missingField fieldFits setField
   field-empty c inside e =
       let none-there = e .run-is .count-is in
@@ -58,15 +59,15 @@ module _ (F : Font) (s : Style) (enlarge : Bool) (at end : ℕ) (b : List ℕ) w
 
   module _ (family code : ℕ) (inside : at < end) where
     pub symbol-whole : (m : symbols.Symbol) (r : Run) (b′ : List ℕ) →
-        symbolIn F (fontSize s) enlarge family code ≡ some (symbolAs m) → PointRun (pos 0) (pos 0) r →
+        symbolIn F (fontSize s) (isEnlarged manner) family code ≡ some (symbolAs m) → PointRun (pos 0) (pos 0) r →
         b′ ≡ put (glyph (pos 0) (pos 0) (fontSize s) family (m .code)) b →
-        FieldDone F s enlarge (symbol family code) at end b (Whole (record { end = end; shape = Char (m .metrics); run = r })) b′
+        FieldDone F s manner (symbol family code) at end b (Whole (record { end = end; shape = Char (m .metrics); run = r })) b′
     unfolding setField symbolPart missingField absentAt fieldFits
     symbol-whole m r b′ found point written =
         let n = glyph (pos 0) (pos 0) (fontSize s) family (m .code) in
         let part : Part = record { shape = char (metricsAs (m .metrics)); nodes = n ∷ [] } in
-        let is : setField F s enlarge (symbol family code) ≡ part = ap (symbolPart (fontSize s) family) found in
-        let nodes : setField F s enlarge (symbol family code) .nodes ≡ n ∷ [] = ap (λ (p : Part). p .nodes) is in
+        let is : setField F s manner (symbol family code) ≡ part = ap (symbolPart (fontSize s) family) found in
+        let nodes : setField F s manner (symbol family code) .nodes ≡ n ∷ [] = ap (λ (p : Part). p .nodes) is in
         let zero : HullWithin greatestLength (around (pos 0) (pos 0) (pos 0) (pos 0)) =
         (omega arith, omega arith, omega arith, omega arith) in
         let one = point .count-is in (
@@ -85,19 +86,19 @@ module _ (F : Font) (s : Style) (enlarge : Bool) (at end : ℕ) (b : List ℕ) w
           rw written (kept-more (omega arith) (kept-put n b)),
         )
 
-    pub symbol-missing : symbolIn F (fontSize s) enlarge family code ≡ none →
-        FieldDone F s enlarge (symbol family code) at end b (Missing at) b
+    pub symbol-missing : symbolIn F (fontSize s) (isEnlarged manner) family code ≡ none →
+        FieldDone F s manner (symbol family code) at end b (Missing at) b
     unfolding missingField absentAt
     symbol-missing lacks = (ap (absentAt at) lacks, omega arith, kept-all _ b)
 
   -- the list's n bytes stand behind its opening
   module _ (l : Items) (n : ℕ) (goes : end ≡ at + listOpeningBytes + n) (b′ : List ℕ) where
-    pub list-whole : (line : lines.Line) (c : parts.Part) → ListDone F s l n b (items.Whole line) b′ → ListPart end line c →
-        FieldDone F s enlarge (list l) at end b (Whole c) b′
+    pub list-whole : (line : lines.Line) (c : parts.Part) → ListDone F (sidesOf manner) s l n b (items.Whole line) b′ → ListPart end line c →
+        FieldDone F s manner (list l) at end b (Whole c) b′
     unfolding missingField fieldFits setField setList later
     list-whole line c (w, drawn, kept) p =
-        let fits : lineFits line ≡ fieldFits F s (list l) = line-fits w in
-        let inner : fieldFits F s (list l) ≡ true → itemsFit F s l ≡ true = λ h. and-eq-true-iff (boxFits (setList F s l)) (itemsFit F s l) .0 h .1 in
+        let fits : lineFits line ≡ fieldFits F s manner (list l) = line-fits w in
+        let inner : fieldFits F s manner (list l) ≡ true → itemsFit F s l ≡ true = λ h. and-eq-true-iff (boxFits (setList F (sidesOf manner) s l)) (itemsFit F s l) .0 h .1 in
         let few = p .count in
         let many = w .count in
         let ends = p .end-is in (
@@ -110,15 +111,15 @@ module _ (F : Font) (s : Style) (enlarge : Bool) (at end : ℕ) (b : List ℕ) w
                 let own = p .is (fits ∙ h) in
                 record {
                   shape-is = ap shapeAs (own .0) ∙ ap box (w .size-is (inner h));
-                  run-is = subst (RunIs (setList F s l .nodes)) (sym (own .1)) (w .run-is (inner h));
+                  run-is = subst (RunIs (setList F (sidesOf manner) s l .nodes)) (sym (own .1)) (w .run-is (inner h));
                 };
           },
           λ h. drawn (inner h),
           kept-more (omega arith) kept,
         )
 
-    pub list-missing : (place : ℕ) → ListDone F s l n b (items.Missing place) b′ →
-        FieldDone F s enlarge (list l) at end b (Missing (at + listOpeningBytes + place)) b′
+    pub list-missing : (place : ℕ) → ListDone F (sidesOf manner) s l n b (items.Missing place) b′ →
+        FieldDone F s manner (list l) at end b (Missing (at + listOpeningBytes + place)) b′
     unfolding missingField later
     list-missing place (lacks, low, kept) =
         (ap (later (at + listOpeningBytes)) lacks, omega arith, kept-more (omega arith) kept)

@@ -1,5 +1,6 @@
 -- What the values of the walk's code stand for in the definition.
 --     symbolAs, soughtAs     a symbol that was looked for
+--     sidesAs                what a list sees on its sides
 --     PartIs                 a field that has been set alone
 --     bareIn, bareLine       a line, but for its nodes: the code knows how many there are and how far they reach
 --     lineFits               whether a line keeps within the greatest length, and so do all lists in it
@@ -14,11 +15,12 @@ use Rattle.boxes.specs.declared.styles.Style.{Style}
 use Rattle.boxes.specs.Values.{sizeAs, shapeAs}
 use Rattle.nodes.specs.Hull.{hullFits}
 use Rattle.nodes.specs.Values.{hullOf, isLarge, RunIs}
-use Rattle.setting.specs.Setting.{Symbol, Part, Line}
+use Rattle.setting.specs.Setting.{Symbol, Part, Line, Sides as SidesOf}
 use Rattle.setting.specs.Fitting.{sizeFits}
 use Rattle.walk.specs.declared.symbols.Symbol as symbols
 use Rattle.walk.specs.declared.symbols.Sought.{Sought}
 use Rattle.walk.specs.declared.symbols.Sought.the-variants.{Present, Absent}
+use Rattle.walk.specs.declared.sides.Sides.{Sides}
 use Rattle.walk.specs.declared.parts.Part as parts
 use Rattle.walk.specs.declared.lines.Line as lines
 
@@ -28,6 +30,9 @@ symbolAs s = record { code = s .code; metrics = metricsAs (s .metrics) }
 abbrev pub soughtAs : Sought → Option Symbol
 soughtAs (Present s) = some (symbolAs s)
 soughtAs Absent = none
+
+abbrev pub sidesAs : Sides → SidesOf
+sidesAs s = record { left = neighbourAs (s .left); right = neighbourAs (s .right) }
 
 pub record PartIs (x : Part) (c : parts.Part) : Type 0 where
   pub shape-is : shapeAs (c .shape) ≡ x .shape

@@ -8,7 +8,7 @@
 use mathlib.Core.Path.{_≡_}
 use mathlib.Core.Bool.{Bool, true, not, _&&_, _||_}
 use mathlib.Core.List.{List, [], _∷_}
-use mathlib.Core.Option.{Option, none, some}
+use mathlib.Core.Option.{none, some}
 use Prim.Native.Nat.{ℕ, _+_, _-_, _^_, _≤_, _<_}
 use lib.IntN.{ℤ, pos, _+ℤ_}
 use lib.ListN.{length, drop}
@@ -20,7 +20,7 @@ use Rattle.formula.specs.declared.Class.{Class}
 use Rattle.formula.specs.declared.Kind.{Kind}
 use Rattle.formula.specs.declared.Opening.{Opening}
 use Rattle.formula.specs.declared.Opening.the-variants.{Choice}
-use Rattle.formula.specs.Tree.{Items, Item, Field}
+use Rattle.formula.specs.Tree.{Items, Field}
 use Rattle.formula.specs.Heads.{openingOf}
 use Rattle.formula.specs.Places.{Readable, treeOf, fieldEnd, fieldIn, itemSize, itemOf, GoodFieldAt}
 use Rattle.boxes.specs.declared.styles.Style.{Style}
@@ -31,12 +31,13 @@ use Rattle.boxes.specs.declared.Ruling.{Ruling}
 use Rattle.boxes.specs.declared.Signing.{Signing}
 use Rattle.boxes.specs.declared.Owned.{Owned}
 use Rattle.boxes.specs.declared.Arranged.{Arranged as CodeArranged}
-use Rattle.spacing.specs.declared.classes.Neighbour.the-variants.{End, Atom}
+use Rattle.spacing.specs.declared.classes.Neighbour.the-variants.{Atom}
 use Rattle.boxes.specs.Parameters.{Parameters}
 use Rattle.spacing.specs.Classes.{Neighbour, classOf, changedClass}
 use Rattle.spacing.specs.Spacing.{spaceBefore}
 use Rattle.boxes.specs.Boxes.{Size, zeroSize, Offset, OwnNode, Arranged}
-use Rattle.delimiters.specs.Delimiters.{Sign}
+use Rattle.delimiters.specs.Delimiters.{Signs}
+use Rattle.arrange.specs.declared.Manner.{Manner}
 use Rattle.arrange.specs.Arrange.{arrange}
 use Rattle.boxes.specs.Values.{parametersIn, sizeAs, shapeAs, arrangedAs}
 use Rattle.spacing.specs.Values.{neighbourAs}
@@ -49,7 +50,7 @@ use Rattle.nodes.specs.Drawn.{Drawn}
 use Rattle.nodes.specs.Kept.{Kept}
 use Rattle.nodes.specs.Hull.{Hull, none as unreached, joined, movedHull, hull, HullWithin}
 use Rattle.nodes.specs.Values.{hullOf, isLarge, RunIs, EmptyRun, JoinedRun}
-use Rattle.setting.specs.Setting.{Line, start, ownNode, ownNodes, styleAfter, styleBehind, nextClass, setField, setItem, setItems, setList}
+use Rattle.setting.specs.Setting.{Line, Sides, ownNode, ownNodes, styleAfter, styleBehind, nextClass, setField, setItem, setItems, setList}
 use Rattle.setting.specs.Missing.{later, missingField, missingItem, missingItems}
 use Rattle.setting.specs.Fitting.{fieldFits, itemFits, itemsFit}
 use Rattle.walk.specs.declared.parts.Part as parts
@@ -80,24 +81,24 @@ pub record PartWithin (at : ℕ) (c : parts.Part) : Type 0 where
   pub hull : HullWithin greatestLength (hullOf (c .run))
 
 -- the field f, which stands at a place of its item and ends at another: all but its nodes in the buffer
-pub record FieldWhole (F : Font) (s : Style) (enlarge : Bool) (f : Field) (at end : ℕ) (c : parts.Part) : Type 0 where
-  pub present : missingField F s enlarge at f ≡ none
+pub record FieldWhole (F : Font) (s : Style) (manner : Manner) (f : Field) (at end : ℕ) (c : parts.Part) : Type 0 where
+  pub present : missingField F s manner at f ≡ none
   pub end-is : c .end ≡ end
-  pub large-is : isLarge (c .run) ≡ not (fieldFits F s f)
+  pub large-is : isLarge (c .run) ≡ not (fieldFits F s manner f)
   pub small : PartWithin at c
-  pub is : fieldFits F s f ≡ true → PartIs (setField F s enlarge f) c
+  pub is : fieldFits F s manner f ≡ true → PartIs (setField F s manner f) c
 
-abbrev pub FieldDone : Font → Style → Bool → Field → ℕ → ℕ → List ℕ → FieldSet → List ℕ → Type 0
-FieldDone F s enlarge f at end b (field.Whole c) b′ =
-    FieldWhole F s enlarge f at end c × (fieldFits F s f ≡ true → Drawn (setField F s enlarge f .nodes) b b′)
+abbrev pub FieldDone : Font → Style → Manner → Field → ℕ → ℕ → List ℕ → FieldSet → List ℕ → Type 0
+FieldDone F s manner f at end b (field.Whole c) b′ =
+    FieldWhole F s manner f at end c × (fieldFits F s manner f ≡ true → Drawn (setField F s manner f .nodes) b b′)
     × Kept (end - at) b b′
-FieldDone F s enlarge f at end b (field.Missing place) b′ =
-    (missingField F s enlarge at f ≡ some place) × (place ≤ end) × Kept (end - at) b b′
+FieldDone F s manner f at end b (field.Missing place) b′ =
+    (missingField F s manner at f ≡ some place) × (place ≤ end) × Kept (end - at) b b′
 
 -- ---- a line
 
-pub record StartLine (s : Style) (c : lines.Line) : Type 0 where
-  pub left-is : c .left ≡ End
+pub record StartLine (left : Neighbour) (s : Style) (c : lines.Line) : Type 0 where
+  pub left-is : neighbourAs (c .left) ≡ left
   pub style-is : c .style ≡ s
   pub size-is : sizeAs (c .size) ≡ zeroSize
   pub run-is : EmptyRun (c .run)
@@ -111,6 +112,17 @@ pub record KernedLine (l : lines.Line) (n : ℤ) (c : lines.Line) : Type 0 where
   pub left-is : c .left ≡ l .left
   pub style-is : c .style ≡ l .style
   pub size-is : sizeAs (c .size) ≡ widened n (sizeAs (l .size))
+  pub run-is : c .run ≡ l .run
+
+-- the size of a whole list that sees a neighbour on its right, behind a last atom: the space before it is the list's
+abbrev pub closedSize : Parameters → Style → Neighbour → Neighbour → Size → Size
+closedSize P s none left z = z
+closedSize P s (some class) left z = widened (spaceBefore P s left class) z
+
+pub record ClosedLine (P : Parameters) (s : Style) (right : Neighbour) (l c : lines.Line) : Type 0 where
+  pub left-is : c .left ≡ l .left
+  pub style-is : c .style ≡ l .style
+  pub size-is : sizeAs (c .size) ≡ closedSize P s right (neighbourAs (l .left)) (sizeAs (l .size))
   pub run-is : c .run ≡ l .run
 
 -- a line with another style from there on
@@ -151,6 +163,12 @@ pub record ListPart (end : ℕ) (l : lines.Line) (c : parts.Part) : Type 0 where
   pub count : c .run .count ≤ l .run .count
   pub hull : HullWithin greatestLength (hullOf (c .run))
   pub is : lineFits l ≡ true → (c .shape ≡ Box (l .size)) × (c .run ≡ l .run)
+
+-- with the space at its end
+pub record ClosedPart (P : Parameters) (s : Style) (right : Neighbour) (end : ℕ) (l : lines.Line) (c : parts.Part) : Type 0 where
+  pub closed : lines.Line
+  pub closed-is : ClosedLine P s right l closed
+  pub part-is : ListPart end closed c
 
 -- ---- an item whose fields are set
 
@@ -266,12 +284,12 @@ pub record FinishGiven (l : lines.Line) (a b c : parts.Part) : Type 0 where
   pub second : PartWithin (a .end) b
   pub third : PartWithin (b .end) c
 
-pub record Finished (P : Parameters) (s : Style) (kind : Kind) (sign : Option Sign) (right : Neighbour) (l : lines.Line) (a b c : parts.Part) (r : lines.Line) (v v′ : List ℕ) : Type 0 where
+pub record Finished (P : Parameters) (s : Style) (kind : Kind) (signs : Signs) (right : Neighbour) (l : lines.Line) (a b c : parts.Part) (r : lines.Line) (v v′ : List ℕ) : Type 0 where
   pub class : Class
   pub arranged : Arranged
   pub x : ℤ
   pub class-is : class ≡ changedClass (neighbourAs (l .left)) (classOf kind) right
-  pub arranged-is : arranged ≡ arrange P s kind sign (shapeAs (a .shape)) (shapeAs (b .shape)) (shapeAs (c .shape))
+  pub arranged-is : arranged ≡ arrange P s kind signs (shapeAs (a .shape)) (shapeAs (b .shape)) (shapeAs (c .shape))
   pub x-is : x ≡ l .size .width .0 +ℤ spaceBefore P s (neighbourAs (l .left)) class
   pub left-is : r .left ≡ Atom class
   pub style-is : r .style ≡ l .style
@@ -385,22 +403,20 @@ abbrev pub ChoiceDone : Font → Neighbour → List ℕ → lines.Line → List 
 ChoiceDone F beyond bytes line b (stretch.UpTo n r) b′ = ItemDone F beyond bytes line b (step.Next n r) b′
 ChoiceDone F beyond bytes line b (stretch.Missing place) b′ = ItemDone F beyond bytes line b (step.Missing place) b′
 
--- a list at its own reference point
-pub record ListWhole (F : Font) (s : Style) (l : Items) (bytes : ℕ) (c : lines.Line) : Type 0 where
+-- a list at its own reference point, between two sides
+pub record ListWhole (F : Font) (sides : Sides) (s : Style) (l : Items) (bytes : ℕ) (c : lines.Line) : Type 0 where
   pub present : missingItems F s l ≡ none
   pub large-is : isLarge (c .run) ≡ not (itemsFit F s l)
   pub count : c .run .count ≤ bytes
-  pub style-is : c .style ≡ setItems F none (start s) l .style
-  pub left-is : itemsFit F s l ≡ true → neighbourAs (c .left) ≡ setItems F none (start s) l .left
-  pub size-is : itemsFit F s l ≡ true → sizeAs (c .size) ≡ setList F s l .size
-  pub run-is : itemsFit F s l ≡ true → RunIs (setList F s l .nodes) (c .run)
+  pub size-is : itemsFit F s l ≡ true → sizeAs (c .size) ≡ setList F sides s l .size
+  pub run-is : itemsFit F s l ≡ true → RunIs (setList F sides s l .nodes) (c .run)
 
-abbrev pub ListDone : Font → Style → Items → ℕ → List ℕ → ItemsSet → List ℕ → Type 0
-ListDone F s l bytes b (items.Whole c) b′ =
-    ListWhole F s l bytes c × (itemsFit F s l ≡ true → Drawn (setList F s l .nodes) b b′) × Kept bytes b b′
-ListDone F s l bytes b (items.Missing place) b′ =
+abbrev pub ListDone : Font → Sides → Style → Items → ℕ → List ℕ → ItemsSet → List ℕ → Type 0
+ListDone F sides s l bytes b (items.Whole c) b′ =
+    ListWhole F sides s l bytes c × (itemsFit F s l ≡ true → Drawn (setList F sides s l .nodes) b b′) × Kept bytes b b′
+ListDone F sides s l bytes b (items.Missing place) b′ =
     (missingItems F s l ≡ some place) × (place ≤ bytes) × Kept bytes b b′
 
 -- the field at a place of its item
-abbrev pub HeadDone : Font → Style → Bool → List ℕ → ℕ → List ℕ → FieldSet → List ℕ → Type 0
-HeadDone F s enlarge bytes at b r b′ = FieldDone F s enlarge (fieldIn bytes at) at (fieldEnd bytes at) b r b′
+abbrev pub HeadDone : Font → Style → Manner → List ℕ → ℕ → List ℕ → FieldSet → List ℕ → Type 0
+HeadDone F s manner bytes at b r b′ = FieldDone F s manner (fieldIn bytes at) at (fieldEnd bytes at) b r b′

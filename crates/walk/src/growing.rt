@@ -1,26 +1,31 @@
 // How a line grows, from nothing to a whole list.
 
 ghost use Rattle.scaled.specs.Signed.{Within};
-ghost use Rattle.formula.specs.Heads.{greatestKern};
+ghost use Rattle.boxes.specs.Values.{parametersIn};
+ghost use Rattle.boxes.specs.Bounds.{words};
+ghost use Rattle.spacing.specs.Values.{neighbourAs};
 ghost use Rattle.walk.specs.Bounds.{longest, LineWithin};
-ghost use Rattle.walk.specs.Walked.{StartLine, KernedLine, StyledLine, ItemGoes, ExtendedLine, ListPart, SizesGo, SizesBeside};
+ghost use Rattle.walk.specs.Walked.{StartLine, KernedLine, ClosedLine, StyledLine, ItemGoes, ExtendedLine, ListPart, ClosedPart, SizesGo, SizesBeside};
 use crate::lines::Line;
 use crate::lines::list_fits;
 use crate::parts::Part;
 use boxes::Shape;
 use boxes::Size;
+use boxes::parameters::Parameters;
 use boxes::styles::Style;
 use boxes::zero_size;
 use formula::Class;
 use nodes::run::Run;
 use scaled::Sp;
 use spacing::classes::Neighbour;
+use spacing::space_before;
 
-pub fn start(style: Style) -> Line
-    ensures { λ r. ⌜ StartLine style r ⌝ }
+// Behind a neighbour that is not in the list.
+pub fn start(left: Neighbour, style: Style) -> Line
+    ensures { λ r. ⌜ StartLine (neighbourAs left) style r ⌝ }
 {
     Line {
-        left: Neighbour::End,
+        left,
         style,
         size: zero_size(),
         run: Run::empty(),
@@ -29,7 +34,7 @@ pub fn start(style: Style) -> Line
 
 // The line with a kern behind it.
 pub fn kerned(line: Line, n: Sp) -> Line
-    requires { ⌜ LineWithin longest line × Within greatestKern (n .0) ⌝ }
+    requires { ⌜ LineWithin longest line × Within (words 1) (n .0) ⌝ }
     ensures { λ r. ⌜ KernedLine line (n .0) r ⌝ }
 {
     let left = line.left;
@@ -43,6 +48,20 @@ pub fn kerned(line: Line, n: Sp) -> Line
         style,
         size,
         run,
+    }
+}
+
+// The line of a whole list, with the space before an atom that the list sees on its right, in the style in which it starts.
+fn closed(p: &Parameters, style: Style, right: Neighbour, line: Line) -> Line
+    requires { ⌜ LineWithin longest line ⌝ }
+    ensures { λ r. ⌜ ClosedLine (parametersIn (now (p .entry))) style (neighbourAs right) line r ⌝ }
+{
+    match right {
+        Neighbour::End => line,
+        Neighbour::Atom(class) => {
+            let left = line.left;
+            kerned(line, space_before(p, style, left, class))
+        }
     }
 }
 
@@ -91,8 +110,16 @@ pub fn extended(line: Line, class: Class, x: Sp, size: Size, run: Run) -> Line
     }
 }
 
-// A whole list as a field that ends at a place of its item. One that does not fit has no shape that matters.
-pub fn list_part(end: usize, line: Line) -> Part
+// A whole list as a field that ends at a place of its item, with the space before an atom that it sees on its right.
+pub fn closed_part(p: &Parameters, style: Style, right: Neighbour, end: usize, line: Line) -> Part
+    requires { ⌜ LineWithin longest line ⌝ }
+    ensures { λ r. ⌜ ClosedPart (parametersIn (now (p .entry))) style (neighbourAs right) end line r ⌝ }
+{
+    list_part(end, closed(p, style, right, line))
+}
+
+// One that does not fit has no shape that matters.
+fn list_part(end: usize, line: Line) -> Part
     ensures { λ r. ⌜ ListPart end line r ⌝ }
 {
     if list_fits(line) {

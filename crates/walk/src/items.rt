@@ -3,7 +3,7 @@
 ghost use Rattle.arrange.specs.Arrange as definition;
 ghost use Rattle.boxes.specs.Values.{parametersIn, shapeAs, offsetAs, signingAs, rulingAs, ownedAs, arrangedAs};
 ghost use Rattle.spacing.specs.Values.{neighbourAs};
-ghost use Rattle.delimiters.specs.Values.{chosenAs};
+ghost use Rattle.delimiters.specs.Values.{signsAs};
 ghost use Rattle.boxes.specs.Bounds.{ModerateShape};
 ghost use Rattle.walk.specs.Bounds.{longest, LineWithin};
 ghost use Rattle.walk.specs.Walked.{PlacingIs, MoveGiven, FieldMoved, OwnGiven, SigningGiven, RulingGiven, OwnPut, PutGiven, ItemPut, FinishGiven, Finished};
@@ -18,7 +18,7 @@ use boxes::Ruling;
 use boxes::Shape;
 use boxes::Signing;
 use boxes::parameters::Parameters;
-use delimiters::Chosen;
+use delimiters::Signs;
 use formula::Class;
 use formula::Kind;
 use nodes::move_nodes;
@@ -43,7 +43,7 @@ pub struct Placing {
 fn placing_of(
     p: &Parameters,
     kind: Kind,
-    sign: Chosen,
+    signs: Signs,
     right: Neighbour,
     line: Line,
     x: Shape,
@@ -51,7 +51,7 @@ fn placing_of(
     z: Shape,
 ) -> Placing
     requires { ⌜ LineWithin longest line × ModerateShape x × ModerateShape y × ModerateShape z ⌝ }
-    ensures { λ r. ⌜ PlacingIs (parametersIn (now (p .entry))) (line .style) kind (neighbourAs right) (neighbourAs (line .left)) (line .size .width .0) (definition.arrange (parametersIn (now (p .entry))) (line .style) kind (chosenAs sign) (shapeAs x) (shapeAs y) (shapeAs z)) r ⌝ }
+    ensures { λ r. ⌜ PlacingIs (parametersIn (now (p .entry))) (line .style) kind (neighbourAs right) (neighbourAs (line .left)) (line .size .width .0) (definition.arrange (parametersIn (now (p .entry))) (line .style) kind (signsAs signs) (shapeAs x) (shapeAs y) (shapeAs z)) r ⌝ }
 {
     let left = line.left;
     let style = line.style;
@@ -59,7 +59,7 @@ fn placing_of(
     let width = size.width;
     let class = changed_class(left, class_of(kind), right);
     let across = width.plus(space_before(p, style, left, class));
-    let arranged = arrange(p, style, kind, sign, x, y, z);
+    let arranged = arrange(p, style, kind, signs, x, y, z);
     Placing {
         class,
         x: across,
@@ -145,7 +145,7 @@ fn put_item(x: Sp, arranged: Arranged, a: Run, b: Run, c: Run, buf: &mut [u8]) -
 pub fn finished(
     p: &Parameters,
     kind: Kind,
-    sign: Chosen,
+    signs: Signs,
     right: Neighbour,
     line: Line,
     a: Part,
@@ -154,12 +154,12 @@ pub fn finished(
     buf: &mut [u8],
 ) -> Line
     requires { ⌜ FinishGiven line a b c ⌝ }
-    ensures { λ r. ⌜ Finished (parametersIn (now (p .entry))) (line .style) kind (chosenAs sign) (neighbourAs right) line a b c r (now (buf .entry)) (now (buf .exit)) ⌝ }
+    ensures { λ r. ⌜ Finished (parametersIn (now (p .entry))) (line .style) kind (signsAs signs) (neighbourAs right) line a b c r (now (buf .entry)) (now (buf .exit)) ⌝ }
 {
     let first = a.shape;
     let second = b.shape;
     let third = c.shape;
-    let placing = placing_of(p, kind, sign, right, line, first, second, third);
+    let placing = placing_of(p, kind, signs, right, line, first, second, third);
     let class = placing.class;
     let x = placing.x;
     let arranged = placing.arranged;

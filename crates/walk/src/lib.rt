@@ -10,5 +10,6 @@ pub mod lines;
 pub mod lists;
 mod parts;
 mod places;
+mod sides;
 mod signs;
 mod symbols;

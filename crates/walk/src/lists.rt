@@ -10,11 +10,12 @@ ghost use Rattle.font.specs.Font.{fontOf};
 ghost use Rattle.formula.specs.declared.Opening.the-variants.{Fields, Choice};
 ghost use Rattle.formula.specs.Places as tree;
 ghost use Rattle.spacing.specs.Values.{neighbourAs};
+ghost use Rattle.setting.specs.Setting.{noSides};
 ghost use Rattle.walk.specs.Walked.{ListGiven, ItemsGiven, OpenedGiven, FieldGiven, ListDone, ItemsDone, StretchDone, Onward, ChoiceDone, ItemDone, HeadDone};
 use crate::current::restyled;
 use crate::current::taken_span;
+use crate::growing::closed_part;
 use crate::growing::kerned;
-use crate::growing::list_part;
 use crate::growing::start;
 use crate::growing::styled;
 use crate::items::finished;
@@ -24,9 +25,11 @@ use crate::parts::empty_part;
 use crate::parts::symbol_part;
 use crate::places::beyond_choice;
 use crate::places::right_of;
-use crate::signs::is_signed;
-use crate::signs::sign_in;
-use arrange::enlarges;
+use crate::sides::sides_of;
+use crate::signs::has_signs;
+use crate::signs::signs_in;
+use arrange::Manner;
+use arrange::first_manner;
 use arrange::first_style;
 use arrange::own_counts;
 use arrange::second_style;
@@ -71,9 +74,16 @@ enum StretchSet {
 // Sets a list at its own reference point, into the front of buf.
 pub fn set_list(table: &[u8], p: &Parameters, style: Style, s: &[u8], buf: &mut [u8]) -> ItemsSet
     requires { ⌜ ListGiven (now table) (now p) (now s) ⌝ }
-    ensures { λ r. ⌜ ListDone (fontOf (now (table .entry))) style (tree.treeOf (now (s .entry))) (length (now (s .entry))) (now (buf .entry)) r (now (buf .exit)) ⌝ }
+    ensures { λ r. ⌜ ListDone (fontOf (now (table .entry))) noSides style (tree.treeOf (now (s .entry))) (length (now (s .entry))) (now (buf .entry)) r (now (buf .exit)) ⌝ }
 {
-    set_items(table, p, Neighbour::End, s, start(style), buf)
+    set_items(
+        table,
+        p,
+        Neighbour::End,
+        s,
+        start(Neighbour::End, style),
+        buf,
+    )
 }
 
 // Sets items behind what stands so far of a line; buf starts behind the nodes of that, and `beyond` is the class that follows.
@@ -238,13 +248,13 @@ fn set_noad(
     ensures { λ r. ⌜ ItemDone (fontOf (now (table .entry))) (neighbourAs beyond) (now (s .entry)) line (now (buf .entry)) r (now (buf .exit)) ⌝ }
 {
     let style = line.style;
-    let signed = is_signed(table, style, kind);
+    let signed = has_signs(table, style, kind);
     let own = own_counts(p, style, kind, signed);
     let i = room(own.before, buf.len());
     let first = first_style(kind, style);
-    let large = enlarges(kind, style);
+    let manner = first_manner(kind, style);
     let at = opening_bytes(kind);
-    let x = set_field(table, p, first, large, s, at, &mut buf[i..]);
+    let x = set_field(table, p, first, manner, s, at, &mut buf[i..]);
     let a = match x {
         FieldSet::Whole(a) => a,
         FieldSet::Missing(place) => {
@@ -254,7 +264,7 @@ fn set_noad(
     let n = own.before + a.run.count + own.behind;
     let j = room(n, buf.len());
     let second = second_style(kind, style);
-    let y = set_field(table, p, second, false, s, a.end, &mut buf[j..]);
+    let y = set_field(table, p, second, Manner::Plain, s, a.end, &mut buf[j..]);
     let b = match y {
         FieldSet::Whole(b) => b,
         FieldSet::Missing(place) => {
@@ -263,7 +273,15 @@ fn set_noad(
     };
     let k = room(n + b.run.count, buf.len());
     let z = if has_third(kind) {
-        set_field(table, p, third_style(style), false, s, b.end, &mut buf[k..])
+        set_field(
+            table,
+            p,
+            third_style(style),
+            Manner::Plain,
+            s,
+            b.end,
+            &mut buf[k..],
+        )
     } else {
         FieldSet::Whole(empty_part(b.end))
     };
@@ -275,9 +293,9 @@ fn set_noad(
     };
     let end = c.end;
     let right = right_of(kind, style, beyond, &s[end..]);
-    let nucleus = a.shape;
-    let sign = sign_in(table, p, style, kind, nucleus);
-    ItemSet::Next(end, finished(p, kind, sign, right, line, a, b, c, buf))
+    let inside = a.shape;
+    let signs = signs_in(table, p, style, kind, inside);
+    ItemSet::Next(end, finished(p, kind, signs, right, line, a, b, c, buf))
 }
 
 // Sets the field whose kind byte stands at `at` of its item alone, at its own reference point, into the front of buf. Most are
@@ -286,18 +304,18 @@ fn set_field(
     table: &[u8],
     p: &Parameters,
     style: Style,
-    enlarge: bool,
+    manner: Manner,
     s: &[u8],
     at: usize,
     buf: &mut [u8],
 ) -> FieldSet
     requires { ⌜ FieldGiven (now table) (now p) (now s) at ⌝ }
-    ensures { λ r. ⌜ HeadDone (fontOf (now (table .entry))) style enlarge (now (s .entry)) at (now (buf .entry)) r (now (buf .exit)) ⌝ }
+    ensures { λ r. ⌜ HeadDone (fontOf (now (table .entry))) style manner (now (s .entry)) at (now (buf .entry)) r (now (buf .exit)) ⌝ }
 {
     if is_empty(&s[at..]) {
         return FieldSet::Whole(empty_part(at + 1));
     }
-    set_given(table, p, style, enlarge, s, at, buf)
+    set_given(table, p, style, manner, s, at, buf)
 }
 
 // Sets a field whatever it is.
@@ -305,13 +323,13 @@ fn set_given(
     table: &[u8],
     p: &Parameters,
     style: Style,
-    enlarge: bool,
+    manner: Manner,
     s: &[u8],
     at: usize,
     buf: &mut [u8],
 ) -> FieldSet
     requires { ⌜ FieldGiven (now table) (now p) (now s) at ⌝ }
-    ensures { λ r. ⌜ HeadDone (fontOf (now (table .entry))) style enlarge (now (s .entry)) at (now (buf .entry)) r (now (buf .exit)) ⌝ }
+    ensures { λ r. ⌜ HeadDone (fontOf (now (table .entry))) style manner (now (s .entry)) at (now (buf .entry)) r (now (buf .exit)) ⌝ }
 {
     let head = field_head(&s[at..]);
     let end = at + field_bytes(head);
@@ -319,13 +337,18 @@ fn set_given(
         FieldHead::NoField => FieldSet::Whole(empty_part(end)),
         FieldHead::Empty => FieldSet::Whole(empty_part(end)),
         FieldHead::Symbol(family, code) => {
-            symbol_part(table, style, enlarge, family, code, at, end, buf)
+            symbol_part(table, style, manner, family, code, at, end, buf)
         }
         FieldHead::Sublist(opening, _) => {
             let first = at + opening;
-            let l = set_items(table, p, Neighbour::End, &s[first..end], start(style), buf);
+            let sides = sides_of(manner);
+            let left = sides.left;
+            let right = sides.right;
+            let l = set_items(table, p, right, &s[first..end], start(left, style), buf);
             match l {
-                ItemsSet::Whole(line) => FieldSet::Whole(list_part(end, line)),
+                ItemsSet::Whole(line) => {
+                    FieldSet::Whole(closed_part(p, style, right, end, line))
+                }
                 ItemsSet::Missing(place) => FieldSet::Missing(first + place),
             }
         }

@@ -7,8 +7,10 @@ ghost use Rattle.font.specs.Table.{goodTable};
 ghost use Rattle.font.specs.Font.{fontOf};
 ghost use Rattle.formula.specs.Tree.{symbol};
 ghost use Rattle.walk.specs.Walked.{EmptyPart, FieldDone};
+use crate::sides::is_enlarged;
 use crate::symbols::Sought;
 use crate::symbols::symbol_in;
+use arrange::Manner;
 use boxes::Shape;
 use boxes::styles::Style;
 use boxes::styles::font_size;
@@ -44,7 +46,7 @@ pub fn empty_part(end: usize) -> Part
 pub fn symbol_part(
     table: &[u8],
     style: Style,
-    enlarge: bool,
+    manner: Manner,
     family: u8,
     code: u8,
     at: usize,
@@ -52,10 +54,10 @@ pub fn symbol_part(
     buf: &mut [u8],
 ) -> FieldSet
     requires { ⌜ (goodTable (now table) ≡ true) × (at < end) ⌝ }
-    ensures { λ r. ⌜ FieldDone (fontOf (now (table .entry))) style enlarge (symbol family code) at end (now (buf .entry)) r (now (buf .exit)) ⌝ }
+    ensures { λ r. ⌜ FieldDone (fontOf (now (table .entry))) style manner (symbol family code) at end (now (buf .entry)) r (now (buf .exit)) ⌝ }
 {
     let size = font_size(style) as u8;
-    let sought = symbol_in(table, size, enlarge, family, code);
+    let sought = symbol_in(table, size, is_enlarged(manner), family, code);
     match sought {
         Sought::Present(symbol) => {
             let metrics = symbol.metrics;

@@ -1,12 +1,17 @@
-// The sign of a root: whether there is one, and which.
+// The sign of a root and the delimiters of a fence: whether there are any, and which.
 
 ghost use mathlib.Core.Path.{_≡_};
 ghost use mathlib.Core.Bool.{true};
 ghost use Rattle.font.specs.Table.{goodTable};
 ghost use Rattle.font.specs.Font.{fontOf};
+ghost use Rattle.boxes.specs.Boxes.{sizeOf};
+ghost use Rattle.boxes.specs.Styles.{fontSize};
 ghost use Rattle.boxes.specs.Values.{parametersIn, shapeAs};
 ghost use Rattle.boxes.specs.Bounds.{ModerateShape};
-ghost use Rattle.delimiters.specs.Values.{chosenAs};
+ghost use Rattle.delimiters.specs.Values.{chosenAs, signsAs};
+ghost use Rattle.delimiters.specs.Delimiters.{signFor};
+ghost use Rattle.roots.specs.Roots.{signExtent};
+ghost use Rattle.fences.specs.Fences.{fenceExtent};
 ghost use Rattle.setting.specs.Setting as definition;
 use boxes::Shape;
 use boxes::parameters::Parameters;
@@ -14,37 +19,97 @@ use boxes::size_of;
 use boxes::styles::Style;
 use boxes::styles::font_size;
 use delimiters::Chosen;
+use delimiters::HasSigns;
+use delimiters::Signs;
 use delimiters::has_sign;
 use delimiters::sign_for;
+use fences::fence_extent;
 use formula::Base;
+use formula::Delimiter;
 use formula::Kind;
 use roots::sign_extent;
 
-// Whether an item has a sign, whatever its fields hold.
-pub fn is_signed(table: &[u8], style: Style, kind: Kind) -> bool
+const UNSIGNED: HasSigns = HasSigns {
+    before: false,
+    behind: false,
+};
+
+const NO_SIGNS: Signs = Signs {
+    before: Chosen::Blank,
+    behind: Chosen::Blank,
+};
+
+// On which side an item has a sign, whatever its fields hold.
+pub fn has_signs(table: &[u8], style: Style, kind: Kind) -> HasSigns
     requires { ⌜ goodTable (now table) ≡ true ⌝ }
-    ensures { λ r. ⌜ r ≡ definition.isSigned (fontOf (now (table .entry))) style kind ⌝ }
+    ensures { λ r. ⌜ r ≡ definition.hasSigns (fontOf (now (table .entry))) style kind ⌝ }
 {
     let Kind::Scripted(base) = kind else {
-        return false;
+        return UNSIGNED;
     };
-    let Base::Root(d) = base else {
-        return false;
-    };
-    has_sign(table, font_size(style) as u8, d)
+    match base {
+        Base::Atom(_, _) => UNSIGNED,
+        Base::Over => UNSIGNED,
+        Base::Under => UNSIGNED,
+        Base::Root(d) => HasSigns {
+            before: has_sign(table, font_size(style) as u8, d),
+            behind: false,
+        },
+        Base::Fence(left, right) => {
+            let size = font_size(style) as u8;
+            HasSigns {
+                before: has_sign(table, size, left),
+                behind: has_sign(table, size, right),
+            }
+        }
+    }
 }
 
-// Its sign, by the shape of its nucleus.
-pub fn sign_in(table: &[u8], p: &Parameters, style: Style, kind: Kind, nucleus: Shape) -> Chosen
-    requires { ⌜ (goodTable (now table) ≡ true) × (parametersIn (now p) ≡ fontOf (now table) .parameter) × ModerateShape nucleus ⌝ }
-    ensures { λ r. ⌜ chosenAs r ≡ definition.signIn (fontOf (now (table .entry))) style kind (shapeAs nucleus) ⌝ }
+// Its signs, by the shape of its first field.
+pub fn signs_in(table: &[u8], p: &Parameters, style: Style, kind: Kind, inside: Shape) -> Signs
+    requires { ⌜ (goodTable (now table) ≡ true) × (parametersIn (now p) ≡ fontOf (now table) .parameter) × ModerateShape inside ⌝ }
+    ensures { λ r. ⌜ signsAs r ≡ definition.signsIn (fontOf (now (table .entry))) style kind (shapeAs inside) ⌝ }
 {
     let Kind::Scripted(base) = kind else {
-        return Chosen::Blank;
+        return NO_SIGNS;
     };
-    let Base::Root(d) = base else {
-        return Chosen::Blank;
-    };
+    match base {
+        Base::Atom(_, _) => NO_SIGNS,
+        Base::Over => NO_SIGNS,
+        Base::Under => NO_SIGNS,
+        Base::Root(d) => Signs {
+            before: root_sign(table, p, style, d, inside),
+            behind: Chosen::Blank,
+        },
+        Base::Fence(left, right) => fence_signs(table, p, style, left, right, inside),
+    }
+}
+
+// Rule 11: the sign reaches over the nucleus.
+fn root_sign(table: &[u8], p: &Parameters, style: Style, d: Delimiter, nucleus: Shape) -> Chosen
+    requires { ⌜ (goodTable (now table) ≡ true) × (parametersIn (now p) ≡ fontOf (now table) .parameter) × ModerateShape nucleus ⌝ }
+    ensures { λ r. ⌜ chosenAs r ≡ signFor (fontOf (now (table .entry))) (fontSize style) d (signExtent (fontOf (now (table .entry)) .parameter) style (sizeOf (shapeAs nucleus))) ⌝ }
+{
     let needed = sign_extent(p, style, size_of(nucleus));
     sign_for(table, font_size(style) as u8, d, needed)
+}
+
+// Rule 19: both delimiters grow with the list.
+fn fence_signs(
+    table: &[u8],
+    p: &Parameters,
+    style: Style,
+    left: Delimiter,
+    right: Delimiter,
+    list: Shape,
+) -> Signs
+    requires { ⌜ (goodTable (now table) ≡ true) × (parametersIn (now p) ≡ fontOf (now table) .parameter) × ModerateShape list ⌝ }
+    ensures { λ r. ⌜ signsAs r ≡ definition.signsFor (fontOf (now (table .entry))) style left right (fenceExtent (fontOf (now (table .entry)) .parameter) style (sizeOf (shapeAs list))) ⌝ }
+{
+    let needed = fence_extent(p, style, size_of(list));
+    let size = font_size(style) as u8;
+    Signs {
+        before: sign_for(table, size, left, needed),
+        behind: sign_for(table, size, right, needed),
+    }
 }

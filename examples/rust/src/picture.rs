@@ -89,11 +89,41 @@ enum Letter {
     Operator(char),
     /// The sign of a root: two strokes in its box, the second up to the rule.
     Radical,
+    /// A grown bracket: three strokes in its box.
+    Square(Side),
+    /// A grown parenthesis: an arc in its box.
+    Round(Side),
+}
+
+/// Of a fence.
+enum Side {
+    Left,
+    Right,
+}
+
+impl Side {
+    /// In Computer Modern each right one stands behind its left one.
+    fn of(code: u8) -> Side {
+        if code.is_multiple_of(2) {
+            Side::Left
+        } else {
+            Side::Right
+        }
+    }
+
+    /// Where the strokes turn, and where they end towards what is fenced in.
+    fn reach(&self, x: f64, width: f64) -> [f64; 2] {
+        match self {
+            Side::Left => [x + 0.3 * width, x + 0.8 * width],
+            Side::Right => [x + 0.7 * width, x + 0.2 * width],
+        }
+    }
 }
 
 impl Letter {
     fn draw(&self, x: f64, y: f64, em: f64, metrics: &Metrics) -> String {
         let reach = points(metrics.height + metrics.depth);
+        let (top, width) = (y - points(metrics.height), points(metrics.width));
         let (letter, slope, em, y) = match *self {
             Letter::Upright(letter) => (letter, "normal", em, y),
             Letter::Italic(letter) => (letter, "italic", em, y),
@@ -101,11 +131,11 @@ impl Letter {
                 let bottom = y + points(metrics.depth);
                 (letter, "normal", reach, bottom - OPERATOR_DEPTH * reach)
             }
-            Letter::Radical => {
-                return radical(x, y - points(metrics.height), points(metrics.width), reach);
-            }
+            Letter::Radical => return radical(x, top, width, reach),
+            Letter::Square(ref side) => return square(side.reach(x, width), top, reach),
+            Letter::Round(ref side) => return round(side.reach(x, width), top, reach),
         };
-        let middle = x + points(metrics.width) / 2.0;
+        let middle = x + width / 2.0;
         format!(
             "<text x=\"{middle:.3}\" y=\"{y:.3}\" font-size=\"{em:.3}\" \
              font-style=\"{slope}\">{letter}</text>\n"
@@ -115,14 +145,35 @@ impl Letter {
 
 /// The strokes of a root's sign, in the box whose upper left corner is given.
 fn radical(x: f64, top: f64, width: f64, reach: f64) -> String {
-    format!(
-        "<path d=\"M{:.3} {:.3}L{:.3} {:.3}L{:.3} {top:.3}\" fill=\"none\" stroke=\"black\" stroke-width=\"0.4\"/>\n",
+    strokes(&format!(
+        "M{:.3} {:.3}L{:.3} {:.3}L{:.3} {top:.3}",
         x + 0.2 * width,
         top + 0.6 * reach,
         x + 0.5 * width,
         top + reach,
         x + width,
-    )
+    ))
+}
+
+fn square([turn, end]: [f64; 2], top: f64, reach: f64) -> String {
+    strokes(&format!(
+        "M{end:.3} {top:.3}H{turn:.3}V{:.3}H{end:.3}",
+        top + reach
+    ))
+}
+
+/// The arc goes half the way to the point that draws it.
+fn round([turn, end]: [f64; 2], top: f64, reach: f64) -> String {
+    strokes(&format!(
+        "M{end:.3} {top:.3}Q{:.3} {:.3} {end:.3} {:.3}",
+        2.0 * turn - end,
+        top + reach / 2.0,
+        top + reach
+    ))
+}
+
+fn strokes(path: &str) -> String {
+    format!("<path d=\"{path}\" fill=\"none\" stroke=\"black\" stroke-width=\"0.4\"/>\n")
 }
 
 /// The letters of Computer Modern's layout that can be shown with usual fonts.
@@ -138,6 +189,9 @@ fn letter(family: u8, code: u8) -> Option<Letter> {
             let letter = GREEK.chars().nth((code - FIRST_GREEK).into());
             letter.map(Letter::Italic)
         }
+        (2, 0) => Some(Letter::Upright('−')),
+        (3, 0 | 1 | 16..=19 | 32 | 33) => Some(Letter::Round(Side::of(code))),
+        (3, 2 | 3 | 20 | 21 | 34 | 35 | 104 | 105) => Some(Letter::Square(Side::of(code))),
         (3, 80 | 88) => Some(Letter::Operator('∑')),
         (2, 112) | (3, 112..=115) => Some(Letter::Radical),
         _ => None,

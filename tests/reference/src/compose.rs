@@ -82,6 +82,13 @@ pub fn root(sign: [(u8, u8); 2], fields: [&[u8]; 3]) -> Vec<u8> {
     [b"RD", &delimiter(sign)[..], &fields.concat()].concat()
 }
 
+/// Each side is given as a root's sign; the fields are the list, which should
+/// be one, and the scripts.
+pub fn fence(sides: [[(u8, u8); 2]; 2], fields: [&[u8]; 3]) -> Vec<u8> {
+    let sides = sides.map(delimiter).concat();
+    [b"FE", &sides[..], &fields.concat()].concat()
+}
+
 fn delimiter([small, large]: [(u8, u8); 2]) -> [u8; 4] {
     [small.0, small.1, large.0, large.1]
 }

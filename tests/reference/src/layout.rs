@@ -3,7 +3,7 @@
 use crate::answer::Refusal;
 use crate::boxes::{Extent, MathBox};
 use crate::nodes::{Ink, Node, Pen, Run};
-use crate::reading::{Field, Formula, Item, List, Symbol};
+use crate::reading::{Class, Field, Formula, Item, List, Symbol};
 use crate::spacing;
 use crate::style::Style;
 use crate::table::{Character, Table};
@@ -18,6 +18,20 @@ pub struct Layout<'a, P> {
     pub oversize: bool,
 }
 
+/// The atoms that a list's own have beside them, unseen.
+#[derive(Clone, Copy, Default)]
+struct Neighbours {
+    left: Option<Class>,
+    right: Option<Class>,
+}
+
+impl Neighbours {
+    const DELIMITERS: Neighbours = Neighbours {
+        left: Some(Class::Open),
+        right: Some(Class::Close),
+    };
+}
+
 impl<'a, P: Pen> Layout<'a, P> {
     pub fn new(table: &'a Table<'a>, formula: &'a Formula, pen: P) -> Self {
         Layout {
@@ -29,18 +43,30 @@ impl<'a, P: Pen> Layout<'a, P> {
     }
 
     pub fn list(&mut self, list: List, style: Style) -> Result<MathBox, Refusal> {
+        self.row(list, style, Neighbours::default())
+    }
+
+    /// A list that stands between delimiters. Its width has the space before
+    /// the right one.
+    pub fn fenced_list(&mut self, list: List, style: Style) -> Result<MathBox, Refusal> {
+        self.row(list, style, Neighbours::DELIMITERS)
+    }
+
+    fn row(
+        &mut self,
+        list: List,
+        start_style: Style,
+        neighbours: Neighbours,
+    ) -> Result<MathBox, Refusal> {
         let start = self.pen.count();
         let mut row = MathBox::default();
-        let mut left = None;
-        let mut items = self.formula.items(list, style);
+        let mut left = neighbours.left;
+        let mut items = self.formula.items(list, start_style);
         while let Some((item, style)) = items.next() {
             if let Some(class) = item.class() {
                 let next_class = || items.clone().find_map(|(item, _)| item.class());
-                let class = spacing::settled(class, left, next_class);
-                if let Some(left) = left {
-                    let font = self.table.parameters(style.size());
-                    row.width += spacing::space(left, class, style, font);
-                }
+                let class = spacing::settled(class, left, || next_class().or(neighbours.right));
+                row.width += self.space(left, class, style);
                 left = Some(class);
             }
             let item_box = self.item(item, style)?;
@@ -49,45 +75,56 @@ impl<'a, P: Pen> Layout<'a, P> {
             row.height = row.height.max(item_box.height);
             row.depth = row.depth.max(item_box.depth);
         }
+        if let Some(right) = neighbours.right {
+            row.width += self.space(left, right, start_style);
+        }
         row.nodes = self.run_from(start);
         self.oversize |= is_oversize(&row);
         Ok(row)
     }
 
+    /// The space before an atom.
+    fn space(&self, left: Option<Class>, class: Class, style: Style) -> i64 {
+        let font = self.table.parameters(style.size());
+        left.map_or(0, |left| spacing::space(left, class, style, font))
+    }
+
     fn item(&mut self, item: &Item, style: Style) -> Result<MathBox, Refusal> {
-        match item {
+        let (nucleus, scripts) = match item {
             Item::Atom {
                 class,
                 limits,
                 nucleus,
                 scripts,
-            } => self.atom(*class, *limits, nucleus, scripts, style),
-            Item::Lined {
-                line,
-                nucleus,
-                scripts,
-            } => {
-                let nucleus = self.lined(*line, nucleus, style)?;
-                self.attach_scripts(nucleus, scripts, style)
-            }
+            } => return self.atom(*class, *limits, nucleus, scripts, style),
             Item::Fraction {
                 barred,
                 numerator,
                 denominator,
-            } => self.fraction(*barred, numerator, denominator, style),
+            } => return self.fraction(*barred, numerator, denominator, style),
+            Item::Kern(kern) => {
+                return Ok(MathBox {
+                    width: i64::from(*kern),
+                    ..MathBox::default()
+                })
+            }
+            Item::Lined {
+                line,
+                nucleus,
+                scripts,
+            } => (self.lined(*line, nucleus, style)?, scripts),
             Item::Root {
                 sign,
                 nucleus,
                 scripts,
-            } => {
-                let nucleus = self.root(sign, nucleus, style)?;
-                self.attach_scripts(nucleus, scripts, style)
-            }
-            Item::Kern(kern) => Ok(MathBox {
-                width: i64::from(*kern),
-                ..MathBox::default()
-            }),
-        }
+            } => (self.root(sign, nucleus, style)?, scripts),
+            Item::Fence {
+                sides,
+                list,
+                scripts,
+            } => (self.fence(sides, *list, style)?, scripts),
+        };
+        self.attach_scripts(nucleus, scripts, style)
     }
 
     /// A field as a box of its own: a symbol's italic correction is in its width.

@@ -77,6 +77,11 @@ pub enum Item {
         nucleus: Field,
         scripts: Scripts,
     },
+    Fence {
+        sides: Sides,
+        list: List,
+        scripts: Scripts,
+    },
     Kern(i32),
 }
 
@@ -86,7 +91,7 @@ impl Item {
         match *self {
             Item::Atom { class, .. } => Some(class),
             Item::Lined { .. } | Item::Root { .. } => Some(Class::Ord),
-            Item::Fraction { .. } => Some(Class::Inner),
+            Item::Fraction { .. } | Item::Fence { .. } => Some(Class::Inner),
             Item::Kern(_) => None,
         }
     }
@@ -96,6 +101,13 @@ impl Item {
 /// family and code. Two zeros are no symbol.
 #[derive(Clone, Copy, Debug)]
 pub struct Delimiter(pub [(u8, u8); 2]);
+
+/// The delimiters around a list.
+#[derive(Clone, Copy, Debug)]
+pub struct Sides {
+    pub left: Delimiter,
+    pub right: Delimiter,
+}
 
 #[derive(Clone, Copy, Debug)]
 pub struct Scripts {
@@ -269,6 +281,7 @@ impl Reader<'_> {
             b"UN" => Content::Item(self.lined(Line::Under, cursor)?),
             b"FR" => Content::Item(self.fraction(cursor)?),
             b"RD" => Content::Item(self.root(cursor)?),
+            b"FE" => Content::Item(self.fence(cursor)?),
             b"KN" => Content::Item(self.kern(cursor)?),
             b"ST" => Content::Style(self.style(cursor)?),
             b"C4" => Content::Choice(self.choice(cursor)?),
@@ -331,6 +344,18 @@ impl Reader<'_> {
         })
     }
 
+    fn fence(&mut self, cursor: &mut Cursor) -> Result<Item, Refusal> {
+        let sides = Sides {
+            left: self.delimiter(cursor)?,
+            right: self.delimiter(cursor)?,
+        };
+        Ok(Item::Fence {
+            sides,
+            list: self.sure_list(cursor)?,
+            scripts: self.scripts(cursor)?,
+        })
+    }
+
     fn delimiter(&mut self, cursor: &mut Cursor) -> Result<Delimiter, Refusal> {
         let [small_family, small, large_family, large] = self.take(cursor)?;
         if small_family.max(large_family) > FAMILY_LIMIT {
@@ -356,7 +381,7 @@ impl Reader<'_> {
     fn choice(&mut self, cursor: &mut Cursor) -> Result<[u32; 4], Refusal> {
         let mut lists = [List { first: 0, end: 0 }; 4];
         for list in &mut lists {
-            *list = self.choice_list(cursor)?;
+            *list = self.sure_list(cursor)?;
             self.entries.push(UNREAD);
         }
         let next = self.entries.len() as u32;
@@ -368,7 +393,7 @@ impl Reader<'_> {
     }
 
     /// A field that has to be a list.
-    fn choice_list(&mut self, cursor: &mut Cursor) -> Result<List, Refusal> {
+    fn sure_list(&mut self, cursor: &mut Cursor) -> Result<List, Refusal> {
         let place = cursor.at;
         match self.take(cursor)? {
             [2] => self.list_field(place, cursor),

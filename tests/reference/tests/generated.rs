@@ -61,30 +61,76 @@ fn every_answer_comes_often() {
 }
 
 #[test]
-fn faults_of_styles_and_choices_come() {
-    let (mut styles, mut choices, mut deep_choices, mut kinds) = (0, 0, 0, 0);
+fn every_item_is_refused_often() {
+    const MARKS: [&[u8]; 9] = [
+        b"AT", b"OV", b"UN", b"FR", b"KN", b"ST", b"C4", b"RD", b"FE",
+    ];
+    let mut counts = [0; MARKS.len()];
     let mut random = Random::new(9);
     for _ in 0..CASES {
         let case = case(&mut random);
         let answer = measure(case.style, &case.table, &case.formula);
-        let (before, behind) = case.formula.split_at(answer.place as usize);
-        match answer.number {
-            3 if behind.len() > FORMULA_LIMIT => {}
-            3 if behind.starts_with(b"ST") => styles += 1,
-            3 if behind.starts_with(b"C4") => {
-                choices += 1;
-                kinds += usize::from(would_be_too_deep(&case, answer.place as usize + 2));
-            }
-            4 if before.ends_with(b"C4") => deep_choices += 1,
-            _ => {}
+        if answer.number == 3 && case.formula.len() <= FORMULA_LIMIT {
+            let item = &case.formula[answer.place as usize..];
+            let mark = MARKS.iter().position(|mark| item.starts_with(mark));
+            mark.into_iter().for_each(|mark| counts[mark] += 1);
         }
     }
-    let counts = [styles, choices, deep_choices];
     assert!(
         counts.iter().all(|count| *count > CASES / 500),
         "{counts:?}"
     );
-    assert!(kinds > CASES / 2000, "{kinds}");
+}
+
+#[test]
+fn fences_are_refused_for_each_fault() {
+    const FAMILIES: [usize; 4] = [2, 4, 6, 8];
+    const KIND: usize = 10;
+    let mut families = [0; FAMILIES.len()];
+    let mut kinds = [0; 3];
+    let mut random = Random::new(14);
+    for _ in 0..CASES {
+        let case = case(&mut random);
+        let answer = measure(case.style, &case.table, &case.formula);
+        let item = &case.formula[answer.place as usize..];
+        if answer.number != 3 || !item.starts_with(b"FE") || item.len() <= KIND {
+            continue;
+        }
+        let wrong = FAMILIES.map(|at| item[at] > 15);
+        match wrong.iter().filter(|is_wrong| **is_wrong).count() {
+            0 if item[KIND] != 2 => kinds[usize::from(item[KIND].min(2))] += 1,
+            1 => families[wrong.iter().position(|is_wrong| *is_wrong).unwrap()] += 1,
+            _ => {}
+        }
+    }
+    let least = families.iter().chain(&kinds).min();
+    assert!(least > Some(&(CASES / 2000)), "{families:?} {kinds:?}");
+}
+
+/// The marks of items that must have a list, and where its kind byte stands.
+const LIST_HOLDERS: [(&[u8], usize); 2] = [(b"C4", 2), (b"FE", 10)];
+
+#[test]
+fn lists_are_refused_for_kind_before_depth() {
+    let mut counts = [[0; 2]; LIST_HOLDERS.len()];
+    let mut random = Random::new(12);
+    for _ in 0..CASES {
+        let case = case(&mut random);
+        let answer = measure(case.style, &case.table, &case.formula);
+        for ((mark, kind), [deep, wrong]) in LIST_HOLDERS.into_iter().zip(&mut counts) {
+            let place = answer.place as usize;
+            let is_held = |item: usize| case.formula[item..].starts_with(mark);
+            match answer.number {
+                4 => *deep += usize::from(place >= kind && is_held(place - kind)),
+                3 if is_held(place) => {
+                    *wrong += usize::from(would_be_too_deep(&case, place + kind));
+                }
+                _ => {}
+            }
+        }
+    }
+    let least = counts.as_flattened().iter().min();
+    assert!(least > Some(&(CASES / 2000)), "{counts:?}");
 }
 
 /// Whether the field would be refused for its depth if it were a list.

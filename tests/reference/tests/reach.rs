@@ -8,25 +8,48 @@ const CASES: usize = 20_000;
 const TABLE_HEAD: usize = 426;
 const RECORD_BYTES: usize = 23;
 const DEEPEST: usize = 16;
+const BIN: u8 = 2;
+const PUNCT: u8 = 6;
 
-#[test]
-fn choices_of_all_forms_are_set() {
+fn seen_in_cases(seed: u64) -> Seen {
     let mut seen = Seen::default();
-    let mut random = Random::new(11);
+    let mut random = Random::new(seed);
     for _ in 0..CASES {
         let case = case(&mut random);
         if measure(case.style, &case.table, &case.formula).number == 0 {
             seen.look_at(&case);
         }
     }
+    seen
+}
+
+#[test]
+fn all_forms_are_set() {
+    let seen = seen_in_cases(11);
     let often = seen.taken.iter().chain(&seen.nested).chain([
         &seen.first_binary,
         &seen.last_binary,
         &seen.style_within,
         &seen.absent_aside,
     ]);
-    let is_often = often.min() > Some(&(CASES / 100));
-    assert!(is_often && seen.deepest > CASES / 400, "{seen:?}");
+    assert!(often.min() > Some(&(CASES / 100)), "{seen:?}");
+    let deepest = seen.deepest.min(seen.deepest_grown);
+    assert!(deepest > CASES / 1000, "{seen:?}");
+}
+
+#[test]
+fn fences_of_all_forms_are_set() {
+    let seen = seen_in_cases(13).fences;
+    let often = seen.styles.iter().chain(seen.blanks.as_flattened()).chain([
+        &seen.absent_sides,
+        &seen.first_binary,
+        &seen.last_binary,
+        &seen.without_atoms,
+    ]);
+    let often = often
+        .chain(seen.scripts.as_flattened())
+        .chain(seen.last_punct.as_flattened());
+    assert!(often.min() > Some(&(CASES / 100)), "{seen:?}");
 }
 
 /// How often each came.
@@ -38,6 +61,9 @@ struct Seen {
     nested: [usize; 4],
     /// A taken list at the greatest depth.
     deepest: usize,
+    /// A list at the greatest depth with nothing but fences and roots around,
+    /// each the first field of the next.
+    deepest_grown: usize,
     /// A Bin with which a taken list begins.
     first_binary: usize,
     /// A Bin with which a taken list ends, something behind it.
@@ -46,6 +72,28 @@ struct Seen {
     style_within: usize,
     /// A symbol at no size of the table, in a list that is not taken.
     absent_aside: usize,
+    fences: SeenFences,
+}
+
+/// The same of fences.
+#[derive(Debug, Default)]
+struct SeenFences {
+    /// By the style in which the list starts.
+    styles: [usize; 8],
+    /// By whether the left side is blank, and whether the right one is.
+    blanks: [[usize; 2]; 2],
+    /// A blank side with a symbol that the table lacks.
+    absent_sides: usize,
+    /// By whether there is a superscript, and whether there is a subscript.
+    scripts: [[usize; 2]; 2],
+    /// A list whose first atom is a Bin.
+    first_binary: usize,
+    /// A list whose last atom is one.
+    last_binary: usize,
+    /// A list that ends with a Punct, by whether it starts in a script style,
+    /// and whether the Punct is in one.
+    last_punct: [[usize; 2]; 2],
+    without_atoms: usize,
 }
 
 impl Seen {
@@ -54,12 +102,13 @@ impl Seen {
         let mut look = Look {
             seen: self,
             bytes: &case.formula,
-            symbols: records.map(|record| (record[3], record[4])).collect(),
+            symbols: records.map(|r| (r[2], r[3], r[4])).collect(),
         };
         let whole = Part {
             at: 0,
             end: case.formula.len(),
             depth: 1,
+            grown: 0,
             choices: 0,
             behind: false,
             is_set: true,
@@ -71,7 +120,8 @@ impl Seen {
 struct Look<'a> {
     seen: &'a mut Seen,
     bytes: &'a [u8],
-    symbols: BTreeSet<(u8, u8)>,
+    /// Size, family and code of each.
+    symbols: BTreeSet<(u8, u8, u8)>,
 }
 
 /// Some items of a list, which may stand in a choice.
@@ -80,6 +130,8 @@ struct Part {
     at: usize,
     end: usize,
     depth: usize,
+    /// How many fences and roots are around, each the first field of the next.
+    grown: usize,
     /// How many choices are around, up to the next field.
     choices: usize,
     /// Whether something stands behind the choice in its list.
@@ -87,18 +139,48 @@ struct Part {
     is_set: bool,
 }
 
+/// What some items come to.
+struct Passed {
+    /// The style behind them.
+    style: u8,
+    /// The class of the first atom, not changed.
+    first: Option<u8>,
+    /// That of the last one, and its style.
+    last: Option<(u8, u8)>,
+}
+
+impl Passed {
+    fn atom(&mut self, class: u8) {
+        self.first = self.first.or(Some(class));
+        self.last = Some((class, self.style));
+    }
+
+    fn join(&mut self, next: Passed) {
+        self.style = next.style;
+        self.first = self.first.or(next.first);
+        self.last = next.last.or(self.last);
+    }
+}
+
 impl Look<'_> {
-    /// Goes through all items and gives the style at the end.
-    fn items(&mut self, mut part: Part, mut style: u8) -> u8 {
+    fn items(&mut self, mut part: Part, style: u8) -> Passed {
         let start = part.at;
+        let mut passed = Passed {
+            style,
+            first: None,
+            last: None,
+        };
         while part.at < part.end {
             let item = part.at;
             part.at += 2;
             match &self.bytes[item..item + 2] {
-                b"ST" => style = self.style(&mut part),
-                b"C4" => style = self.choice(&mut part, style),
+                b"ST" => passed.style = self.style(&mut part),
+                b"C4" => passed.join(self.choice(&mut part, passed.style)),
                 b"KN" => part.at += 4,
-                _ => self.noad(item, &mut part, style),
+                _ => {
+                    passed.atom(self.class(item));
+                    self.noad(item, &mut part, passed.style);
+                }
             }
             let is_binary = self.bytes[item..].starts_with(b"AT\x02");
             if part.is_set && part.choices > 0 && is_binary {
@@ -106,7 +188,16 @@ impl Look<'_> {
                 self.seen.last_binary += usize::from(part.at == part.end && part.behind);
             }
         }
-        style
+        passed
+    }
+
+    /// The class of an item with fields.
+    fn class(&self, item: usize) -> u8 {
+        match &self.bytes[item..item + 2] {
+            b"AT" => self.bytes[item + 2],
+            b"FR" | b"FE" => 7,
+            _ => 0,
+        }
     }
 
     fn style(&mut self, part: &mut Part) -> u8 {
@@ -118,11 +209,12 @@ impl Look<'_> {
         self.bytes[part.at - 1]
     }
 
-    fn choice(&mut self, part: &mut Part, style: u8) -> u8 {
+    /// What the list that is taken comes to.
+    fn choice(&mut self, part: &mut Part, style: u8) -> Passed {
         let taken = usize::from(style / 2);
         let lists = [0; 4].map(|_| self.list(part));
-        let mut last = style;
-        for (place, mut list) in lists.into_iter().enumerate() {
+        let mut passed = [0, 1, 2, 3].map(|place: usize| {
+            let mut list = lists[place];
             list.choices = part.choices + 1;
             list.behind = part.at < part.end || part.behind;
             list.is_set = part.is_set && place == taken;
@@ -131,12 +223,9 @@ impl Look<'_> {
                 self.seen.nested[taken] += usize::from(part.choices > 0);
                 self.seen.deepest += usize::from(list.depth == DEEPEST);
             }
-            let style_behind = self.items(list, style);
-            if place == taken {
-                last = style_behind;
-            }
-        }
-        last
+            Some(self.items(list, style))
+        });
+        passed[taken].take().unwrap()
     }
 
     /// An item with fields.
@@ -148,27 +237,74 @@ impl Look<'_> {
             b"AT" => (2, vec![style, scripts[0], scripts[1]]),
             b"OV" => (0, vec![style | 1, scripts[0], scripts[1]]),
             b"RD" => (4, vec![style | 1, scripts[0], scripts[1]]),
+            b"FE" => (8, vec![style, scripts[0], scripts[1]]),
             b"UN" => (0, vec![style, scripts[0], scripts[1]]),
             _ => (1, vec![text, text | 1]),
         };
         part.at += head;
-        for style in styles {
-            self.field(part, style);
+        let grown = part.grown;
+        part.grown += usize::from(head >= 4);
+        let first = self.field(part, styles[0]);
+        part.grown = 0;
+        let others = styles[1..].iter().map(|style| self.field(part, *style));
+        let fields: Vec<Field> = std::iter::once(first).chain(others).collect();
+        part.grown = grown;
+        if part.is_set && self.bytes[item..].starts_with(b"FE") {
+            self.fence(item, style, &fields);
         }
     }
 
-    fn field(&mut self, part: &mut Part, style: u8) {
+    fn fence(&mut self, item: usize, style: u8, fields: &[Field]) {
+        let [Field::List(inside), scripts @ ..] = fields else {
+            unreachable!("a fence has a list");
+        };
+        let [left, right] = [2, 6].map(|at| self.is_blank(item + at, style));
+        let [is_given, is_given_too] = [2, 6].map(|at| self.bytes[item + at..][..4] != [0; 4]);
+        let [superscript, subscript] = [0, 1].map(|at| !matches!(scripts[at], Field::Empty));
+        let seen = &mut self.seen.fences;
+        seen.styles[usize::from(style)] += 1;
+        seen.blanks[usize::from(left)][usize::from(right)] += 1;
+        seen.absent_sides += usize::from(left && is_given) + usize::from(right && is_given_too);
+        seen.scripts[usize::from(superscript)][usize::from(subscript)] += 1;
+        seen.first_binary += usize::from(inside.first == Some(BIN));
+        match inside.last {
+            None => seen.without_atoms += 1,
+            Some((BIN, _)) => seen.last_binary += 1,
+            Some((PUNCT, last_style)) => {
+                seen.last_punct[usize::from(style >= 4)][usize::from(last_style >= 4)] += 1;
+            }
+            _ => {}
+        }
+    }
+
+    /// Whether the side whose four bytes start there is blank.
+    fn is_blank(&self, at: usize, style: u8) -> bool {
+        let size = style.saturating_sub(2) / 2;
+        let has = |pair: &[u8]| {
+            let mut sizes = 0..=size;
+            pair != [0; 2] && sizes.any(|size| self.symbols.contains(&(size, pair[0], pair[1])))
+        };
+        !self.bytes[at..at + 4].chunks(2).any(has)
+    }
+
+    fn field(&mut self, part: &mut Part, style: u8) -> Field {
         match self.bytes[part.at] {
-            0 => part.at += 1,
+            0 => {
+                part.at += 1;
+                Field::Empty
+            }
             1 => {
-                let symbol = (self.bytes[part.at + 1], self.bytes[part.at + 2]);
-                let is_absent = !self.symbols.contains(&symbol);
-                self.seen.absent_aside += usize::from(!part.is_set && is_absent);
+                let (family, code) = (self.bytes[part.at + 1], self.bytes[part.at + 2]);
+                let is_there = (0..3).any(|size| self.symbols.contains(&(size, family, code)));
+                self.seen.absent_aside += usize::from(!part.is_set && !is_there);
                 part.at += 3;
+                Field::Symbol
             }
             _ => {
                 let list = self.list(part);
-                self.items(list, style);
+                let is_deepest = list.is_set && list.grown + 1 == DEEPEST;
+                self.seen.deepest_grown += usize::from(is_deepest);
+                Field::List(self.items(list, style))
             }
         }
     }
@@ -182,9 +318,16 @@ impl Look<'_> {
             at,
             end: part.at,
             depth: part.depth + 1,
+            grown: part.grown,
             choices: 0,
             behind: false,
             is_set: part.is_set,
         }
     }
+}
+
+enum Field {
+    Empty,
+    Symbol,
+    List(Passed),
 }

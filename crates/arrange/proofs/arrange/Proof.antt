@@ -6,7 +6,7 @@ use borrow.Author.Needs.{needs}
 use Rattle.arrange.specs.Arrange.{setScripts, arrange}
 use Rattle.boxes.specs.Values.{parametersIn, shapeAs, scriptAs}
 use Rattle.boxes.specs.Bounds.{ModerateScript}
-use Rattle.delimiters.specs.Values.{chosenAs}
+use Rattle.delimiters.specs.Values.{signsAs}
 use Rattle.nucleus.specs.Values.{nucleusAs}
 use Rattle.nucleus.specs.Bounds.{ModerateNucleus}
 use Rattle.arrange.proofs.arrange.Statement.{statement}
@@ -17,7 +17,7 @@ at-limits : (c : tie.After-sets-limits) →
     let lower = n .before .before in
     let upper = lower .before in
     let args = upper .before .before .before .before .args in
-    arrange (parametersIn (args .p .now)) (args .style) (args .kind) (chosenAs (args .sign)) (shapeAs (args .x)) (shapeAs (args .y)) (shapeAs (args .z))
+    arrange (parametersIn (args .p .now)) (args .style) (args .kind) (signsAs (args .signs)) (shapeAs (args .x)) (shapeAs (args .y)) (shapeAs (args .z))
     ≡ setScripts (parametersIn (args .p .now)) (args .style) (c .sets-limits .result) (nucleusAs (n .nucleus-of .result)) (scriptAs (upper .given .result)) (scriptAs (lower .given2 .result))
 unfolding arrange
 at-limits c =

@@ -22,6 +22,9 @@ enum-told-4 c = search needs
 cramped-style-requires-2 : tie.Need-cramped-style-requires-2
 cramped-style-requires-2 c κs = search needs
 
+enum-told-5 : tie.Need-enum-told-5
+enum-told-5 c = search needs
+
 returns : tie.Need-returns
 returns c = search needs
 
@@ -34,6 +37,9 @@ returns-3 c = search needs
 returns-4 : tie.Need-returns-4
 returns-4 c = rw (c .before .enum-told4 .given .1) (c .cramped-style2 .ensures)
 
+returns-5 : tie.Need-returns-5
+returns-5 c = search needs
+
 pub base-style-spec : {M : Type 1} → statement M
 base-style-spec =
     tie.close
@@ -44,7 +50,9 @@ base-style-spec =
     enum-told-3
     enum-told-4
     cramped-style-requires-2
+    enum-told-5
     returns
     returns-2
     returns-3
-    returns-4)
+    returns-4
+    returns-5)

@@ -3,9 +3,10 @@
 use mathlib.Core.Path.{ap, ap₂, _∙_}
 use borrow.Author.Needs.{needs}
 use Rattle.nucleus.specs.Nucleus.{overline, underline}
-use Rattle.delimiters.specs.Values.{chosenAs}
+use Rattle.delimiters.specs.Values.{signsAs}
 use Rattle.roots.specs.Roots.{Radical, root}
-use Rattle.arrange.specs.Arrange.{rootNucleus, nucleusOf}
+use Rattle.fences.specs.Fences.{Fence}
+use Rattle.arrange.specs.Arrange.{rootNucleus, fenceNucleus, nucleusOf}
 use Rattle.arrange.proofs.nucleus_of.Statement.{statement}
 use Rattle.arrange.proofs.nucleus_of.Tie as tie
 
@@ -72,6 +73,27 @@ root-requires c κs =
 root-nucleus-requires : tie.Need-root-nucleus-requires
 root-nucleus-requires c κs = search needs
 
+enum-told-4 : tie.Need-enum-told-4
+enum-told-4 c = search needs
+
+sign-size-requires-2 : tie.Need-sign-size-requires-2
+sign-size-requires-2 c κs = search needs
+
+size-of-requires-4 : tie.Need-size-of-requires-4
+size-of-requires-4 c κs = search needs
+
+sign-size-requires-3 : tie.Need-sign-size-requires-3
+sign-size-requires-3 c κs = search needs
+
+fence-of-requires : tie.Need-fence-of-requires
+fence-of-requires c κs =
+    let list = c .before in
+    let left = list .before in
+    (left .sign-size2 .ensures .1, list .size-of4 .ensures .1 (left .before .before .before .pre), c .sign-size3 .ensures .1)
+
+fence-nucleus-requires : tie.Need-fence-nucleus-requires
+fence-nucleus-requires c κs = search needs
+
 returns : tie.Need-returns
 unfolding nucleusOf
 returns c =
@@ -103,10 +125,24 @@ returns-4 c =
     let radical = c .before in
     let sign = radical .before in
     let arm = sign .before .before in
-    let found = chosenAs (arm .before .before .args .sign) in
+    let found = signsAs (arm .before .before .args .signs) in
     let placed = radical .root .ensures .0 ∙ ap₂ (root _ _) (sign .before .size-of3 .ensures .0) (sign .sign-size .ensures .0) in (
       rw (arm .enum-told3 .given .1) (c .root-nucleus .ensures .0 ∙ ap (λ (r : Radical). rootNucleus r found) placed),
       c .root-nucleus .ensures .1,
+    )
+
+returns-5 : tie.Need-returns-5
+unfolding nucleusOf
+returns-5 c =
+    let fence = c .before in
+    let right = fence .before in
+    let list = right .before in
+    let left = list .before in
+    let arm = left .before in
+    let found = signsAs (arm .before .before .args .signs) in
+    let placed = rw (right .sign-size3 .ensures .0, list .size-of4 .ensures .0, left .sign-size2 .ensures .0) at (fence .fence-of .ensures .0) in (
+      rw (arm .enum-told4 .given .1) (c .fence-nucleus .ensures .0 ∙ ap (λ (f : Fence). fenceNucleus f found) placed),
+      c .fence-nucleus .ensures .1,
     )
 
 pub nucleus-of-spec : {M : Type 1} → statement M
@@ -132,7 +168,14 @@ nucleus-of-spec =
     sign-size-requires
     root-requires
     root-nucleus-requires
+    enum-told-4
+    sign-size-requires-2
+    size-of-requires-4
+    sign-size-requires-3
+    fence-of-requires
+    fence-nucleus-requires
     returns
     returns-2
     returns-3
-    returns-4)
+    returns-4
+    returns-5)

@@ -16,7 +16,7 @@ returns c =
     let at = c .before in
     let pre = at .before .before .before .pre in (
       rw (c .signed-before .ensures .0, at .sign-at .ensures .0),
-      record { size = pre .size; first = pre .nucleus; delta = omega arith; own = c .signed-before .ensures .1 },
+      record { size = omega (arith, pre .size); first = pre .nucleus; delta = omega arith; own = c .signed-before .ensures .1 },
     )
 
 pub root-nucleus-spec : {M : Type 1} → statement M

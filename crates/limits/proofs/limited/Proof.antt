@@ -16,7 +16,7 @@ same-stack : (n : Nucleus) {w w′ : ℤ} {s s′ t t′ : Side} → w ≡ w′ 
 same-stack n {w} {w′} {s} {s′} {t} {t′} p q r =
     ap (λ (w : ℤ). stacked n w s t) p ∙ ap (λ (s : Side). stacked n w′ s t) q ∙ ap (λ (t : Side). stacked n w′ s′ t) r
 
-width-within : (w : tie.After-widest) → Within (words 4) (w .widest .result .0)
+width-within : (w : tie.After-widest) → Within (words 6) (w .widest .result .0)
 width-within w =
     let pre = w .before .pre in
     w .widest .ensures .1 (pre .1 .size .width, pre .2, pre .3)

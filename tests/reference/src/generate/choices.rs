@@ -2,7 +2,7 @@
 
 use super::formulas::holding;
 use super::Grower;
-use crate::compose::{atom, choice, list, style, EMPTY};
+use crate::compose::{choice, list, style, EMPTY};
 
 /// A formula of short items, many of them styles and choices; at times with
 /// one that can't be read.
@@ -10,7 +10,7 @@ pub fn choice_formula(grower: &mut Grower) -> Vec<u8> {
     let levels = grower.random.below(4) + 1;
     let mut items = close_items(grower, levels, 8);
     if grower.random.percent(15) {
-        items.extend(fault(grower));
+        items.extend(choice_fault(grower));
         if grower.random.percent(50) {
             items.extend(close_items(grower, 1, 3));
         }
@@ -38,26 +38,21 @@ fn close_item(grower: &mut Grower, levels: usize) -> Vec<u8> {
         10 => grower.item(1, 0),
         _ => {
             let class = grower.plain_class();
-            bare_atom(grower, class)
+            grower.bare_atom(class)
         }
     }
 }
 
-fn bare_atom(grower: &mut Grower, class: u8) -> Vec<u8> {
-    let nucleus = grower.symbol();
-    atom(class, 0, [&nucleus, EMPTY, EMPTY])
-}
-
 /// A Bin that may stay one; what the choice behind it takes decides that.
 fn binary_before_choice(grower: &mut Grower) -> Vec<u8> {
-    let mut items = bare_atom(grower, 0);
-    items.extend(bare_atom(grower, 2));
+    let mut items = grower.bare_atom(0);
+    items.extend(grower.bare_atom(2));
     if grower.random.percent(60) {
         items.extend(style(grower.random.below(8) as u8));
     }
     items.extend(choice_of(&std::array::from_fn(|_| {
         let class = grower.plain_class();
-        list(&bare_atom(grower, class))
+        list(&grower.bare_atom(class))
     })));
     items
 }
@@ -82,7 +77,7 @@ pub fn choice_holding(grower: &mut Grower, given: Vec<u8>) -> Vec<u8> {
 }
 
 /// A style or a choice that can't be read where it stands.
-pub fn fault(grower: &mut Grower) -> Vec<u8> {
+pub fn choice_fault(grower: &mut Grower) -> Vec<u8> {
     if grower.random.percent(25) {
         let number = *grower.random.pick(&[8, 8, 9, 16, 128, 255]);
         return style(number);

@@ -41,16 +41,19 @@ fn telling_byte(random: &mut Random) -> u8 {
     if random.percent(40) {
         random.byte()
     } else {
-        *random.pick(b"\x00\x01\x02\x03\x07\x08\x0f\x10\x7f\x80\xffACDFKORSU4")
+        *random.pick(b"\x00\x01\x02\x03\x07\x08\x0f\x10\x7f\x80\xffACDEFKORSU4")
     }
 }
+
+const MARKS: [[u8; 2]; 9] = [
+    *b"AT", *b"OV", *b"UN", *b"FR", *b"KN", *b"ST", *b"C4", *b"RD", *b"FE",
+];
 
 /// Short byte strings; most open like an item.
 pub fn noise(random: &mut Random) -> Vec<u8> {
     let mut bytes = Vec::new();
     if random.percent(70) {
-        let marks = [b"AT", b"OV", b"UN", b"FR", b"KN", b"ST", b"C4", b"RD"];
-        bytes.extend(*random.pick(&marks));
+        bytes.extend(random.pick(&MARKS));
     }
     for _ in 0..random.below(30) {
         bytes.push(telling_byte(random));

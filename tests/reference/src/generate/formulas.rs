@@ -1,7 +1,8 @@
 //! Random formulas that can be read, and ones built to come near a limit.
 
-use super::choices::{choice_holding, choice_of, fault};
-use super::roots::root_fault;
+use super::choices::{choice_fault, choice_holding, choice_of};
+use super::fences::{fence_fault, fence_holding};
+use super::roots::{root_fault, root_holding};
 use super::{Random, Symbols};
 use crate::compose::{
     atom, choice, fraction, kern, list, overline, root, style, symbol, underline, CharacterParts,
@@ -62,6 +63,7 @@ impl<'a> Grower<'a> {
             }
             20 | 21 => style(self.random.below(8) as u8),
             22 | 23 if depth > 1 => choice_of(&std::array::from_fn(|_| self.list(depth, share))),
+            24 | 25 if depth > 1 => self.fence(depth, share),
             form => {
                 let fields = self.fields(depth, share);
                 self.with_fields(form, &fields)
@@ -74,6 +76,16 @@ impl<'a> Grower<'a> {
         std::array::from_fn(|_| self.field(depth, most))
     }
 
+    /// Which of three fields; so seldom another than the first that down to
+    /// the greatest depth it can be the first each time.
+    pub(super) fn mostly_first(&mut self) -> usize {
+        if self.random.percent(95) {
+            0
+        } else {
+            self.random.below(2) + 1
+        }
+    }
+
     /// An overline, an underline, a root or an atom of any class.
     fn with_fields(&mut self, form: usize, fields: &[Vec<u8>; 3]) -> Vec<u8> {
         let fields = fields.each_ref().map(Vec::as_slice);
@@ -84,6 +96,12 @@ impl<'a> Grower<'a> {
             9 | 10 => root(self.sign(), fields),
             _ => atom(self.plain_class(), 0, fields),
         }
+    }
+
+    /// An atom of a symbol alone.
+    pub(super) fn bare_atom(&mut self, class: u8) -> Vec<u8> {
+        let nucleus = self.symbol();
+        atom(class, 0, [&nucleus, EMPTY, EMPTY])
     }
 
     pub(super) fn plain_class(&mut self) -> u8 {
@@ -150,37 +168,49 @@ pub fn deep_formula(grower: &mut Grower) -> Vec<u8> {
         DEPTH_LIMIT + 1,
         DEPTH_LIMIT + 2,
     ]);
-    let holder = *grower
-        .random
-        .pick(&[holding as Holder, holding, holding, choice_holding]);
-    nested(grower, holder, 1, levels)
+    let holders: [Holder; 2] = match grower.random.below(10) {
+        0..4 => [holding, holding],
+        4 | 5 => [choice_holding, choice_holding],
+        6 => [fence_holding, choice_holding],
+        _ => [fence_holding, root_holding],
+    };
+    nested(grower, holders, 1, levels)
 }
 
-fn nested(grower: &mut Grower, holder: Holder, depth: usize, levels: usize) -> Vec<u8> {
+/// The two holders take turns.
+fn nested(grower: &mut Grower, holders: [Holder; 2], depth: usize, levels: usize) -> Vec<u8> {
     let shallow = DEPTH_LIMIT.saturating_sub(depth).clamp(1, 3);
     let mut items = grower.items(shallow, 30);
     if depth < levels {
-        let inner = list(&nested(grower, holder, depth + 1, levels));
-        items.extend(holder(grower, inner));
+        let inner = list(&nested(grower, holders, depth + 1, levels));
+        items.extend(holders[depth % 2](grower, inner));
         items.extend(grower.items(shallow, 20));
-    } else if grower.random.percent(25) {
+    } else if grower.random.percent(35) {
         items.extend(fault(grower));
-    } else if grower.random.percent(5) {
-        items.extend(root_fault(grower));
     }
     items
 }
 
+/// An item that can't be read where it stands.
+fn fault(grower: &mut Grower) -> Vec<u8> {
+    match grower.random.below(10) {
+        0 => root_fault(grower),
+        1..5 => fence_fault(grower),
+        _ => choice_fault(grower),
+    }
+}
+
 /// An item with the given list in any of its places.
 pub fn holding(grower: &mut Grower, given: Vec<u8>) -> Vec<u8> {
-    match grower.random.below(17) {
+    match grower.random.below(19) {
         0 => fraction(0, &given, &grower.symbol()),
         1 => fraction(1, &grower.symbol(), &given),
         2..5 => choice_holding(grower, given),
+        5 | 6 => fence_holding(grower, given),
         form => {
             let mut fields = grower.fields(1, 0);
             fields[grower.random.below(3)] = given;
-            grower.with_fields(form - 1, &fields)
+            grower.with_fields(form - 3, &fields)
         }
     }
 }
@@ -260,12 +290,13 @@ fn wide_list(grower: &mut Grower, width: i64) -> Vec<u8> {
     list(&items)
 }
 
-/// An item without lists; some nodes of a root may pass the limit alone.
+/// An item of few symbols; some nodes of a root or a fence may pass the limit
+/// alone.
 fn edge_item(grower: &mut Grower) -> Vec<u8> {
-    if grower.random.percent(25) {
-        grower.root(1, 0)
-    } else {
-        grower.item(1, 0)
+    match grower.random.below(10) {
+        0 | 1 => grower.root(1, 0),
+        2 | 3 => grower.fence(2, 0),
+        _ => grower.item(1, 0),
     }
 }
 
@@ -281,7 +312,7 @@ fn edge(random: &mut Random) -> i64 {
 }
 
 /// Kerns of the given sum.
-fn kerns(sum: i64) -> Vec<u8> {
+pub fn kerns(sum: i64) -> Vec<u8> {
     let longest = i64::from(KERN_LIMIT);
     let long_kern = kern(KERN_LIMIT * sum.signum() as i32);
     let mut items = long_kern.repeat((sum.abs() / longest) as usize);

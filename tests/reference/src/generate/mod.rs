@@ -6,7 +6,9 @@
 mod chains;
 mod choices;
 mod damage;
+mod fences;
 mod formulas;
+mod graded;
 mod random;
 mod roots;
 mod tables;
@@ -14,7 +16,9 @@ mod tables;
 pub use chains::{chain_table, full_chains};
 pub use choices::choice_formula;
 pub use damage::{damaged_bytes, damaged_table, noise};
+pub use fences::{fence_formula, wide_fence};
 pub use formulas::{deep_formula, long_formula, tall_case, tall_roots, wide_formula, Grower};
+pub use graded::graded_case;
 pub use random::Random;
 pub use roots::root_formula;
 pub use tables::{good_table, Symbols};
@@ -33,6 +37,8 @@ pub enum Kind {
     /// Roots over a table with chains about as long as they may be; symbols
     /// may be absent.
     Root,
+    /// Fences over all kinds of tables; symbols may be absent.
+    Fence,
     /// A formula with a few bytes changed.
     Damaged,
     /// Bytes at random in place of a formula.
@@ -52,18 +58,19 @@ pub enum Kind {
 }
 
 /// All kinds, each with how many of a hundred cases it gets.
-pub const KINDS: [(Kind, u64); 12] = [
-    (Kind::Plain, 18),
-    (Kind::Absent, 8),
-    (Kind::Choice, 11),
-    (Kind::Root, 12),
-    (Kind::Damaged, 9),
+pub const KINDS: [(Kind, u64); 13] = [
+    (Kind::Plain, 14),
+    (Kind::Absent, 7),
+    (Kind::Choice, 10),
+    (Kind::Root, 10),
+    (Kind::Fence, 10),
+    (Kind::Damaged, 8),
     (Kind::Noise, 4),
     (Kind::BadTable, 6),
     (Kind::BadStyle, 3),
     (Kind::Deep, 8),
     (Kind::Long, 5),
-    (Kind::Wide, 10),
+    (Kind::Wide, 9),
     (Kind::Tall, 6),
 ];
 
@@ -100,30 +107,18 @@ pub fn case_of(kind: Kind, random: &mut Random) -> Case {
 }
 
 fn table_and_formula(kind: Kind, random: &mut Random) -> (Vec<u8>, Vec<u8>) {
-    if kind == Kind::Tall {
-        let draw = if random.percent(70) {
-            tall_case
-        } else {
-            tall_roots
-        };
-        return draw(random);
+    match kind {
+        Kind::Tall if random.percent(30) => return tall_roots(random),
+        Kind::Tall => return tall_case(random),
+        Kind::Fence if random.percent(15) => return graded_case(random),
+        _ => {}
     }
     let parts = match kind {
         Kind::Root => chain_table(random),
+        Kind::Fence if random.percent(40) => chain_table(random),
         _ => good_table(random),
     };
-    let symbols = Symbols::of(&parts);
-    let absent = absent_share(kind, random);
-    let mut grower = Grower::new(random, &symbols, absent);
-    let formula = match kind {
-        Kind::Choice => choice_formula(&mut grower),
-        Kind::Root => root_formula(&mut grower),
-        Kind::Noise => noise(random),
-        Kind::Deep => deep_formula(&mut grower),
-        Kind::Long => long_formula(&mut grower),
-        Kind::Wide => wide_formula(&mut grower),
-        _ => grower.formula(),
-    };
+    let formula = formula(kind, &Symbols::of(&parts), random);
     let formula = if random.percent(damaged_share(kind)) {
         damaged_bytes(formula, random)
     } else {
@@ -137,11 +132,27 @@ fn table_and_formula(kind: Kind, random: &mut Random) -> (Vec<u8>, Vec<u8>) {
     (table, formula)
 }
 
+fn formula(kind: Kind, symbols: &Symbols, random: &mut Random) -> Vec<u8> {
+    let absent = absent_share(kind, random);
+    let mut grower = Grower::new(random, symbols, absent);
+    match kind {
+        Kind::Choice => choice_formula(&mut grower),
+        Kind::Root => root_formula(&mut grower),
+        Kind::Fence if grower.random.percent(10) => wide_fence(&mut grower),
+        Kind::Fence => fence_formula(&mut grower),
+        Kind::Noise => noise(random),
+        Kind::Deep => deep_formula(&mut grower),
+        Kind::Long => long_formula(&mut grower),
+        Kind::Wide => wide_formula(&mut grower),
+        _ => grower.formula(),
+    }
+}
+
 /// How many symbols of a hundred may be absent.
 fn absent_share(kind: Kind, random: &mut Random) -> u64 {
     match kind {
         Kind::Absent => *random.pick(&[5, 15, 60]),
-        Kind::Choice | Kind::Root => *random.pick(&[0, 0, 0, 8, 30]),
+        Kind::Choice | Kind::Root | Kind::Fence => *random.pick(&[0, 0, 0, 8, 30]),
         Kind::Deep | Kind::Long | Kind::Wide => *random.pick(&[0, 0, 0, 0, 0, 2]),
         _ => 0,
     }

@@ -36,6 +36,13 @@ pub fn root_fault(grower: &mut Grower) -> Vec<u8> {
     item
 }
 
+/// A root with the given list, mostly as its nucleus.
+pub fn root_holding(grower: &mut Grower, given: Vec<u8>) -> Vec<u8> {
+    let mut fields = grower.fields(1, 0);
+    fields[grower.mostly_first()] = given;
+    root(grower.sign(), fields.each_ref().map(Vec::as_slice))
+}
+
 impl Grower<'_> {
     pub(super) fn root(&mut self, depth: usize, most: usize) -> Vec<u8> {
         let fields = self.fields(depth, most);

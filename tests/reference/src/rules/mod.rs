@@ -1,6 +1,7 @@
 //! The placing rules of Appendix G, one file for each kind of construction.
 
 mod delimiters;
+mod fences;
 mod fractions;
 mod limits;
 mod lines;

@@ -55,6 +55,12 @@ root-opening-requires c κs = search needs
 enum-told-9 : tie.Need-enum-told-9
 enum-told-9 c = search needs
 
+fence-opening-requires : tie.Need-fence-opening-requires
+fence-opening-requires c κs = search needs
+
+enum-told-10 : tie.Need-enum-told-10
+enum-told-10 c = search needs
+
 returns : tie.Need-returns
 unfolding opens
 returns c =
@@ -106,8 +112,14 @@ returns-8 c =
 returns-9 : tie.Need-returns-9
 unfolding opens
 returns-9 c =
+    let s = c .before .before .before .before .args .s .now in
+    arm s (c .before .enum-told9 .given .1) (c .fence-opening .ensures)
+
+returns-10 : tie.Need-returns-10
+unfolding opens
+returns-10 c =
     let s = c .before .before .before .args .s .now in
-    arm s (c .enum-told9 .given .1) refl
+    arm s (c .enum-told10 .given .1) refl
 
 pub opened-spec : {M : Type 1} → statement M
 opened-spec =
@@ -127,6 +139,8 @@ opened-spec =
     enum-told-8
     root-opening-requires
     enum-told-9
+    fence-opening-requires
+    enum-told-10
     returns
     returns-2
     returns-3
@@ -135,4 +149,5 @@ opened-spec =
     returns-6
     returns-7
     returns-8
-    returns-9)
+    returns-9
+    returns-10)

@@ -8,7 +8,6 @@
 -- Assumes nothing.
 use mathlib.Core.Path.{_≡_, refl, sym, subst, ap, ap₂, _∙_}
 use mathlib.Core.Logic.{⊎-elim}
-use mathlib.Core.Bool.{Bool, false}
 use mathlib.Core.List.{List}
 use mathlib.Core.Option.{some}
 use Prim.Native.Nat.{ℕ, _+_, _-_, _*_, _≤_, _<_}
@@ -37,11 +36,13 @@ use Rattle.formula.proofs.heads.list_place.Reads as list-place-reads
 use Rattle.formula.proofs.heads.opening.Reads as opening-reads
 use Rattle.formula.proofs.heads.opening_bytes.Reads as opening-bytes-reads
 use Rattle.boxes.specs.Parameters.{Parameters}
-use Rattle.arrange.specs.Arrange.{ownCounts, firstStyle, secondStyle, enlarges}
+use Rattle.delimiters.specs.declared.HasSigns.{HasSigns}
+use Rattle.arrange.specs.declared.Manner.the-variants.{Plain}
+use Rattle.arrange.specs.Arrange.{ownCounts, firstStyle, secondStyle, firstManner}
 use Rattle.spacing.specs.Values.{neighbourAs}
-use Rattle.delimiters.specs.Values.{chosenAs}
-use Rattle.setting.specs.Setting.{isSigned}
-use Rattle.arrange.proofs.enlarges.Reads as enlarges-reads
+use Rattle.delimiters.specs.Values.{signsAs}
+use Rattle.setting.specs.Setting.{hasSigns}
+use Rattle.arrange.proofs.first_manner.Reads as first-manner-reads
 use Rattle.arrange.proofs.first_style.Reads as first-style-reads
 use Rattle.arrange.proofs.own_counts.Reads as own-counts-reads
 use Rattle.arrange.proofs.second_style.Reads as second-style-reads
@@ -59,13 +60,14 @@ use Rattle.walk.specs.declared.lists.StretchSet.the-variants as stretch
 use Rattle.walk.specs.Bounds.{longest}
 use Rattle.walk.specs.Seen.{part, TakenSpan}
 use Rattle.walk.specs.Walked.{HeadDone, ItemDone, ItemsDone, Along, StopsAt, StretchDone, Onward, ChoiceDone}
-use Rattle.walk.proofs.FieldLaws.{Head, head-at, head-short, empty-is, head-empty, head-symbol, head-whole, head-missing, list-given}
+use Rattle.walk.proofs.FieldLaws.{Head, head-at, head-short, empty-is, head-empty, head-symbol, head-line, head-whole, head-missing, list-given}
 use Rattle.walk.proofs.ChoiceLaws.{choice-given, choice-lacks, choice-done}
 use Rattle.walk.proofs.PlaceLaws.{tail-given, right-alike}
 use Rattle.walk.proofs.NoadLaws.{head-as, finished-by, lacksX, lacksY, first-lacks, second-lacks, third-lacks, One, Two, ThirdDone, set-one, set-two, set-three, lacks-one, lacks-two, none-third, finish-given, noad-lacks, noad-done}
 use Rattle.walk.proofs.ListLaws.{line-more, kern-done, style-done, rest-given, item-lacks, item-along, along-start, along-next, along-stop, along-halt, shifted, along-stretch, along-done}
-use Rattle.walk.proofs.signs.is_signed.Reads as is-signed-reads
-use Rattle.walk.proofs.signs.sign_in.Reads as sign-in-reads
+use Rattle.walk.proofs.sides.sides_of.Reads as sides-of-reads
+use Rattle.walk.proofs.signs.has_signs.Reads as has-signs-reads
+use Rattle.walk.proofs.signs.signs_in.Reads as signs-in-reads
 use Rattle.walk.proofs.lists.set_choice.Reads as set-choice
 use Rattle.walk.proofs.lists.set_choice.Kinds as set-choice-kinds
 use Rattle.walk.proofs.lists.+set_choice+set_field+set_given+set_item+set_items+set_noad+set_onward+set_stretch.Lts-set_choice as set-choice-lts
@@ -93,8 +95,8 @@ use Rattle.walk.proofs.lists.+set_choice+set_field+set_given+set_item+s
 use Rattle.walk.proofs.items.finished.Reads as finished-reads
 use Rattle.walk.proofs.current.restyled.Reads as restyled-reads
 use Rattle.walk.proofs.current.taken_span.Reads as taken-span-reads
+use Rattle.walk.proofs.growing.closed_part.Reads as closed-part-reads
 use Rattle.walk.proofs.growing.kerned.Reads as kerned-reads
-use Rattle.walk.proofs.growing.list_part.Reads as list-part-reads
 use Rattle.walk.proofs.growing.start.Reads as start-reads
 use Rattle.walk.proofs.growing.styled.Reads as styled-reads
 use Rattle.walk.proofs.parts.empty_part.Reads as empty-part-reads
@@ -191,7 +193,7 @@ abbrev set-field-claims : ℕ → set-field-lts.Claims
 set-field-claims t = (is-empty-reads.Asked, is-empty-reads.Learnt, empty-part-reads.Asked, empty-part-reads.Learnt, set-given-below t, set-given.Post)
 
 abbrev set-given-claims : ℕ → set-given-lts.Claims
-set-given-claims t = (field-head-reads.Asked, field-head-reads.Learnt, field-bytes-reads.Asked, field-bytes-reads.Learnt, empty-part-reads.Asked, empty-part-reads.Learnt, symbol-part-reads.Asked, symbol-part-reads.Learnt, start-reads.Asked, start-reads.Learnt, set-items-below t, set-items.Post, list-part-reads.Asked, list-part-reads.Learnt)
+set-given-claims t = (field-head-reads.Asked, field-head-reads.Learnt, field-bytes-reads.Asked, field-bytes-reads.Learnt, empty-part-reads.Asked, empty-part-reads.Learnt, symbol-part-reads.Asked, symbol-part-reads.Learnt, sides-of-reads.Asked, sides-of-reads.Learnt, start-reads.Asked, start-reads.Learnt, set-items-below t, set-items.Post, closed-part-reads.Asked, closed-part-reads.Learnt)
 
 abbrev set-item-claims : ℕ → set-item-lts.Claims
 set-item-claims t = (opening-reads.Asked, opening-reads.Learnt, set-noad-below t, set-noad.Post, kerned-reads.Asked, kerned-reads.Learnt, restyled-reads.Asked, restyled-reads.Learnt, styled-reads.Asked, styled-reads.Learnt)
@@ -200,7 +202,7 @@ abbrev set-items-claims : ℕ → set-items-lts.Claims
 set-items-claims t = (set-stretch-below t, set-stretch.Post, room-reads.Asked, room-reads.Learnt, set-onward-below t, set-onward.Post)
 
 abbrev set-noad-claims : ℕ → set-noad-lts.Claims
-set-noad-claims t = (is-signed-reads.Asked, is-signed-reads.Learnt, own-counts-reads.Asked, own-counts-reads.Learnt, room-reads.Asked, room-reads.Learnt, first-style-reads.Asked, first-style-reads.Learnt, enlarges-reads.Asked, enlarges-reads.Learnt, opening-bytes-reads.Asked, opening-bytes-reads.Learnt, set-field-below t, set-field.Post, second-style-reads.Asked, second-style-reads.Learnt, has-third-reads.Asked, has-third-reads.Learnt, third-style-reads.Asked, third-style-reads.Learnt, empty-part-reads.Asked, empty-part-reads.Learnt, right-of-reads.Asked, right-of-reads.Learnt, sign-in-reads.Asked, sign-in-reads.Learnt, finished-reads.Asked, finished-reads.Learnt)
+set-noad-claims t = (has-signs-reads.Asked, has-signs-reads.Learnt, own-counts-reads.Asked, own-counts-reads.Learnt, room-reads.Asked, room-reads.Learnt, first-style-reads.Asked, first-style-reads.Learnt, first-manner-reads.Asked, first-manner-reads.Learnt, opening-bytes-reads.Asked, opening-bytes-reads.Learnt, set-field-below t, set-field.Post, second-style-reads.Asked, second-style-reads.Learnt, has-third-reads.Asked, has-third-reads.Learnt, third-style-reads.Asked, third-style-reads.Learnt, empty-part-reads.Asked, empty-part-reads.Learnt, right-of-reads.Asked, right-of-reads.Learnt, signs-in-reads.Asked, signs-in-reads.Learnt, finished-reads.Asked, finished-reads.Learnt)
 
 abbrev set-onward-claims : ℕ → set-onward-lts.Claims
 set-onward-claims t = (set-choice-below t, set-choice.Post, room-reads.Asked, room-reads.Learnt, set-stretch-below t, set-stretch.Post)
@@ -336,7 +338,10 @@ abbrev read-of : (t : ℕ) → Listed t → Read t
 read-of t c = c .before .before .before
 
 abbrev listed-of : (t : ℕ) → Listing t → Listed t
-listed-of t c = c .before .before .before .before
+listed-of t c = c .before .before .before .before .before
+
+abbrev sided-of : (t : ℕ) → Listing t → set-given-lts.After-sides-of (set-given-claims t) (set-given-at t) set-given.Post
+sided-of t c = c .before .before .before .before
 
 abbrev list-buffer : (t : ℕ) → Listing t → List ℕ
 list-buffer t c = c .set-items .last .1 .1 .1 .1 .1 .0
@@ -357,12 +362,12 @@ list-lacks : (t : ℕ) (c : Lacking t) →
     let set = listing-of t c in
     let a = read-start t (read-of t (listed-of t set)) .args in
     let place = a .at + listed-of t set .before .head2 .given .0 .0 + c .before .l2 .given .0 .0 in
-    HeadDone (fontOf (a .table .now)) (a .style) (a .enlarge) (a .s .now) (a .at) (a .buf .now) (field.Missing place) (list-buffer t set)
+    HeadDone (fontOf (a .table .now)) (a .style) (a .manner) (a .s .now) (a .at) (a .buf .now) (field.Missing place) (list-buffer t set)
     × (place ≤ length (a .s .now))
 list-lacks t c =
     let set = listing-of t c in
     let a = read-start t (read-of t (listed-of t set)) .args in
-    head-missing (fontOf (a .table .now)) (a .style) (a .enlarge) (a .buf .now) (list-buffer t set) (list-head t (listed-of t set)) (set .before .before .start .ensures) _
+    head-missing (fontOf (a .table .now)) (a .style) (a .manner) (a .buf .now) (list-buffer t set) (list-head t (listed-of t set)) _ (sided-of t set .sides-of .ensures) (set .before .before .start .ensures) _
     (set .set-items .ensures) (c .before .l2 .given .1)
 
 set-given-symbol-part-requires : (t : ℕ) → set-given-lts.Need-symbol-part-requires (set-given-claims t) (set-given-at t) set-given.Post
@@ -372,10 +377,19 @@ set-given-symbol-part-requires t c κs =
 
 set-given-set-items-requires : (t : ℕ) → set-given-lts.Need-set-items-requires (set-given-claims t) (set-given-at t) set-given.Post
 set-given-set-items-requires t c κs =
-    let listed = c .before .before .before in
+    let listed = c .before .before .before .before in
     let p = read-start t (read-of t listed) .pre in
     let g = list-given (p .1) (list-head t listed) (c .before .start .ensures) in
     (omega (arith, g .1, p .0), g .0)
+
+set-given-closed-part-requires : (t : ℕ) → set-given-lts.Need-closed-part-requires (set-given-claims t) (set-given-at t) set-given.Post
+set-given-closed-part-requires t c κs =
+    let set = c .before .before .before .before .before in
+    let head = list-head t (listed-of t set) in
+    let start = read-start t (read-of t (listed-of t set)) in
+    let a = start .args in
+    line-more (omega (arith, head .goes, head .inside, start .pre .1 .short))
+    (head-line (fontOf (a .table .now)) _ (a .manner) (a .buf .now) (list-buffer t set) head _ (sided-of t set .sides-of .ensures) (set .before .before .start .ensures) _ (set .set-items .ensures) (c .before .l .given .1))
 
 set-given-returns : (t : ℕ) → set-given-lts.Need-returns (set-given-claims t) (set-given-at t) set-given.Post
 set-given-returns t c =
@@ -395,15 +409,16 @@ set-given-returns-3 t c =
     let arm = set .before .before .before in
     let read = arm .before .before in
     let a = read-start t read .args in
-    head-symbol (fontOf (a .table .now)) (a .style) (a .enlarge) (a .buf .now) (set .symbol-part .last .1 .1 .1 .1 .1 .1 .1 .0)
+    head-symbol (fontOf (a .table .now)) (a .style) (a .manner) (a .buf .now) (set .symbol-part .last .1 .1 .1 .1 .1 .1 .1 .0)
     (head-of t read (arm .head .given .1)) (set .symbol-part .result) (set .symbol-part .ensures)
 
 set-given-returns-4 : (t : ℕ) → set-given-lts.Need-returns-4 (set-given-claims t) (set-given-at t) set-given.Post
 set-given-returns-4 t c =
     let set = c .before .before .before .before .before .before in
-    let a = read-start t (read-of t (listed-of t set)) .args in
-    head-whole (fontOf (a .table .now)) _ _ (a .buf .now) (list-buffer t set) (list-head t (listed-of t set)) (set .before .before .start .ensures) _
-    (set .set-items .ensures) (c .before .before .l .given .1) (c .list-part .ensures)
+    let start = read-start t (read-of t (listed-of t set)) in
+    let a = start .args in
+    head-whole (fontOf (a .table .now)) _ _ (a .buf .now) (list-buffer t set) (list-head t (listed-of t set)) _ (sided-of t set .sides-of .ensures) (set .before .before .start .ensures) _
+    (set .set-items .ensures) (start .pre .1 .parameters-are) (c .before .before .l .given .1) (c .closed-part .ensures)
 
 set-given-returns-6 : (t : ℕ) → set-given-lts.Need-returns-6 (set-given-claims t) (set-given-at t) set-given.Post
 set-given-returns-6 t c =
@@ -433,7 +448,7 @@ set-item-kerned-requires t c κs =
     let opened = c .before .before .before in
     let start = opened-start t opened in
     let items = start .pre .1 .0 in
-    (line-more (omega arith) (items .small), kern-small (start .args .s .now) _ (opens t opened (c .before .o2 .given .1)))
+    (line-more (omega arith) (items .small), omega (arith, kern-small (start .args .s .now) _ (opens t opened (c .before .o2 .given .1))))
 
 set-item-returns : (t : ℕ) → set-item-lts.Need-returns (set-item-claims t) (set-item-at t) set-item.Post
 set-item-returns t c =
@@ -822,26 +837,26 @@ own-is : (t : ℕ) (c : First t) →
     let a = start-of t c .args in
     let own = counted-of t c .own-counts .result in
     let F = fontOf (a .table .now) in
-    let defined = ownCounts (F .parameter) (a .line .style) (a .kind) (isSigned F (a .line .style) (a .kind)) in
+    let defined = ownCounts (F .parameter) (a .line .style) (a .kind) (hasSigns F (a .line .style) (a .kind)) in
     (own .before ≡ defined .before) × (own .behind ≡ defined .behind)
 own-is t c =
     let start = start-of t c in
     let a = start .args in
     let own = counted-of t c .own-counts .ensures in
-    let found = counted-of t c .before .is-signed .ensures in
+    let found = counted-of t c .before .has-signs .ensures in
     let params = start .pre .1 .items .list .parameters-are in (
-      own .before-is ∙ ap₂ (λ (P : Parameters) (f : Bool). ownCounts P (a .line .style) (a .kind) f .before) params found,
-      own .behind-is ∙ ap₂ (λ (P : Parameters) (f : Bool). ownCounts P (a .line .style) (a .kind) f .behind) params found,
+      own .before-is ∙ ap₂ (λ (P : Parameters) (f : HasSigns). ownCounts P (a .line .style) (a .kind) f .before) params found,
+      own .behind-is ∙ ap₂ (λ (P : Parameters) (f : HasSigns). ownCounts P (a .line .style) (a .kind) f .behind) params found,
     )
 
 first-done : (t : ℕ) (c : First t) {r : FieldSet} → c .set-field .result ≡ r →
     let a = start-of t c .args in
     let j = styled-of t c .before .room .result in
-    HeadDone (fontOf (a .table .now)) (firstStyle (a .kind) (a .line .style)) (enlarges (a .kind) (a .line .style)) (a .s .now) (openingBytes (a .kind)) (take (length (a .buf .now) - j) (drop j (a .buf .now))) r (first-back t c)
+    HeadDone (fontOf (a .table .now)) (firstStyle (a .kind) (a .line .style)) (firstManner (a .kind) (a .line .style)) (a .s .now) (openingBytes (a .kind)) (take (length (a .buf .now) - j) (drop j (a .buf .now))) r (first-back t c)
 first-done t c is =
     let a = start-of t c .args in
     let j = styled-of t c .before .room .result in
-    head-as (fontOf (a .table .now)) (a .s .now) (take (length (a .buf .now) - j) (drop j (a .buf .now))) (first-back t c) (styled-of t c .first-style .ensures) (c .before .before .before .enlarges .ensures) (c .before .before .opening-bytes .ensures) is
+    head-as (fontOf (a .table .now)) (a .s .now) (take (length (a .buf .now) - j) (drop j (a .buf .now))) (first-back t c) (styled-of t c .first-style .ensures) (c .before .before .before .first-manner .ensures) (c .before .before .opening-bytes .ensures) is
     (c .set-field .ensures)
 
 one : (t : ℕ) (c : First t) {x : parts.Part} → c .set-field .result ≡ field.Whole x → OneAt t c x
@@ -927,7 +942,7 @@ second-done : (t : ℕ) (c : Second t) {r : FieldSet} → c .set-field2 .result 
     let a = start-of t (first-of t c) .args in
     let v = first-buffer t (first-of t c) in
     let j = placed-of t c .room2 .result in
-    HeadDone (fontOf (a .table .now)) (secondStyle (a .kind) (a .line .style)) false (a .s .now) (second (a .s .now) (a .kind)) (take (length v - j) (drop j v)) r (second-back t c)
+    HeadDone (fontOf (a .table .now)) (secondStyle (a .kind) (a .line .style)) Plain (a .s .now) (second (a .s .now) (a .kind)) (take (length v - j) (drop j v)) r (second-back t c)
 second-done t c is =
     let a = start-of t (first-of t c) .args in
     let v = first-buffer t (first-of t c) in
@@ -1011,7 +1026,7 @@ third-done t c =
     subst (ThirdAt t c (c .if1 .z)) (sym (w .6))
     (subst (λ (z : FieldSet). ThirdAt t c z (putMid k (length v - k) v r)) (sym (w .7))
     (set-three F (a .line .style) (a .kind) (a .s .now) o (w .3 .result) r (sym (c .before .has-third .ensures) ∙ w .0 .taken) (c .before .before .room3 .ensures)
-    (head-as F (a .s .now) (take (length v - k) (drop k v)) r {e = false} {r = w .3 .result} (w .1 .ensures) refl (o .wy .end-is) refl (w .3 .ensures)))))
+    (head-as F (a .s .now) (take (length v - k) (drop k v)) r {m = Plain} {r = w .3 .result} (w .1 .ensures) refl (o .wy .end-is) refl (w .3 .ensures)))))
     (λ w.
     subst (ThirdAt t c (c .if1 .z)) (sym (w .2))
     (subst (λ (z : FieldSet). ThirdAt t c z v) (sym (w .3))
@@ -1123,8 +1138,8 @@ set-noad-right-of-requires t c κs =
     let start = start-of-z t (c .before) in
     tail-given (start .args .s .now) _ (q .wz .end-is) (q .noad .rest) (start .pre .1 .items .list .short)
 
-set-noad-sign-in-requires : (t : ℕ) → set-noad-lts.Need-sign-in-requires (set-noad-claims t) (set-noad-at t) set-noad.Post
-set-noad-sign-in-requires t c κs =
+set-noad-signs-in-requires : (t : ℕ) → set-noad-lts.Need-signs-in-requires (set-noad-claims t) (set-noad-at t) set-noad.Post
+set-noad-signs-in-requires t c κs =
     let z = c .before .before in
     let list = start-of-z t z .pre .1 .items .list in
     (list .table-good, list .parameters-are, three t z .wx .small .shape)
@@ -1147,8 +1162,8 @@ set-noad-returns-4 t c =
     noad-done _ (a .kind) (a .s .now) (neighbourAs (a .beyond)) (a .line) (a .buf .now) (done .finished .last .1 .1 .1 .1 .1 .1 .1 .1 .0) (start .pre .1 .opens)
     (record {
       here = refl;
-      sign = chosenAs (signed .sign-in .result);
-      sign-is = signed .sign-in .ensures;
+      signs = signsAs (signed .signs-in .result);
+      signs-is = signed .signs-in .ensures;
       fields = q;
       alike = right-alike (a .kind) (a .line .style) (a .s .now) (neighbourAs (a .beyond)) (neighbourAs (next .right-of .result)) (q .wz .end-is) (next .right-of .ensures);
       done = finished-by (start .pre .1 .items .list .parameters-are) (done .finished .ensures);
@@ -1203,13 +1218,14 @@ pub +set-choice+set-field+set-given+set-item+set-items+set-noad+set-onward+set-s
     (set-given-symbol-part-requires t)
     (λ c. search needs)
     (λ c. omega (arith, list-head t c .goes, list-head t c .inside, read-start t (read-of t c) .pre .1 .short))
-    (λ c. omega (arith, list-head t c .goes, list-head t c .inside, read-start t (read-of t c) .pre .1 .short))
-    (λ c. omega (arith, list-head t c .goes, list-head t c .inside, read-start t (read-of t c) .pre .1 .short))
-    (λ c. omega (arith, list-head t c .goes, list-head t c .inside, read-start t (read-of t c) .pre .1 .short))
+    (λ c κs. search needs)
+    (λ c. omega (arith, list-head t (c .before) .goes, list-head t (c .before) .inside, read-start t (read-of t (c .before)) .pre .1 .short))
+    (λ c. omega (arith, list-head t (c .before) .goes, list-head t (c .before) .inside, read-start t (read-of t (c .before)) .pre .1 .short))
+    (λ c. omega (arith, list-head t (c .before) .goes, list-head t (c .before) .inside, read-start t (read-of t (c .before)) .pre .1 .short))
     (λ c κs. search needs)
     (set-given-set-items-requires t)
     (λ c. search needs)
-    (λ c κs. search needs)
+    (set-given-closed-part-requires t)
     (λ c. search needs)
     (λ c. omega (arith, list-lacks t c .1, read-start t (read-of t (listed-of t (listing-of t c))) .pre .1 .short))
     (λ c. search needs)
@@ -1310,7 +1326,7 @@ pub +set-choice+set-field+set-given+set-item+set-items+set-noad+set-onward+set-s
     (λ c. omega (arith, three t c .wz .end-is, three t c .noad .end-in))
     (λ c. omega (arith, three t c .wz .end-is, three t c .noad .end-in))
     (set-noad-right-of-requires t)
-    (set-noad-sign-in-requires t)
+    (set-noad-signs-in-requires t)
     (set-noad-finished-requires t)
     (λ c. c .before .before .finished .kept .1 .1 .1 .1 .1 .1 .1 .1 .0 ∙ three t (c .before .before .before .before .before .before .before) .so .kept .same)
     (set-noad-returns-4 t))

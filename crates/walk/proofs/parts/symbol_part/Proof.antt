@@ -5,7 +5,7 @@ use mathlib.Core.Option.{none, some}
 use borrow.Author.Needs.{needs}
 use Rattle.font.specs.Font.{fontOf}
 use Rattle.boxes.specs.Styles.{fontSize}
-use Rattle.setting.specs.Setting.{symbolIn}
+use Rattle.setting.specs.Setting.{symbolIn, isEnlarged}
 use Rattle.walk.specs.Values.{symbolAs, soughtAs}
 use Rattle.walk.proofs.PartLaws.{symbol-whole, symbol-missing}
 use Rattle.walk.proofs.parts.symbol_part.Statement.{statement}
@@ -40,24 +40,26 @@ returns c =
     let put = c .before .before .before in
     let known = put .before .before .before .before in
     let looked = known .before .before in
-    let start = looked .before .before .before .before in
+    let start = looked .before .before .before .before .before in
     let a = start .args in
-    let size = looked .before .font-size .ensures .0 in
+    let size = looked .before .before .font-size .ensures .0 in
+    let large = looked .before .is-enlarged .ensures in
     let symbol = known .sought .given .0 .0 in
-    let found : symbolIn (fontOf (a .table .now)) (fontSize (a .style)) (a .enlarge) (a .family) (a .code) ≡ some (symbolAs symbol) =
-    rw (← size) (sym (looked .symbol-in .ensures) ∙ ap soughtAs (known .sought .given .1)) in
-    symbol-whole (fontOf (a .table .now)) (a .style) (a .enlarge) (a .at) (a .end) (a .buf .now) (a .family) (a .code) (start .pre .1) symbol _ _ found
+    let found : symbolIn (fontOf (a .table .now)) (fontSize (a .style)) (isEnlarged (a .manner)) (a .family) (a .code) ≡ some (symbolAs symbol) =
+    rw (← size, ← large) (sym (looked .symbol-in .ensures) ∙ ap soughtAs (known .sought .given .1)) in
+    symbol-whole (fontOf (a .table .now)) (a .style) (a .manner) (a .at) (a .end) (a .buf .now) (a .family) (a .code) (start .pre .1) symbol _ _ found
     (c .point .ensures) (rw (← size) (put .put-glyph .ensures))
 
 returns-2 : tie.Need-returns-2
 returns-2 c =
     let looked = c .before .before in
-    let start = looked .before .before .before .before in
+    let start = looked .before .before .before .before .before in
     let a = start .args in
-    let size = looked .before .font-size .ensures .0 in
-    let lacks : symbolIn (fontOf (a .table .now)) (fontSize (a .style)) (a .enlarge) (a .family) (a .code) ≡ none =
-    rw (← size) (sym (looked .symbol-in .ensures) ∙ ap soughtAs (c .enum-told .given .1)) in
-    symbol-missing (fontOf (a .table .now)) (a .style) (a .enlarge) (a .at) (a .end) (a .buf .now) (a .family) (a .code) (start .pre .1) lacks
+    let size = looked .before .before .font-size .ensures .0 in
+    let large = looked .before .is-enlarged .ensures in
+    let lacks : symbolIn (fontOf (a .table .now)) (fontSize (a .style)) (isEnlarged (a .manner)) (a .family) (a .code) ≡ none =
+    rw (← size, ← large) (sym (looked .symbol-in .ensures) ∙ ap soughtAs (c .enum-told .given .1)) in
+    symbol-missing (fontOf (a .table .now)) (a .style) (a .manner) (a .at) (a .end) (a .buf .now) (a .family) (a .code) (start .pre .1) lacks
 
 pub symbol-part-spec : {M : Type 1} → statement M
 symbol-part-spec =
@@ -65,6 +67,7 @@ symbol-part-spec =
     (tie.spec
     font-size-requires
     cast-size
+    (λ c κs. search needs)
     symbol-in-requires
     enum-known-sought
     put-glyph-requires

@@ -1,15 +1,14 @@
--- The reading cycle meets its contracts: `read_list` calls `read_item`, that `read_noad` or `read_choice`, these `read_field`, and that
--- `read_list` on a shorter list. The measure is four times the length of what is read, and one more for each of them upward.
+-- The reading cycle meets its contracts: `read_list` calls `read_item`, that `read_noad` or `read_choice`, these `read_held`, that `read_field`,
+-- and that `read_list` on a shorter list. The measure is five times the length of what is read, and one more for each of them upward.
 -- Each need follows from what its calls say by a law of `VerdictLaws`. The loop's invariant: what the list says is what its
 -- rest from `at` on says, `at` later.
 -- Assumes nothing.
-use mathlib.Core.Path.{_≡_, sym, ap, _∙_}
+use mathlib.Core.Path.{_≡_, sym, ap₂, _∙_}
 use mathlib.Core.Bool.{true, false}
 use Prim.Native.Nat.{ℕ, _+_, _-_, _*_, _≤_, _<_}
 use native.Mathlib.Omega.{arith}
 use lib.ListN.{length, take, drop}
 use borrow.Author.Needs.{needs}
-use borrow.Author.Tests.{not-true, not-false}
 use borrow.Fn.Kinds.{In}
 use borrow.Fn.PlainCycle.{Measures, is, falls, and}
 use Rattle.formula.specs.declared.Opening.{Opening}
@@ -18,50 +17,56 @@ use Rattle.formula.specs.declared.FieldHead.{FieldHead}
 use Rattle.formula.specs.declared.FieldHead.the-variants.{Sublist}
 use Rattle.formula.specs.declared.Verdict.the-variants.{Good, Faulty}
 use Rattle.formula.specs.declared.PartRead.the-variants.{Next}
-use Rattle.formula.specs.Tree.{openingBytes}
 use Rattle.formula.specs.Heads.{fieldHead}
 use Rattle.formula.specs.Reading.{fieldBy, fieldAt, choiceAt, openedBy, itemBy, read}
 use Rattle.formula.specs.Values.{told, partReadOf}
 use Rattle.formula.specs.Places.{headBytes}
 use Rattle.formula.specs.HeadLaws.{list-opening, opening-fits}
-use Rattle.formula.proofs.VerdictLaws.{later, later-zero, fault-in, next-in, field-step, field-fits, field-deep, cut-deep, cut-short, field-list, noad-first, noad-second, noad-third, list-yes, list-no, inTurn, listSays, choice-said, turn-next, turn-stop, turn-done, item-step, list-next, list-stop, list-done}
-use Rattle.formula.proofs.reading.+read_choice+read_field+read_item+read_list+read_noad.{statement}
-use Rattle.formula.proofs.reading.+read_choice+read_field+read_item+read_list+read_noad.Tie.{close}
+use Rattle.formula.proofs.VerdictLaws.{later, later-zero, fault-in, next-in, field-step, field-fits, field-deep, cut-deep, cut-short, field-list, listSays, heldSays, held-list, held-yes, held-no, held-next, firstSays, noad-first, noad-second, noad-third, inTurn, choice-said, turn-next, turn-stop, turn-done, item-step, list-next, list-stop, list-done}
+use Rattle.formula.proofs.reading.+read_choice+read_field+read_held+read_item+read_list+read_noad.{statement}
+use Rattle.formula.proofs.reading.+read_choice+read_field+read_held+read_item+read_list+read_noad.Tie.{close}
 use Rattle.formula.proofs.reading.read_choice.Reads as read-choice
 use Rattle.formula.proofs.reading.read_choice.Kinds as read-choice-kinds
-use Rattle.formula.proofs.reading.+read_choice+read_field+read_item+read_list+read_noad.Lts-read_choice as read-choice-lts
+use Rattle.formula.proofs.reading.+read_choice+read_field+read_held+read_item+read_list+read_noad.Lts-read_choice as read-choice-lts
 use Rattle.formula.proofs.reading.read_field.Reads as read-field
 use Rattle.formula.proofs.reading.read_field.Kinds as read-field-kinds
-use Rattle.formula.proofs.reading.+read_choice+read_field+read_item+read_list+read_noad.Lts-read_field as read-field-lts
+use Rattle.formula.proofs.reading.+read_choice+read_field+read_held+read_item+read_list+read_noad.Lts-read_field as read-field-lts
+use Rattle.formula.proofs.reading.read_held.Reads as read-held
+use Rattle.formula.proofs.reading.read_held.Kinds as read-held-kinds
+use Rattle.formula.proofs.reading.+read_choice+read_field+read_held+read_item+read_list+read_noad.Lts-read_held as read-held-lts
 use Rattle.formula.proofs.reading.read_item.Reads as read-item
 use Rattle.formula.proofs.reading.read_item.Kinds as read-item-kinds
-use Rattle.formula.proofs.reading.+read_choice+read_field+read_item+read_list+read_noad.Lts-read_item as read-item-lts
+use Rattle.formula.proofs.reading.+read_choice+read_field+read_held+read_item+read_list+read_noad.Lts-read_item as read-item-lts
 use Rattle.formula.proofs.reading.read_list.Reads as read-list
 use Rattle.formula.proofs.reading.read_list.Kinds as read-list-kinds
-use Rattle.formula.proofs.reading.+read_choice+read_field+read_item+read_list+read_noad.Lts-read_list as read-list-lts
+use Rattle.formula.proofs.reading.+read_choice+read_field+read_held+read_item+read_list+read_noad.Lts-read_list as read-list-lts
 use Rattle.formula.proofs.reading.read_noad.Reads as read-noad
 use Rattle.formula.proofs.reading.read_noad.Kinds as read-noad-kinds
-use Rattle.formula.proofs.reading.+read_choice+read_field+read_item+read_list+read_noad.Lts-read_noad as read-noad-lts
+use Rattle.formula.proofs.reading.+read_choice+read_field+read_held+read_item+read_list+read_noad.Lts-read_noad as read-noad-lts
 use Rattle.formula.proofs.heads.field_head.Reads as field-head-reads
 use Rattle.formula.proofs.heads.has_third.Reads as has-third-reads
+use Rattle.formula.proofs.heads.holds_list.Reads as holds-list-reads
 use Rattle.formula.proofs.heads.is_list.Reads as is-list-reads
 use Rattle.formula.proofs.heads.opening.Reads as opening-reads
 use Rattle.formula.proofs.heads.opening_bytes.Reads as opening-bytes-reads
 
 abbrev μ-read-choice : Measures 1 read-choice-kinds.ps ℕ
-μ-read-choice κs a = 4 * length (a .0 .now) + 1
+μ-read-choice κs a = 5 * length (a .0 .now) + 2
 
 abbrev μ-read-field : Measures 1 read-field-kinds.ps ℕ
-μ-read-field κs a = 4 * length (a .0 .now)
+μ-read-field κs a = 5 * length (a .0 .now)
+
+abbrev μ-read-held : Measures 1 read-held-kinds.ps ℕ
+μ-read-held κs a = 5 * length (a .0 .now) + 1
 
 abbrev μ-read-item : Measures 1 read-item-kinds.ps ℕ
-μ-read-item κs a = 4 * length (a .0 .now) + 2
+μ-read-item κs a = 5 * length (a .0 .now) + 3
 
 abbrev μ-read-list : Measures 1 read-list-kinds.ps ℕ
-μ-read-list κs a = 4 * length (a .0 .now) + 3
+μ-read-list κs a = 5 * length (a .0 .now) + 4
 
 abbrev μ-read-noad : Measures 1 read-noad-kinds.ps ℕ
-μ-read-noad κs a = 4 * length (a .0 .now) + 1
+μ-read-noad κs a = 5 * length (a .0 .now) + 2
 
 abbrev read-choice-at : ℕ → In 1 read-choice-kinds.ps
 read-choice-at t = and 1 read-choice-kinds.ps (is 1 read-choice-kinds.ps μ-read-choice t) read-choice.Pre
@@ -77,6 +82,13 @@ read-field-at t =
 abbrev read-field-below : ℕ → In 1 read-field-kinds.ps
 read-field-below t =
     and 1 read-field-kinds.ps (falls 1 read-field-kinds.ps _<_ μ-read-field t) read-field.Pre
+
+abbrev read-held-at : ℕ → In 1 read-held-kinds.ps
+read-held-at t = and 1 read-held-kinds.ps (is 1 read-held-kinds.ps μ-read-held t) read-held.Pre
+
+abbrev read-held-below : ℕ → In 1 read-held-kinds.ps
+read-held-below t =
+    and 1 read-held-kinds.ps (falls 1 read-held-kinds.ps _<_ μ-read-held t) read-held.Pre
 
 abbrev read-item-at : ℕ → In 1 read-item-kinds.ps
 read-item-at t = and 1 read-item-kinds.ps (is 1 read-item-kinds.ps μ-read-item t) read-item.Pre
@@ -100,10 +112,13 @@ read-noad-below t =
     and 1 read-noad-kinds.ps (falls 1 read-noad-kinds.ps _<_ μ-read-noad t) read-noad.Pre
 
 abbrev read-choice-claims : ℕ → read-choice-lts.Claims
-read-choice-claims t = (is-list-reads.Asked, is-list-reads.Learnt, read-field-below t, read-field.Post)
+read-choice-claims t = (read-held-below t, read-held.Post)
 
 abbrev read-field-claims : ℕ → read-field-lts.Claims
 read-field-claims t = (field-head-reads.Asked, field-head-reads.Learnt, read-list-below t, read-list.Post)
+
+abbrev read-held-claims : ℕ → read-held-lts.Claims
+read-held-claims t = (is-list-reads.Asked, is-list-reads.Learnt, read-field-below t, read-field.Post)
 
 abbrev read-item-claims : ℕ → read-item-lts.Claims
 read-item-claims t = (opening-reads.Asked, opening-reads.Learnt, read-noad-below t, read-noad.Post, read-choice-below t, read-choice.Post)
@@ -112,7 +127,7 @@ abbrev read-list-claims : ℕ → read-list-lts.Claims
 read-list-claims t = (read-item-below t, read-item.Post)
 
 abbrev read-noad-claims : ℕ → read-noad-lts.Claims
-read-noad-claims t = (opening-bytes-reads.Asked, opening-bytes-reads.Learnt, read-field-below t, read-field.Post, has-third-reads.Asked, has-third-reads.Learnt)
+read-noad-claims t = (opening-bytes-reads.Asked, opening-bytes-reads.Learnt, holds-list-reads.Asked, holds-list-reads.Learnt, read-held-below t, read-held.Post, read-field-below t, read-field.Post, has-third-reads.Asked, has-third-reads.Learnt)
 
 -- ---- read_choice
 
@@ -123,33 +138,25 @@ abbrev read-choice-μ-loop : read-choice-lts.MeasureT-loop
 read-choice-μ-loop s levels at₀ left₀ at left = left
 
 -- what the list says that is read in a turn
-rc-said : (t : ℕ) (c : read-choice-lts.After-read-field (read-choice-claims t) (read-choice-at t) read-choice.Post read-choice-Inv-loop read-choice-μ-loop) →
-    let turn = c .before .before .before .before .before in
+rc-said : (t : ℕ) (c : read-choice-lts.After-read-held (read-choice-claims t) (read-choice-at t) read-choice.Post read-choice-Inv-loop read-choice-μ-loop) →
+    let turn = c .before .before in
     let a = turn .before .before .args in
-    listSays (a .levels) (a .s .now) (turn .loop .at) ≡ c .read-field .result
-rc-said t c =
-    let is = sym (c .before .before .is-list .ensures) ∙ not-false _ (c .before .if1 .left) in
-    list-yes _ _ _ is ∙ sym (c .read-field .ensures)
+    listSays (a .levels) (a .s .now) (turn .loop .at) ≡ c .read-held .result
+rc-said t c = sym (c .read-held .ensures ∙ held-list _ _ _)
 
 read-choice-returns : (t : ℕ) → read-choice-lts.Need-returns (read-choice-claims t) (read-choice-at t) read-choice.Post read-choice-Inv-loop read-choice-μ-loop
 read-choice-returns t c =
-    let turn = c .before .before .before .before in
-    let no-list = sym (c .before .is-list .ensures) ∙ not-true _ (c .if1 .taken) in
-    sym (turn .loop .inv .1 ∙ turn-stop _ _ _ _ _ (omega arith) (list-no _ _ _ no-list))
-
-read-choice-returns-2 : (t : ℕ) → read-choice-lts.Need-returns-2 (read-choice-claims t) (read-choice-at t) read-choice.Post read-choice-Inv-loop read-choice-μ-loop
-read-choice-returns-2 t c =
     let call = c .before .before in
-    let turn = call .before .before .before .before .before in
+    let turn = call .before .before in
     let says = c .enum-told .given .1 in
     says ∙ sym (turn .loop .inv .1 ∙ turn-stop _ _ _ _ _ (omega arith) (rc-said t call ∙ says))
 
 read-choice-loop-again : (t : ℕ) → read-choice-lts.Need-loop-again (read-choice-claims t) (read-choice-at t) read-choice.Post read-choice-Inv-loop read-choice-μ-loop
 read-choice-loop-again t c =
     let call = c .before .before .before in
-    let turn = call .before .before .before .before .before in
+    let turn = call .before .before in
     let says = c .before .r .given .1 in (
-      next-in _ _ _ _ (turn .loop .inv .0) (sym (call .read-field .ensures) ∙ says),
+      held-next _ _ _ _ _ (turn .loop .inv .0) (sym (call .read-held .ensures) ∙ says),
       turn .loop .inv .1 ∙ turn-next _ _ _ _ (omega arith) (rc-said t call ∙ says),
     )
 
@@ -286,76 +293,70 @@ rn-fits t c =
     omega (arith, fits, c .opening-bytes .ensures)
 
 -- what the first field says
-rn-first : (t : ℕ) (c : read-noad-lts.After-read-field (read-noad-claims t) (read-noad-at t) read-noad.Post) →
-    let a = c .before .before .before .args in
-    partReadOf (fieldAt read (a .levels) (a .s .now) (openingBytes (a .kind))) ≡ c .read-field .result
+rn-first : (t : ℕ) (c : read-noad-lts.After-read-held (read-noad-claims t) (read-noad-at t) read-noad.Post) →
+    let a = c .before .before .before .before .args in
+    firstSays (a .levels) (a .s .now) (a .kind) ≡ c .read-held .result
 rn-first t c =
-    let a = c .before .before .before .args in
-    let same = ap (λ (at : ℕ). partReadOf (fieldAt read (a .levels) (a .s .now) at)) (c .before .opening-bytes .ensures) in
-    sym (c .read-field .ensures ∙ same)
+    let a = c .before .before .before .before .args in
+    let same = ap₂ (heldSays (a .levels) (a .s .now)) (c .before .holds-list .ensures) (c .before .before .opening-bytes .ensures) in
+    sym (c .read-held .ensures ∙ same)
 
 -- after the first field, and after the second
 rn-a : (t : ℕ) (c : read-noad-lts.After-a (read-noad-claims t) (read-noad-at t) read-noad.Post) →
-    let a = c .before .before .before .before .before .args in
-    (partReadOf (fieldAt read (a .levels) (a .s .now) (openingBytes (a .kind))) ≡ Next (c .a .given .0 .0))
-    × (c .a .given .0 .0 ≤ length (a .s .now))
+    let a = c .before .before .before .before .before .before .args in
+    (firstSays (a .levels) (a .s .now) (a .kind) ≡ Next (c .a .given .0 .0)) × (c .a .given .0 .0 ≤ length (a .s .now))
 rn-a t c =
     let call = c .before .before in (
       rn-first t call ∙ c .a .given .1,
-      next-in _ _ _ _ (rn-fits t (call .before)) (sym (call .read-field .ensures) ∙ c .a .given .1),
+      held-next _ _ _ _ _ (rn-fits t (call .before .before)) (sym (call .read-held .ensures) ∙ c .a .given .1),
     )
 
 rn-b : (t : ℕ) (c : read-noad-lts.After-b (read-noad-claims t) (read-noad-at t) read-noad.Post) →
     let first = c .before .before .before .before in
-    let a = first .before .before .before .before .before .args in
+    let a = first .before .before .before .before .before .before .args in
     (partReadOf (fieldAt read (a .levels) (a .s .now) (first .a .given .0 .0)) ≡ Next (c .b .given .0 .0))
     × (c .b .given .0 .0 ≤ length (a .s .now))
 rn-b t c =
-    let says = sym (c .before .before .read-field2 .ensures) ∙ c .b .given .1 in
+    let says = sym (c .before .before .read-field .ensures) ∙ c .b .given .1 in
     (says, next-in _ _ _ _ (rn-a t (c .before .before .before .before) .1) says)
 
 read-noad-returns : (t : ℕ) → read-noad-lts.Need-returns (read-noad-claims t) (read-noad-at t) read-noad.Post
 read-noad-returns t c =
-    let a = c .before .before .before .before .before .args in
+    let a = c .before .before .before .before .before .before .args in
     let says = c .enum-told .given .1 in
     says ∙ sym (noad-first (a .levels) (a .s .now) (a .kind) _ _ (rn-first t (c .before .before) ∙ says))
 
 read-noad-returns-2 : (t : ℕ) → read-noad-lts.Need-returns-2 (read-noad-claims t) (read-noad-at t) read-noad.Post
 read-noad-returns-2 t c =
     let first = c .before .before .before .before in
-    let a = first .before .before .before .before .before .args in
+    let a = first .before .before .before .before .before .before .args in
     let says = c .enum-told2 .given .1 in
-    says ∙ sym (noad-second (a .levels) (a .s .now) (a .kind) _ (rn-a t first .0) _ _ (sym (c .before .before .read-field2 .ensures) ∙ says))
+    says ∙ sym (noad-second (a .levels) (a .s .now) (a .kind) _ (rn-a t first .0) _ _ (sym (c .before .before .read-field .ensures) ∙ says))
 
 read-noad-returns-3 : (t : ℕ) → read-noad-lts.Need-returns-3 (read-noad-claims t) (read-noad-at t) read-noad.Post
 read-noad-returns-3 t c =
     let second = c .before .before .before .before in
     let first = second .before .before .before .before in
-    let a = first .before .before .before .before .before .args in
+    let a = first .before .before .before .before .before .before .args in
     let three = sym (c .before .before .has-third .ensures) ∙ c .before .if1 .taken in
-    c .read-field3 .ensures ∙ sym (noad-third (a .levels) (a .s .now) (a .kind) _ (rn-a t first .0) _ true (rn-b t second .0) three)
+    c .read-field2 .ensures ∙ sym (noad-third (a .levels) (a .s .now) (a .kind) _ (rn-a t first .0) _ true (rn-b t second .0) three)
 
 read-noad-returns-4 : (t : ℕ) → read-noad-lts.Need-returns-4 (read-noad-claims t) (read-noad-at t) read-noad.Post
 read-noad-returns-4 t c =
     let second = c .before .before .before in
     let first = second .before .before .before .before in
-    let a = first .before .before .before .before .before .args in
+    let a = first .before .before .before .before .before .before .args in
     let two = sym (c .before .has-third .ensures) ∙ c .if1 .left in
     sym (noad-third (a .levels) (a .s .now) (a .kind) _ (rn-a t first .0) _ false (rn-b t second .0) two)
 
-pub +read-choice+read-field+read-item+read-list+read-noad-spec : {M : Type 1} → statement M
-+read-choice+read-field+read-item+read-list+read-noad-spec =
-    close μ-read-choice μ-read-field μ-read-item μ-read-list μ-read-noad (λ t. read-choice-lts.spec (read-choice-claims t) (read-choice-at t) read-choice.Post read-choice-Inv-loop read-choice-μ-loop
+pub +read-choice+read-field+read-held+read-item+read-list+read-noad-spec : {M : Type 1} → statement M
++read-choice+read-field+read-held+read-item+read-list+read-noad-spec =
+    close μ-read-choice μ-read-field μ-read-held μ-read-item μ-read-list μ-read-noad (λ t. read-choice-lts.spec (read-choice-claims t) (read-choice-at t) read-choice.Post read-choice-Inv-loop read-choice-μ-loop
     (λ c. (omega (arith, opening-fits _ _ (c .before .pre .1)), choice-said _ _))
+    (λ c κs. (omega arith, c .before .loop .inv .0))
     (λ c. search needs)
     (λ c. search needs)
-    (λ c. search needs)
-    (λ c κs. search needs)
     (read-choice-returns t)
-    (λ c κs. (omega arith, c .before .before .before .before .loop .inv .0))
-    (λ c. search needs)
-    (λ c. search needs)
-    (read-choice-returns-2 t)
     (λ c. search needs)
     (λ c. omega arith)
     (read-choice-loop-again t)
@@ -390,6 +391,14 @@ pub +read-choice+read-field+read-item+read-list+read-noad-spec : {M : Type 1} �
     (read-field-returns-6 t)
     (read-field-returns-7 t)
     (λ c. sym (cut-short _ _ _ (rf-is t (c .before .before .before) _ (c .before .enum-told5 .given .1)) (omega arith))))
+    (λ t. read-held-lts.spec (read-held-claims t) (read-held-at t) read-held.Post
+    (λ c. search needs)
+    (λ c. search needs)
+    (λ c. search needs)
+    (λ c κs. search needs)
+    (λ c. sym (held-no _ _ _ _ _ (sym (c .before .is-list .ensures)) (c .if1 .taken)))
+    (λ c κs. search needs)
+    (λ c. c .read-field .ensures ∙ sym (held-yes _ _ _ _ _ (sym (c .before .before .is-list .ensures)) (c .before .if1 .left))))
     (λ t. read-item-lts.spec (read-item-claims t) (read-item-at t) read-item.Post
     (λ c κs. search needs)
     (λ c. search needs)
@@ -420,7 +429,8 @@ pub +read-choice+read-field+read-item+read-list+read-noad-spec : {M : Type 1} �
     (λ c. sym (list-done _ _ _ (c .loop-test .left) (c .before .loop .inv .1))))
     λ t. read-noad-lts.spec (read-noad-claims t) (read-noad-at t) read-noad.Post
     (λ c κs. search needs)
-    (λ c κs. (omega arith, rn-fits t c))
+    (λ c κs. search needs)
+    (λ c κs. (omega arith, rn-fits t (c .before)))
     (λ c. search needs)
     (λ c. search needs)
     (read-noad-returns t)

@@ -1,0 +1,4 @@
+-- Fences. Assumes nothing.
+pub mod Fences
+pub mod Values
+pub mod Bounds

@@ -1,0 +1,37 @@
+-- `fence_signs` meets its contract: both delimiters are searched as the list asks for them.
+-- Assumes nothing.
+use mathlib.Core.Path.{_≡_, ap₂, _∙_}
+use borrow.Author.Needs.{needs}
+use Rattle.font.specs.FontLaws.{good-records}
+use Rattle.font.specs.Font.{fontOf}
+use Rattle.boxes.specs.Parameters.{Parameters}
+use Rattle.boxes.specs.Boxes.{Size, sizeOf}
+use Rattle.boxes.specs.Values.{shapeAs}
+use Rattle.fences.specs.Fences.{fenceExtent}
+use Rattle.walk.proofs.signs.fence_signs.Statement.{statement}
+use Rattle.walk.proofs.signs.fence_signs.Tie as tie
+
+returns : tie.Need-returns
+returns c =
+    let left = c .before in
+    let size = left .before in
+    let extent = size .before in
+    let start = extent .before .before .before in
+    let a = start .args in
+    let F = fontOf (a .table .now) in
+    let needed : extent .fence-extent .result .0 ≡ fenceExtent (F .parameter) (a .style) (sizeOf (shapeAs (a .list))) =
+    extent .fence-extent .ensures .0
+    ∙ ap₂ (λ (P : Parameters) (z : Size). fenceExtent P (a .style) z) (start .pre .1) (extent .before .size-of .ensures .0) in
+    rw (c .sign-for2 .ensures, left .sign-for .ensures, size .font-size .ensures .0, needed)
+
+pub fence-signs-spec : {M : Type 1} → statement M
+fence-signs-spec =
+    tie.close
+    (tie.spec
+    (λ c κs. search needs)
+    (λ c κs. c .size-of .ensures .1 (c .before .before .pre .2))
+    (λ c κs. search needs)
+    (λ c. search needs)
+    (λ c κs. good-records _ (c .before .before .before .before .pre .0))
+    (λ c κs. good-records _ (c .before .before .before .before .before .pre .0))
+    returns)
