@@ -1,10 +1,10 @@
 /*
  * Torfianka: sets a formula by the rules of TeX's Appendix G.
  *
- * A style, a font table and a formula go in. Out come the formula's width,
- * height and depth, the number of its nodes and, when setting, the nodes.
- * All lengths are whole scaled points, 65,536 to the point. Every input has an
- * answer, and nothing is kept between calls.
+ * A style, a font table, a client's symbols over it and a formula go in. Out
+ * come the formula's width, height and depth, the number of its nodes and, when
+ * setting, the nodes. All lengths are whole scaled points, 65,536 to the point.
+ * Every input has an answer, and nothing is kept between calls.
  *
  * Link with target/staticlib/libcapi.a, which `rt staticlib capi` writes.
  */
@@ -18,20 +18,23 @@
 extern "C" {
 #endif
 
-/* What a call returns; numbers 1 to 7 are refusals, in the order tested. */
+/* What a call returns; 1 to 8 are refusals, listed in the order tested. */
 enum torfianka_number {
     TORFIANKA_ACCEPTED = 0,
     TORFIANKA_BAD_STYLE = 1,   /* the style is above 7 */
     TORFIANKA_BAD_TABLE = 2,   /* the font table breaks a rule of its format */
+    TORFIANKA_BAD_CLIENT = 8,  /* the client's table breaks a rule, has over 512
+                                  records, or makes a chain of successors over
+                                  both tables of more than sixteen steps */
     TORFIANKA_UNREADABLE = 3,  /* the formula has over 4,096 bytes (place 0), or
                                   an item can't be read (its first byte; the
                                   innermost such item) */
     TORFIANKA_TOO_DEEP = 4,    /* a list at depth 17 (its kind byte) */
     TORFIANKA_NO_SYMBOL = 5,   /* a symbol, or a successor that the rules take,
-                                  isn't in the table (the field's kind byte);
-                                  of a root's sign, of a fence's delimiters
-                                  and of lists that a C4 doesn't take nothing
-                                  is missed */
+                                  isn't in either table (the field's kind
+                                  byte); of a root's sign, of a fence's
+                                  delimiters and of lists that a C4 doesn't
+                                  take nothing is missed */
     TORFIANKA_TOO_LARGE = 6,   /* a list's size, or a node's x or y seen from a
                                   list around it, passes 1,073,741,823 */
     TORFIANKA_NO_ROOM = 7,     /* setting only: nodes_len is less than 18 bytes
@@ -71,6 +74,10 @@ enum { TORFIANKA_NODE_BYTES = 18 };
  *
  *   style        0 to 7: D, D', T, T', S, S', SS, SS' (' is cramped)
  *   table        the font table's table_len bytes
+ *   client       the client_len bytes of a client's table: character records
+ *                alone, in rising order. A symbol, and each successor, is looked
+ *                up there first and then in the font table; parameters are the
+ *                font table's. Length 0 is no client.
  *   formula      the formula's formula_len bytes
  *   answer       answer_len words, of which the first five receive place,
  *                width, height, depth and count; of a refusal its place and
@@ -80,10 +87,12 @@ enum { TORFIANKA_NODE_BYTES = 18 };
  * Returns a number of torfianka_number, never TORFIANKA_NO_ROOM.
  *
  * The memory lent by pointers must not overlap. A pointer lent with length 0
- * is not followed, but must be aligned and not null.
+ * is not followed, but must be aligned and not null; client alone may be null
+ * then.
  */
 uint8_t torfianka_measure(uint8_t style,
                           const uint8_t *table, size_t table_len,
+                          const uint8_t *client, size_t client_len,
                           const uint8_t *formula, size_t formula_len,
                           int64_t *answer, size_t answer_len);
 
@@ -99,6 +108,7 @@ uint8_t torfianka_measure(uint8_t style,
  */
 uint8_t torfianka_set(uint8_t style,
                       const uint8_t *table, size_t table_len,
+                      const uint8_t *client, size_t client_len,
                       const uint8_t *formula, size_t formula_len,
                       uint8_t *nodes, size_t nodes_len,
                       int64_t *answer, size_t answer_len);

@@ -3,7 +3,7 @@
 use crate::formulas::{
     chosen, double_searches, empty_choices, flat, nested, searches, typical, Alphabet, PHRASE_BYTES,
 };
-use crate::tables::{Font, BENCH, CHAINED, FONTS, UNCHAINED};
+use crate::tables::{Font, BENCH, CHAINED, CHAINED_HIDDEN, CM_HIDDEN, FONTS, UNCHAINED};
 use crate::work::{Call, Work};
 
 pub const LONGEST: usize = 4096;
@@ -34,7 +34,7 @@ const OVER_A_FONT: [Row; 6] = [
 ];
 
 /// Over one table each.
-const OVER_ONE: [(OneFont, Row); 6] = [
+const OVER_ONE: [(OneFont, Row); 11] = [
     (
         || &BENCH,
         ("4,088 bytes, empty choices", Call::Set, EMPTY_CHOICES),
@@ -49,6 +49,14 @@ const OVER_ONE: [(OneFont, Row); 6] = [
     (
         || &CHAINED,
         ("4,095 bytes, fences", Call::Set, DOUBLE_SEARCHES),
+    ),
+    (|| &CM_HIDDEN, ("typical", Call::Measure, typical)),
+    (|| &CM_HIDDEN, ("typical", Call::Set, typical)),
+    (|| &CM_HIDDEN, ("4,096 bytes, flat", Call::Set, FLAT)),
+    (|| &CHAINED_HIDDEN, ("no bytes", Call::Set, NOTHING)),
+    (
+        || &CHAINED_HIDDEN,
+        ("4,095 bytes, roots", Call::Set, SEARCHES),
     ),
 ];
 
@@ -68,5 +76,5 @@ pub fn row(number: usize) -> Work {
         }
     };
     let name = format!("{what} | {} | {call:?}", font.name);
-    Work::new(name, call, font.table, formulas(&font.alphabet))
+    Work::new(name, call, font, formulas(&font.alphabet))
 }

@@ -39,15 +39,17 @@ pub fn print() {
 /// What a formula of this depth takes: the call's frames and its return address;
 /// its arguments are the caller's.
 fn stack_bytes(call: Call, depth: usize) -> usize {
-    let table = BENCH.table;
+    let (table, client) = (BENCH.table, BENCH.client);
     let formula = nested(&BENCH.alphabet, LONGEST, depth);
-    let mut nodes = vec![0; room(table, std::slice::from_ref(&formula))];
+    let mut nodes = vec![0; room(&BENCH, std::slice::from_ref(&formula))];
     let mut answer = [0; sys::ANSWER_WORDS];
 
     let lent = [
         DISPLAY as usize,
         table.as_ptr() as usize,
         table.len(),
+        client.as_ptr() as usize,
+        client.len(),
         formula.as_ptr() as usize,
         formula.len(),
     ];

@@ -52,7 +52,7 @@ fn print_speeds(jobs: &[Job]) {
 fn share_jobs() -> Vec<Job> {
     let over = |font: &'static Font| {
         [vec![Vec::new()], typical(&font.alphabet)]
-            .map(|formulas| Job::new(Work::new(font.name, Call::Set, font.table, formulas)))
+            .map(|formulas| Job::new(Work::new(font.name, Call::Set, font, formulas)))
     };
     FONTS.into_iter().flat_map(over).collect()
 }
@@ -80,7 +80,7 @@ fn growth_jobs() -> Vec<Job> {
     let job = |bytes: usize| {
         let formula = flat(&BENCH.alphabet, bytes);
         let name = grouped(bytes as f64);
-        Job::new(Work::new(name, Call::Set, BENCH.table, vec![formula]))
+        Job::new(Work::new(name, Call::Set, &BENCH, vec![formula]))
     };
     lengths().map(job).collect()
 }
@@ -116,7 +116,7 @@ fn forms() -> [(&'static str, Vec<u8>); 3] {
 
 fn form_jobs() -> Vec<Job> {
     let job = |(name, formula): (&str, Vec<u8>)| {
-        Job::new(Work::new(name, Call::Set, BENCH.table, vec![formula]))
+        Job::new(Work::new(name, Call::Set, &BENCH, vec![formula]))
     };
     forms().into_iter().map(job).collect()
 }

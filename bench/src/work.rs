@@ -1,5 +1,6 @@
-//! Formulas to set over a font table, by either setter.
+//! Formulas to set in a font, by either setter.
 
+use crate::tables::Font;
 use reference::NODE_BYTES;
 use std::hint::black_box;
 
@@ -34,26 +35,28 @@ impl Setter {
     }
 
     /// The number of the formula's nodes, none if it is refused.
-    fn call(self, call: Call, table: &[u8], formula: &[u8], nodes: &mut [u8]) -> Option<usize> {
+    fn call(self, call: Call, font: &Font, formula: &[u8], nodes: &mut [u8]) -> Option<usize> {
         match self {
-            Setter::Library => by_library(call, table, formula, nodes),
-            Setter::Reference => by_reference(call, table, formula, nodes),
+            Setter::Library => by_library(call, font, formula, nodes),
+            Setter::Reference => by_reference(call, font, formula, nodes),
         }
     }
 }
 
-fn by_library(call: Call, table: &[u8], formula: &[u8], nodes: &mut [u8]) -> Option<usize> {
+fn by_library(call: Call, font: &Font, formula: &[u8], nodes: &mut [u8]) -> Option<usize> {
+    let font = torfianka::Font::with_client(font.table, font.client);
     let answer = match call {
-        Call::Measure => torfianka::measure(DISPLAY, table, formula),
-        Call::Set => torfianka::set(DISPLAY, table, formula, nodes),
+        Call::Measure => torfianka::measure(DISPLAY, &font, formula),
+        Call::Set => torfianka::set(DISPLAY, &font, formula, nodes),
     };
     answer.ok().map(|measured| measured.count)
 }
 
-fn by_reference(call: Call, table: &[u8], formula: &[u8], nodes: &mut [u8]) -> Option<usize> {
+fn by_reference(call: Call, font: &Font, formula: &[u8], nodes: &mut [u8]) -> Option<usize> {
+    let Font { table, client, .. } = font;
     let answer = match call {
-        Call::Measure => reference::measure(DISPLAY, table, formula),
-        Call::Set => reference::set(DISPLAY, table, formula, nodes),
+        Call::Measure => reference::measure(DISPLAY, table, client, formula),
+        Call::Set => reference::set(DISPLAY, table, client, formula, nodes),
     };
     (answer.number == 0).then_some(answer.count as usize)
 }
@@ -61,7 +64,7 @@ fn by_reference(call: Call, table: &[u8], formula: &[u8], nodes: &mut [u8]) -> O
 pub struct Work {
     pub name: String,
     call: Call,
-    table: &'static [u8],
+    font: &'static Font,
     formulas: Vec<Vec<u8>>,
     nodes: Vec<u8>,
 }
@@ -70,14 +73,14 @@ impl Work {
     pub fn new(
         name: impl Into<String>,
         call: Call,
-        table: &'static [u8],
+        font: &'static Font,
         formulas: Vec<Vec<u8>>,
     ) -> Work {
         Work {
             name: name.into(),
             call,
-            table,
-            nodes: vec![0; room(table, &formulas)],
+            font,
+            nodes: vec![0; room(font, &formulas)],
             formulas,
         }
     }
@@ -89,10 +92,10 @@ impl Work {
 
     /// Every turn calls the setter once for each formula.
     pub fn run(&mut self, setter: Setter, turns: usize) {
-        let (table, nodes) = (black_box(self.table), &mut self.nodes);
+        let (font, nodes) = (black_box(self.font), &mut self.nodes);
         for _ in 0..turns {
             for formula in &self.formulas {
-                black_box(setter.call(self.call, table, black_box(formula), nodes));
+                black_box(setter.call(self.call, font, black_box(formula), nodes));
             }
         }
     }
@@ -100,10 +103,10 @@ impl Work {
 
 /// The bytes of each formula's nodes at most, after a look that both setters
 /// accept it.
-pub fn room(table: &[u8], formulas: &[Vec<u8>]) -> usize {
+pub fn room(font: &Font, formulas: &[Vec<u8>]) -> usize {
     let counts = formulas.iter().map(|formula| {
         let [library, reference] =
-            Setter::BOTH.map(|setter| setter.call(Call::Measure, table, formula, &mut []));
+            Setter::BOTH.map(|setter| setter.call(Call::Measure, font, formula, &mut []));
         assert_eq!(library, reference, "both setters count the same nodes");
         library.expect("the formulas are accepted")
     });

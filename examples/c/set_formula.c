@@ -1,10 +1,12 @@
 /*
  * Sets a stored record over a font table and prints its sizes and nodes.
  *
- *   set_formula TABLE RECORD
+ *   set_formula TABLE RECORD [--client CLIENT]
  *
- * A record is a style byte and a formula. An empty record is refused as style,
- * a table that can't be read as table. The status is 1 for a refusal.
+ * A record is a style byte and a formula; a client's table has symbols that go
+ * before the font table's. An empty record is refused as style, a font table
+ * that can't be read as table. The status is 1 for a refusal, 2 if a client's
+ * table can't be read.
  */
 #include <inttypes.h>
 #include <stdio.h>
@@ -33,22 +35,36 @@ static uint8_t *allocated(size_t length)
     return start;
 }
 
-/* What can't be read is empty. */
+/* Null if it can't be read. */
 static struct bytes read_file(const char *path)
 {
-    struct bytes none = {allocated(0), 0};
+    struct bytes read = {NULL, 0};
     FILE *file = fopen(path, "rb");
     if (file == NULL)
-        return none;
+        return read;
     long end = fseek(file, 0, SEEK_END) == 0 ? ftell(file) : -1;
-    if (end < 0 || fseek(file, 0, SEEK_SET) != 0) {
-        fclose(file);
-        return none;
+    if (end >= 0 && fseek(file, 0, SEEK_SET) == 0) {
+        read.start = allocated((size_t)end);
+        read.length = fread(read.start, 1, (size_t)end, file);
     }
-    struct bytes read = {allocated((size_t)end), 0};
-    read.length = fread(read.start, 1, (size_t)end, file);
     fclose(file);
-    free(none.start);
+    return read;
+}
+
+/* What can't be read is empty. */
+static struct bytes read_or_empty(const char *path)
+{
+    struct bytes read = read_file(path);
+    if (read.start == NULL)
+        read.start = allocated(0);
+    return read;
+}
+
+static struct bytes read_or_fail(const char *path)
+{
+    struct bytes read = read_file(path);
+    if (read.start == NULL)
+        fail(path);
     return read;
 }
 
@@ -80,36 +96,42 @@ static void print_answer(const int64_t *answer, const uint8_t *nodes)
 }
 
 /* Measures for the room, then sets; the nodes are the caller's to free. */
-static uint8_t set(uint8_t style, struct bytes table, struct bytes formula, uint8_t **nodes,
-                   int64_t *answer)
+static uint8_t set(uint8_t style, struct bytes table, struct bytes client, struct bytes formula,
+                   uint8_t **nodes, int64_t *answer)
 {
-    torfianka_measure(style, table.start, table.length, formula.start, formula.length, answer,
-                      TORFIANKA_ANSWER_WORDS);
+    torfianka_measure(style, table.start, table.length, client.start, client.length,
+                      formula.start, formula.length, answer, TORFIANKA_ANSWER_WORDS);
     size_t room = (size_t)answer[TORFIANKA_COUNT] * TORFIANKA_NODE_BYTES;
     *nodes = allocated(room);
-    return torfianka_set(style, table.start, table.length, formula.start, formula.length, *nodes,
-                         room, answer, TORFIANKA_ANSWER_WORDS);
+    return torfianka_set(style, table.start, table.length, client.start, client.length,
+                         formula.start, formula.length, *nodes, room, answer,
+                         TORFIANKA_ANSWER_WORDS);
 }
 
 int main(int argc, char **argv)
 {
-    if (argc != 3) {
-        fprintf(stderr, "usage: set_formula TABLE RECORD\n");
+    int has_client = argc == 5 && strcmp(argv[3], "--client") == 0;
+    if (argc != 3 && !has_client) {
+        fprintf(stderr, "usage: set_formula TABLE RECORD [--client CLIENT]\n");
         return 2;
     }
-    struct bytes table = read_file(argv[1]), record = read_file(argv[2]);
+    struct bytes table = read_or_empty(argv[1]), record = read_or_empty(argv[2]);
+    struct bytes client = {NULL, 0};
+    if (has_client)
+        client = read_or_fail(argv[4]);
     uint8_t style = record.length > 0 ? record.start[0] : UINT8_MAX;
     size_t taken = record.length > 0;
     struct bytes formula = {record.start + taken, record.length - taken};
 
     uint8_t *nodes;
     int64_t answer[TORFIANKA_ANSWER_WORDS];
-    uint8_t number = set(style, table, formula, &nodes, answer);
+    uint8_t number = set(style, table, client, formula, &nodes, answer);
     if (number == TORFIANKA_ACCEPTED)
         print_answer(answer, nodes);
     else
         printf("refused %d at %" PRId64 "\n", number, answer[TORFIANKA_PLACE]);
     free(nodes);
+    free(client.start);
     free(record.start);
     free(table.start);
     return number != TORFIANKA_ACCEPTED;

@@ -1,20 +1,20 @@
 //! Sets formulas by the rules of TeX's Appendix G.
 //!
-//! A style, a font table and a formula go in as bytes; sizes and nodes come
-//! out. Lengths are whole scaled points, 65,536 to the point.
+//! A style, a font and a formula go in as bytes; sizes and nodes come out.
+//! Lengths are whole scaled points, 65,536 to the point.
 //!
 //! ```
-//! use torfianka::{measure, nodes, set, Node, NODE_BYTES};
+//! use torfianka::{measure, nodes, set, Font, Node, NODE_BYTES};
 //!
-//! let table = include_bytes!("../../../data/bench.tab");
+//! let font = Font::new(include_bytes!("../../../data/bench.tab"));
 //! let formula = b"UN\x01\x01a\x00\x00"; // an underlined a
 //! let text_style = 2;
 //!
-//! let measured = measure(text_style, table, formula)?;
+//! let measured = measure(text_style, &font, formula)?;
 //! assert_eq!((measured.width, measured.height, measured.depth), (500, 430, 200));
 //!
 //! let mut buffer = vec![0; NODE_BYTES * measured.count];
-//! set(text_style, table, formula, &mut buffer)?;
+//! set(text_style, &font, formula, &mut buffer)?;
 //! let set: Vec<Node> = nodes(&buffer).collect();
 //! assert_eq!(set[0], Node::Glyph { x: 0, y: 0, size: 0, family: 1, code: b'a' });
 //! assert_eq!(set[1], Node::Rule { x: 0, y: -160, width: 500, thickness: 40 });
@@ -29,6 +29,26 @@ pub use node::{nodes, Node, NODE_BYTES};
 use std::error::Error;
 use std::fmt;
 
+/// The tables that symbols are looked up in.
+#[derive(Clone, Copy, Debug)]
+pub struct Font<'a> {
+    table: &'a [u8],
+    client: &'a [u8],
+}
+
+impl<'a> Font<'a> {
+    /// A font table alone.
+    pub fn new(table: &'a [u8]) -> Font<'a> {
+        Font { table, client: &[] }
+    }
+
+    /// A font table and a client's, whose symbols go before the others. It has
+    /// character records alone; an empty one is none.
+    pub fn with_client(table: &'a [u8], client: &'a [u8]) -> Font<'a> {
+        Font { table, client }
+    }
+}
+
 /// The sizes of an accepted formula and the number of its nodes.
 #[derive(Clone, Copy, Debug, PartialEq, Eq)]
 pub struct Measured {
@@ -39,15 +59,16 @@ pub struct Measured {
     pub count: usize,
 }
 
-/// Why a formula was not accepted.
+/// Why a formula was not accepted, in the order tested.
 ///
 /// | number | given when | place |
 /// |---|---|---|
 /// | 1 | the style is above 7 | 0 |
 /// | 2 | the font table breaks a rule of its format | 0 |
+/// | 8 | the client's table breaks a rule, has over 512 records, or makes a chain over both tables of more than sixteen steps | 0 |
 /// | 3 | the formula has over 4,096 bytes (place 0), or an item can't be read | the innermost such item's first byte |
 /// | 4 | a list at depth 17 | its kind byte |
-/// | 5 | a symbol, or a successor the rules take, isn't in the table; of a root's sign, of a fence's delimiters and of lists that a C4 doesn't take nothing is missed | the field's kind byte |
+/// | 5 | a symbol, or a successor the rules take, isn't in either table; of a root's sign, of a fence's delimiters and of lists that a C4 doesn't take nothing is missed | the field's kind byte |
 /// | 6 | a list's size, or a node's x or y seen from a list around it, passes 1,073,741,823 | 0 |
 /// | 7 | setting only: the buffer is shorter than [`NODE_BYTES`] for each node | 0 |
 #[derive(Clone, Copy, Debug, PartialEq, Eq)]
@@ -68,7 +89,8 @@ impl Error for Refusal {}
 /// Finds the sizes of a formula and the number of its nodes.
 ///
 /// `style` is 0 to 7 for D, D', T, T', S, S', SS, SS'.
-pub fn measure(style: u8, table: &[u8], formula: &[u8]) -> Result<Measured, Refusal> {
+pub fn measure(style: u8, font: &Font, formula: &[u8]) -> Result<Measured, Refusal> {
+    let Font { table, client } = *font;
     let mut answer = Words::default();
     // SAFETY: every pointer is a slice's, with that slice's length; the ones
     // written through are borrowed alone.
@@ -77,6 +99,8 @@ pub fn measure(style: u8, table: &[u8], formula: &[u8]) -> Result<Measured, Refu
             style,
             table.as_ptr(),
             table.len(),
+            client.as_ptr(),
+            client.len(),
             formula.as_ptr(),
             formula.len(),
             answer.as_mut_ptr(),
@@ -89,7 +113,8 @@ pub fn measure(style: u8, table: &[u8], formula: &[u8]) -> Result<Measured, Refu
 /// Measures, and writes the nodes to the front of `nodes`.
 ///
 /// The bytes past the nodes, and on a refusal all of them, stay as they are.
-pub fn set(style: u8, table: &[u8], formula: &[u8], nodes: &mut [u8]) -> Result<Measured, Refusal> {
+pub fn set(style: u8, font: &Font, formula: &[u8], nodes: &mut [u8]) -> Result<Measured, Refusal> {
+    let Font { table, client } = *font;
     let mut answer = Words::default();
     // SAFETY: as in `measure`.
     let number = unsafe {
@@ -97,6 +122,8 @@ pub fn set(style: u8, table: &[u8], formula: &[u8], nodes: &mut [u8]) -> Result<
             style,
             table.as_ptr(),
             table.len(),
+            client.as_ptr(),
+            client.len(),
             formula.as_ptr(),
             formula.len(),
             nodes.as_mut_ptr(),

@@ -1,12 +1,18 @@
 //! Calls through the safe functions, over the bench table.
 
-use torfianka::{measure, nodes, set, Measured, Refusal, NODE_BYTES};
+use torfianka::{measure, nodes, set, Font, Measured, Refusal, NODE_BYTES};
 
 const TABLE: &[u8] = include_bytes!("../../../data/bench.tab");
+/// The a of the bench table at text size, wider.
+const WIDE_A: &[u8] = b"CH\x00\x01a\x00\x00\xbc\x02\0\0\xae\x01\0\0\0\0\0\0\0\0\0\0";
 const DISPLAY: u8 = 0;
 const TEXT: u8 = 2;
 const UNDERLINED: &[u8] = b"UN\x01\x01a\x00\x00";
 const FILLING: u8 = 0xA5;
+
+fn font() -> Font<'static> {
+    Font::new(TABLE)
+}
 
 #[test]
 fn an_empty_formula_has_no_nodes() {
@@ -16,15 +22,15 @@ fn an_empty_formula_has_no_nodes() {
         depth: 0,
         count: 0,
     };
-    assert_eq!(measure(TEXT, TABLE, &[]), Ok(nothing));
-    assert_eq!(set(TEXT, TABLE, &[], &mut []), Ok(nothing));
+    assert_eq!(measure(TEXT, &font(), &[]), Ok(nothing));
+    assert_eq!(set(TEXT, &font(), &[], &mut []), Ok(nothing));
 }
 
 #[test]
 fn an_underlined_letter_has_the_bytes_of_the_papers() {
     let mut buffer = [FILLING; 2 * NODE_BYTES + 1];
-    let measured = set(TEXT, TABLE, UNDERLINED, &mut buffer);
-    assert_eq!(measured, measure(TEXT, TABLE, UNDERLINED));
+    let measured = set(TEXT, &font(), UNDERLINED, &mut buffer);
+    assert_eq!(measured, measure(TEXT, &font(), UNDERLINED));
     assert_eq!(
         buffer,
         *b"GL\0\0\0\0\0\0\0\0\0\x01a\0\0\0\0\0\
@@ -36,7 +42,7 @@ fn an_underlined_letter_has_the_bytes_of_the_papers() {
 fn a_sum_takes_its_successor_and_limits_in_display_style() {
     let formula = b"AT\x01\x00\x01\x03\x50\x00\x01\x01a";
     let mut buffer = [0; 2 * NODE_BYTES];
-    let measured = set(DISPLAY, TABLE, formula, &mut buffer).unwrap();
+    let measured = set(DISPLAY, &font(), formula, &mut buffer).unwrap();
     let sizes = (measured.width, measured.height, measured.depth);
     assert_eq!(sizes, (1400, 950, 1150));
     let lines: Vec<String> = nodes(&buffer).map(|node| node.to_string()).collect();
@@ -44,20 +50,32 @@ fn a_sum_takes_its_successor_and_limits_in_display_style() {
 }
 
 #[test]
+fn a_clients_symbol_goes_before_ours() {
+    let width = |client| measure(TEXT, &Font::with_client(TABLE, client), UNDERLINED);
+    assert_eq!(width(WIDE_A).unwrap().width, 700);
+    assert_eq!(width(&[]), measure(TEXT, &font(), UNDERLINED));
+    let cut = width(&WIDE_A[1..]).unwrap_err();
+    assert_eq!((cut.number, cut.place), (8, 0));
+}
+
+#[test]
 fn refusals_have_number_and_place() {
     let refused = |number, place| Err(Refusal { number, place });
     let absent = b"UN\x01\x01b\x00\x00";
-    assert_eq!(measure(8, TABLE, UNDERLINED), refused(1, 0));
-    assert_eq!(measure(TEXT, &TABLE[1..], UNDERLINED), refused(2, 0));
-    assert_eq!(measure(TEXT, TABLE, &UNDERLINED[..6]), refused(3, 0));
-    assert_eq!(measure(TEXT, TABLE, absent), refused(5, 2));
+    assert_eq!(measure(8, &font(), UNDERLINED), refused(1, 0));
+    assert_eq!(
+        measure(TEXT, &Font::new(&TABLE[1..]), UNDERLINED),
+        refused(2, 0)
+    );
+    assert_eq!(measure(TEXT, &font(), &UNDERLINED[..6]), refused(3, 0));
+    assert_eq!(measure(TEXT, &font(), absent), refused(5, 2));
     assert_eq!(refused(5, 2).unwrap_err().to_string(), "refused 5 at 2");
 }
 
 #[test]
 fn a_short_buffer_stays_as_it_is() {
     let mut buffer = [FILLING; 2 * NODE_BYTES - 1];
-    let answer = set(TEXT, TABLE, UNDERLINED, &mut buffer);
+    let answer = set(TEXT, &font(), UNDERLINED, &mut buffer);
     assert_eq!(answer.unwrap_err().number, 7);
     assert_eq!(buffer, [FILLING; 2 * NODE_BYTES - 1]);
 }

@@ -1,6 +1,6 @@
 -- Measuring and setting answer the same, but for refusal 7: setting refuses 7 exactly where measuring accepts and the buffer
--- is shorter than 18 bytes for each node counted, and answers as measuring does otherwise. For every style, table, formula
--- and number of bytes in the buffer; and so for a list between any two sides.
+-- is shorter than 18 bytes for each node counted, and answers as measuring does otherwise. For every style, table, client's
+-- table, formula and number of bytes in the buffer; and so for a list between any two sides.
 -- Assumes nothing.
 use mathlib.Core.Path.{_≡_, refl}
 use mathlib.Core.Bool.{Bool, true, false}
@@ -10,8 +10,8 @@ use Prim.Native.Nat.{ℕ, _*_, _<_}
 use native.Mathlib.Omega.{arith}
 use lib.ListN.{length}
 use borrow.Author.Tests.{leb-true, leb-false}
-use Rattle.font.specs.Table.{goodTable}
-use Rattle.font.specs.Font.{Font, fontOf}
+use Rattle.font.specs.Table.{goodTable, goodClient}
+use Rattle.font.specs.Font.{Font, fontWith}
 use Rattle.formula.specs.declared.Fault.the-variants.{Unreadable, TooDeep}
 use Rattle.formula.specs.Tree.{Items}
 use Rattle.formula.specs.Reading.{Read, good, fault, readFormula}
@@ -21,13 +21,13 @@ use Rattle.nodes.specs.Nodes.{bytesInNode}
 use Rattle.setting.specs.Setting.{Box, Sides, noSides, setList}
 use Rattle.setting.specs.Missing.{missingItems}
 use Rattle.setting.specs.Fitting.{listFits}
-use Rattle.answers.specs.Answers.{Result, boxed, refused, ifFits, ifPresent, ifRead, ifGood, ifStyle, resultBetween, Answered, accepted, refusal, measuredBy, measured, measuredBetween, hasRoom, setBy, setting, settingBetween, acceptedNumber, noRoomNumber}
+use Rattle.answers.specs.Answers.{Result, boxed, refused, ifFits, ifPresent, ifRead, ifClient, ifGood, ifStyle, resultBetween, Answered, accepted, refusal, measuredBy, measured, measuredBetween, hasRoom, setBy, setting, settingBetween, acceptedNumber, noRoomNumber}
 
 -- ---- a refusal before the test of room has neither the number of an acceptance nor that of this test
 
 abbrev RefusedBefore : Result → Type 0
 RefusedBefore (boxed b) = Unit {0}
-RefusedBefore (refused number place) = (acceptedNumber < number) × (number < noRoomNumber)
+RefusedBefore (refused number place) = (number ≡ acceptedNumber → ⊥) × (number ≡ noRoomNumber → ⊥)
 
 fits-before : (t : Bool) (b : Box) → RefusedBefore (ifFits t b)
 unfolding ifFits
@@ -46,19 +46,25 @@ module _ (sides : Sides) where
   read-before F s (fault Unreadable place) = omega arith
   read-before F s (fault TooDeep place) = omega arith
 
-  good-before : (t : Bool) (F : Font) (s : Style) (r : Read) → RefusedBefore (ifGood t F sides s r)
+  client-before : (t : Bool) (F : Font) (s : Style) (r : Read) → RefusedBefore (ifClient t F sides s r)
+  unfolding ifClient
+  client-before true F s r = read-before F s r
+  client-before false F s r = omega arith
+
+  good-before : (t c : Bool) (F : Font) (s : Style) (r : Read) → RefusedBefore (ifGood t c F sides s r)
   unfolding ifGood
-  good-before true F s r = read-before F s r
-  good-before false F s r = omega arith
+  good-before true c F s r = client-before c F s r
+  good-before false c F s r = omega arith
 
-  style-before : (table formula : List ℕ) (s : Option Style) → RefusedBefore (ifStyle sides table formula s)
+  style-before : (table client formula : List ℕ) (s : Option Style) → RefusedBefore (ifStyle sides table client formula s)
   unfolding ifStyle
-  style-before table formula none = omega arith
-  style-before table formula (some s) = good-before (goodTable table) (fontOf table) s (readFormula formula)
+  style-before table client formula none = omega arith
+  style-before table client formula (some s) =
+      good-before (goodTable table) (goodClient table client) (fontWith table client) s (readFormula formula)
 
-  result-before : (style : ℕ) (table formula : List ℕ) → RefusedBefore (resultBetween sides style table formula)
+  result-before : (style : ℕ) (table client formula : List ℕ) → RefusedBefore (resultBetween sides style table client formula)
   unfolding resultBetween
-  result-before style table formula = style-before table formula (styleOf style)
+  result-before style table client formula = style-before table client formula (styleOf style)
 
 -- ---- measuring and setting
 
@@ -98,12 +104,12 @@ by-result (refused number place) room h =
       same = λ k. refl;
     }
 
-agree-between : (sides : Sides) (style : ℕ) (table formula : List ℕ) (room : ℕ) →
-    Agrees (measuredBetween sides style table formula) (settingBetween sides style table formula room) room
+agree-between : (sides : Sides) (style : ℕ) (table client formula : List ℕ) (room : ℕ) →
+    Agrees (measuredBetween sides style table client formula) (settingBetween sides style table client formula room) room
 unfolding measuredBetween settingBetween
-agree-between sides style table formula room =
-    by-result (resultBetween sides style table formula) room (result-before sides style table formula)
+agree-between sides style table client formula room =
+    by-result (resultBetween sides style table client formula) room (result-before sides style table client formula)
 
-measuring-and-setting-agree : (style : ℕ) (table formula : List ℕ) (room : ℕ) →
-    Agrees (measured style table formula) (setting style table formula room) room
+measuring-and-setting-agree : (style : ℕ) (table client formula : List ℕ) (room : ℕ) →
+    Agrees (measured style table client formula) (setting style table client formula room) room
 measuring-and-setting-agree = agree-between noSides

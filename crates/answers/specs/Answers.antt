@@ -8,8 +8,8 @@ use mathlib.Core.Option.{Option, none, some}
 use Prim.Native.Nat.{ℕ, _*_}
 use lib.Dec.{leb}
 use lib.ListN.{length, drop}
-use Rattle.font.specs.Table.{goodTable}
-use Rattle.font.specs.Font.{Font, fontOf}
+use Rattle.font.specs.Table.{goodTable, goodClient}
+use Rattle.font.specs.Font.{Font, fontWith}
 use Rattle.formula.specs.declared.Fault.{Fault}
 use Rattle.formula.specs.declared.Fault.the-variants.{Unreadable, TooDeep}
 use Rattle.formula.specs.Tree.{Items}
@@ -47,6 +47,10 @@ tooLargeNumber = 6
 abbrev pub noRoomNumber : ℕ
 noRoomNumber = 7
 
+-- tested right after the table
+abbrev pub clientNumber : ℕ
+clientNumber = 8
+
 -- ---- what is found: the box, or the number and place of the refusal
 
 pub data Result : Type 0 where
@@ -68,21 +72,27 @@ unfoldable pub ifRead : Font → Sides → Style → Read → Result
 ifRead F sides s (good l) = ifPresent F sides s l (missingItems F s l)
 ifRead F sides s (fault why place) = refused (faultNumber why) place
 
+-- 8
+unfoldable pub ifClient : Bool → Font → Sides → Style → Read → Result
+ifClient true F sides s r = ifRead F sides s r
+ifClient false F sides s r = refused clientNumber 0
+
 -- 2
-unfoldable pub ifGood : Bool → Font → Sides → Style → Read → Result
-ifGood true F sides s r = ifRead F sides s r
-ifGood false F sides s r = refused tableNumber 0
+unfoldable pub ifGood : Bool → Bool → Font → Sides → Style → Read → Result
+ifGood true client F sides s r = ifClient client F sides s r
+ifGood false client F sides s r = refused tableNumber 0
 
 -- 1
-unfoldable pub ifStyle : Sides → List ℕ → List ℕ → Option Style → Result
-ifStyle sides table formula none = refused styleNumber 0
-ifStyle sides table formula (some s) = ifGood (goodTable table) (fontOf table) sides s (readFormula formula)
+unfoldable pub ifStyle : Sides → List ℕ → List ℕ → List ℕ → Option Style → Result
+ifStyle sides table client formula none = refused styleNumber 0
+ifStyle sides table client formula (some s) =
+    ifGood (goodTable table) (goodClient table client) (fontWith table client) sides s (readFormula formula)
 
-unfoldable pub resultBetween : Sides → ℕ → List ℕ → List ℕ → Result
-resultBetween sides style table formula = ifStyle sides table formula (styleOf style)
+unfoldable pub resultBetween : Sides → ℕ → List ℕ → List ℕ → List ℕ → Result
+resultBetween sides style table client formula = ifStyle sides table client formula (styleOf style)
 
-abbrev pub resultOf : ℕ → List ℕ → List ℕ → Result
-resultOf style table formula = resultBetween noSides style table formula
+abbrev pub resultOf : ℕ → List ℕ → List ℕ → List ℕ → Result
+resultOf style table client formula = resultBetween noSides style table client formula
 
 -- ---- the answers
 
@@ -103,11 +113,11 @@ unfoldable pub measuredBy : Result → Answered
 measuredBy (boxed b) = accepted b
 measuredBy (refused number place) = refusal number place
 
-unfoldable pub measuredBetween : Sides → ℕ → List ℕ → List ℕ → Answered
-measuredBetween sides style table formula = measuredBy (resultBetween sides style table formula)
+unfoldable pub measuredBetween : Sides → ℕ → List ℕ → List ℕ → List ℕ → Answered
+measuredBetween sides style table client formula = measuredBy (resultBetween sides style table client formula)
 
-abbrev pub measured : ℕ → List ℕ → List ℕ → Answered
-measured style table formula = measuredBetween noSides style table formula
+abbrev pub measured : ℕ → List ℕ → List ℕ → List ℕ → Answered
+measured style table client formula = measuredBetween noSides style table client formula
 
 -- 7: whether a buffer of this many bytes has room for the nodes of a box
 unfoldable pub hasRoom : ℕ → Box → Bool
@@ -117,11 +127,11 @@ unfoldable pub setBy : ℕ → Result → Answered
 setBy room (boxed b) = elim (hasRoom room b) [ true ↦ accepted b | false ↦ refusal noRoomNumber 0 ]
 setBy room (refused number place) = refusal number place
 
-unfoldable pub settingBetween : Sides → ℕ → List ℕ → List ℕ → ℕ → Answered
-settingBetween sides style table formula room = setBy room (resultBetween sides style table formula)
+unfoldable pub settingBetween : Sides → ℕ → List ℕ → List ℕ → List ℕ → ℕ → Answered
+settingBetween sides style table client formula room = setBy room (resultBetween sides style table client formula)
 
-abbrev pub setting : ℕ → List ℕ → List ℕ → ℕ → Answered
-setting style table formula room = settingBetween noSides style table formula room
+abbrev pub setting : ℕ → List ℕ → List ℕ → List ℕ → ℕ → Answered
+setting style table client formula room = settingBetween noSides style table client formula room
 
 -- an acceptance writes the nodes at the buffer's front, a refusal nothing
 unfoldable pub bufferBy : List ℕ → Result → List ℕ
@@ -132,8 +142,8 @@ bufferBy buffer (boxed b) =
     ]
 bufferBy buffer (refused number place) = buffer
 
-unfoldable pub bufferBetween : Sides → ℕ → List ℕ → List ℕ → List ℕ → List ℕ
-bufferBetween sides style table formula buffer = bufferBy buffer (resultBetween sides style table formula)
+unfoldable pub bufferBetween : Sides → ℕ → List ℕ → List ℕ → List ℕ → List ℕ → List ℕ
+bufferBetween sides style table client formula buffer = bufferBy buffer (resultBetween sides style table client formula)
 
-abbrev pub bufferAfter : ℕ → List ℕ → List ℕ → List ℕ → List ℕ
-bufferAfter style table formula buffer = bufferBetween noSides style table formula buffer
+abbrev pub bufferAfter : ℕ → List ℕ → List ℕ → List ℕ → List ℕ → List ℕ
+bufferAfter style table client formula buffer = bufferBetween noSides style table client formula buffer

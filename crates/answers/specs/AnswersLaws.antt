@@ -1,5 +1,5 @@
 -- The answers of a list between two sides, a law for each way that it goes. A formula is a list without sides.
---     no-style, bad-table, read-is                     the tests before the setting
+--     no-style, bad-table, bad-client, read-is         the tests before the setting
 --     missing-refused, box-is, large-refused           what is found of a tree
 --     measured-boxed, set-boxed, buffer-boxed          what measuring and setting make of a box, where there is room
 --     no-room-is                                       what setting makes of it where there is none
@@ -12,8 +12,8 @@ use mathlib.Core.Option.{none, some}
 use Prim.Native.Nat.{ℕ, _*_, _≤_, _<_}
 use lib.ListN.{length, drop}
 use borrow.Author.Tests.{le-leb, lt-leb}
-use Rattle.font.specs.Table.{goodTable}
-use Rattle.font.specs.Font.{Font, fontOf}
+use Rattle.font.specs.Table.{goodTable, goodClient}
+use Rattle.font.specs.Font.{Font, fontWith}
 use Rattle.formula.specs.Tree.{Items}
 use Rattle.formula.specs.Reading.{Read, readFormula}
 use Rattle.boxes.specs.declared.styles.Style.{Style}
@@ -22,30 +22,38 @@ use Rattle.nodes.specs.Nodes.{bytesOf, bytesInNode}
 use Rattle.setting.specs.Setting.{Box, Sides, setList}
 use Rattle.setting.specs.Missing.{missingItems}
 use Rattle.setting.specs.Fitting.{listFits}
-use Rattle.answers.specs.Answers.{boxed, refused, styleNumber, tableNumber, missingNumber, tooLargeNumber, noRoomNumber, ifFits, ifPresent, ifRead, ifGood, ifStyle, resultBetween, accepted, refusal, measuredBy, measuredBetween, hasRoom, setBy, settingBetween, bufferBy, bufferBetween}
+use Rattle.answers.specs.Answers.{boxed, refused, styleNumber, tableNumber, clientNumber, missingNumber, tooLargeNumber, noRoomNumber, ifFits, ifPresent, ifRead, ifClient, ifGood, ifStyle, resultBetween, accepted, refusal, measuredBy, measuredBetween, hasRoom, setBy, settingBetween, bufferBy, bufferBetween}
 
 -- ---- the tests before the setting
 
-module _ (sides : Sides) (style : ℕ) (table formula : List ℕ) where
-  pub no-style : styleOf style ≡ none → resultBetween sides style table formula ≡ refused styleNumber 0
+module _ (sides : Sides) (style : ℕ) (table client formula : List ℕ) where
+  pub no-style : styleOf style ≡ none → resultBetween sides style table client formula ≡ refused styleNumber 0
   unfolding resultBetween ifStyle
-  no-style e = ap (ifStyle sides table formula) e
+  no-style e = ap (ifStyle sides table client formula) e
 
   module _ (s : Style) (is : styleOf style ≡ some s) where
-    pub tested-is : (t : Bool) (r : Read) → goodTable table ≡ t → readFormula formula ≡ r →
-        resultBetween sides style table formula ≡ ifGood t (fontOf table) sides s r
+    pub tested-is : (t c : Bool) (r : Read) → goodTable table ≡ t → goodClient table client ≡ c → readFormula formula ≡ r →
+        resultBetween sides style table client formula ≡ ifGood t c (fontWith table client) sides s r
     unfolding resultBetween ifStyle
-    tested-is t r good reads =
-        ap (ifStyle sides table formula) is ∙ ap₂ (λ (t : Bool) (r : Read). ifGood t (fontOf table) sides s r) good reads
+    tested-is t c r ours theirs reads =
+        let F = fontWith table client in
+        ap (ifStyle sides table client formula) is
+        ∙ ap₂ (λ (t c : Bool). ifGood t c F sides s (readFormula formula)) ours theirs
+        ∙ ap (ifGood t c F sides s) reads
 
-    pub bad-table : goodTable table ≡ false → resultBetween sides style table formula ≡ refused tableNumber 0
+    pub bad-table : goodTable table ≡ false → resultBetween sides style table client formula ≡ refused tableNumber 0
     unfolding ifGood
-    bad-table bad = tested-is false _ bad refl
+    bad-table bad = tested-is false _ _ bad refl refl
 
-    pub read-is : goodTable table ≡ true → (r : Read) → readFormula formula ≡ r →
-        resultBetween sides style table formula ≡ ifRead (fontOf table) sides s r
-    unfolding ifGood
-    read-is good r reads = tested-is true r good reads
+    module _ (good : goodTable table ≡ true) where
+      pub bad-client : goodClient table client ≡ false → resultBetween sides style table client formula ≡ refused clientNumber 0
+      unfolding ifGood ifClient
+      bad-client bad = tested-is true false _ good bad refl
+
+      pub read-is : goodClient table client ≡ true → (r : Read) → readFormula formula ≡ r →
+          resultBetween sides style table client formula ≡ ifRead (fontWith table client) sides s r
+      unfolding ifGood ifClient
+      read-is fine r reads = tested-is true true r good fine reads
 
 -- ---- what is found of a tree
 
@@ -70,33 +78,33 @@ module _ (sides : Sides) (F : Font) (s : Style) (l : Items) where
 
 -- ---- what is made of a box, by the count that measuring gives
 
-module _ (sides : Sides) (style : ℕ) (table formula : List ℕ) (b : Box) (is : resultBetween sides style table formula ≡ boxed b) where
-  pub measured-boxed : measuredBetween sides style table formula ≡ accepted b
+module _ (sides : Sides) (style : ℕ) (table client formula : List ℕ) (b : Box) (is : resultBetween sides style table client formula ≡ boxed b) where
+  pub measured-boxed : measuredBetween sides style table client formula ≡ accepted b
   unfolding measuredBetween measuredBy
   measured-boxed = ap measuredBy is
 
-  room-is : (bytes : ℕ) → bytesInNode * measuredBetween sides style table formula .count ≤ bytes → hasRoom bytes b ≡ true
+  room-is : (bytes : ℕ) → bytesInNode * measuredBetween sides style table client formula .count ≤ bytes → hasRoom bytes b ≡ true
   unfolding hasRoom
   room-is bytes h = le-leb (bytesInNode * length (b .nodes)) bytes (rw measured-boxed at h)
 
-  pub set-boxed : (room : ℕ) → bytesInNode * measuredBetween sides style table formula .count ≤ room →
-      settingBetween sides style table formula room ≡ measuredBetween sides style table formula
+  pub set-boxed : (room : ℕ) → bytesInNode * measuredBetween sides style table client formula .count ≤ room →
+      settingBetween sides style table client formula room ≡ measuredBetween sides style table client formula
   unfolding settingBetween setBy
   set-boxed room h = ap (setBy room) is ∙ rw (room-is room h, setBy) (sym measured-boxed)
 
   pub buffer-boxed : (buffer : List ℕ) →
-      let bytes = bytesInNode * measuredBetween sides style table formula .count in
-      bytes ≤ length buffer → bufferBetween sides style table formula buffer ≡ bytesOf (b .nodes) ++ drop bytes buffer
+      let bytes = bytesInNode * measuredBetween sides style table client formula .count in
+      bytes ≤ length buffer → bufferBetween sides style table client formula buffer ≡ bytesOf (b .nodes) ++ drop bytes buffer
   unfolding bufferBetween bufferBy
   buffer-boxed buffer h =
       ap (bufferBy buffer) is ∙ rw (room-is (length buffer) h, bufferBy) (rw measured-boxed refl)
 
-  lacks-room : (bytes : ℕ) → bytes < bytesInNode * measuredBetween sides style table formula .count → hasRoom bytes b ≡ false
+  lacks-room : (bytes : ℕ) → bytes < bytesInNode * measuredBetween sides style table client formula .count → hasRoom bytes b ≡ false
   unfolding hasRoom
   lacks-room bytes h = lt-leb (bytesInNode * length (b .nodes)) bytes (rw measured-boxed at h)
 
-  pub no-room-is : (buffer : List ℕ) → length buffer < bytesInNode * measuredBetween sides style table formula .count →
-      (settingBetween sides style table formula (length buffer) ≡ refusal noRoomNumber 0) × (bufferBetween sides style table formula buffer ≡ buffer)
+  pub no-room-is : (buffer : List ℕ) → length buffer < bytesInNode * measuredBetween sides style table client formula .count →
+      (settingBetween sides style table client formula (length buffer) ≡ refusal noRoomNumber 0) × (bufferBetween sides style table client formula buffer ≡ buffer)
   unfolding settingBetween setBy bufferBetween bufferBy
   no-room-is buffer h =
       let lacks = lacks-room (length buffer) h in
@@ -104,13 +112,13 @@ module _ (sides : Sides) (style : ℕ) (table formula : List ℕ) (b : Box) (is 
 
 -- ---- what is made of a refusal
 
-module _ (sides : Sides) (style : ℕ) (table formula : List ℕ) (number place : ℕ)
-    (is : resultBetween sides style table formula ≡ refused number place) where
-  pub measured-refused : measuredBetween sides style table formula ≡ refusal number place
+module _ (sides : Sides) (style : ℕ) (table client formula : List ℕ) (number place : ℕ)
+    (is : resultBetween sides style table client formula ≡ refused number place) where
+  pub measured-refused : measuredBetween sides style table client formula ≡ refusal number place
   unfolding measuredBetween measuredBy
   measured-refused = ap measuredBy is
 
   pub refused-is : (buffer : List ℕ) →
-      (settingBetween sides style table formula (length buffer) ≡ refusal number place) × (bufferBetween sides style table formula buffer ≡ buffer)
+      (settingBetween sides style table client formula (length buffer) ≡ refusal number place) × (bufferBetween sides style table client formula buffer ≡ buffer)
   unfolding settingBetween setBy bufferBetween bufferBy
   refused-is buffer = (ap (setBy (length buffer)) is, ap (bufferBy buffer) is)

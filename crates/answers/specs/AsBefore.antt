@@ -1,5 +1,6 @@
 -- What change requests 2 and 4 leave as it was: a formula with no style change ST, no choice C4 and no fence FE in it, at any depth, is
--- answered as document 01 says, whose own definitions are in `Plain` of crate setting.
+-- answered as document 01 says, whose own definitions are in `Plain` of crate setting; and so it is over any client's table. What
+-- request 6 leaves as it was is in `OursAlone`.
 --     resultBefore         what is found of a tree, by them
 --     result-as-before     of a formula that reads to a plain tree the same is found; so measuring and setting answer the same, and the
 --                          buffer is the same (`measured-as-before`, `set-as-before`)
@@ -10,8 +11,8 @@ use mathlib.Core.List.{List}
 use mathlib.Core.Option.{Option, none, some}
 use Prim.Native.Nat.{ℕ}
 use lib.ListN.{length}
-use Rattle.font.specs.Table.{goodTable}
-use Rattle.font.specs.Font.{Font, fontOf}
+use Rattle.font.specs.Table.{goodTable, goodClient}
+use Rattle.font.specs.Font.{Font, fontWith}
 use Rattle.formula.specs.Tree.{Items}
 use Rattle.formula.specs.Reading.{good, readFormula}
 use Rattle.boxes.specs.declared.styles.Style.{Style}
@@ -33,22 +34,23 @@ unfolding ifPresent presentBefore
 present-as-before F s l none h = ap₂ ifFits (fits-as-before F s l h) (box-as-before F s l h)
 present-as-before F s l (some place) h = refl
 
-module _ (style : ℕ) (table formula : List ℕ) (s : Style) (l : Items) (style-is : styleOf style ≡ some s)
-    (table-good : goodTable table ≡ true) (reads : readFormula formula ≡ good l) (h : Plain l) where
-  pub result-as-before : resultOf style table formula ≡ resultBefore (fontOf table) s l
+module _ (style : ℕ) (table client formula : List ℕ) (s : Style) (l : Items) (style-is : styleOf style ≡ some s)
+    (table-good : goodTable table ≡ true) (client-good : goodClient table client ≡ true)
+    (reads : readFormula formula ≡ good l) (h : Plain l) where
+  pub result-as-before : resultOf style table client formula ≡ resultBefore (fontWith table client) s l
   unfolding ifRead resultBefore
   result-as-before =
-      let F = fontOf table in
-      read-is noSides style table formula s style-is table-good (good l) reads
+      let F = fontWith table client in
+      read-is noSides style table client formula s style-is table-good client-good (good l) reads
       ∙ ap (ifPresent F noSides s l) (missing-as-before F s l h)
       ∙ present-as-before F s l (missingPlain F s l) h
 
-  pub measured-as-before : measured style table formula ≡ measuredBy (resultBefore (fontOf table) s l)
+  pub measured-as-before : measured style table client formula ≡ measuredBy (resultBefore (fontWith table client) s l)
   unfolding measuredBetween
   measured-as-before = ap measuredBy result-as-before
 
   pub set-as-before : (buffer : List ℕ) →
-      (setting style table formula (length buffer) ≡ setBy (length buffer) (resultBefore (fontOf table) s l))
-      × (bufferAfter style table formula buffer ≡ bufferBy buffer (resultBefore (fontOf table) s l))
+      (setting style table client formula (length buffer) ≡ setBy (length buffer) (resultBefore (fontWith table client) s l))
+      × (bufferAfter style table client formula buffer ≡ bufferBy buffer (resultBefore (fontWith table client) s l))
   unfolding settingBetween bufferBetween
   set-as-before buffer = (ap (setBy (length buffer)) result-as-before, ap (bufferBy buffer) result-as-before)

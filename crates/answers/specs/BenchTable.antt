@@ -1,5 +1,6 @@
 -- The bytes of the bench table (document 01, "The bench table and what it gives"): the same parameters and the same six
--- characters at each of the three sizes.
+-- characters at each of the three sizes. Of change request 6, two client's tables over it, of symbols of text size: one that hides the a
+-- and the successor of the sum, and one in which that successor goes back to the sum.
 -- Assumes nothing.
 use mathlib.Core.List.{List, [], _∷_, _++_}
 use Prim.Native.Nat.{ℕ}
@@ -38,3 +39,11 @@ characters size =
 unfoldable pub benchTable : List ℕ
 unfolding wordsBytes fourBytes sigmas xis parameters character characters
 benchTable = parameters ++ parameters ++ parameters ++ characters 0 ++ characters 1 ++ characters 2
+
+unfoldable pub clientTable : List ℕ
+unfolding wordsBytes fourBytes character
+clientTable = character 0 1 97 0 0 (600 ∷ 450 ∷ 0 ∷ 0 ∷ []) ++ character 0 3 88 0 0 (1500 ∷ 0 ∷ 1600 ∷ 0 ∷ [])
+
+unfoldable pub turningTable : List ℕ
+unfolding wordsBytes fourBytes character
+turningTable = character 0 3 88 1 80 (1500 ∷ 0 ∷ 1600 ∷ 0 ∷ [])

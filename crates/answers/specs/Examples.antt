@@ -3,7 +3,9 @@
 -- request 2, `display-from-here`: in T, an ST in the list that a C4 takes makes the operator behind it that of P12. Of request 3,
 -- `roots-hold`: the bench's sum is tall enough for the root of a, and its successor for the root of that; a root without a sign. Of
 -- request 4, `fences-hold`: the sum on either side of a Punct, with the space before the unseen Close, and a superscript; a Bin between the
--- unseen atoms, which is an Ord, with a blank for the absent delimiter on its left.
+-- unseen atoms, which is an Ord, with a blank for the absent delimiter on its left. Of request 6, `client-set`: P12's operator, behind an a,
+-- takes its successor from the client's table, and the a in it, of script size, from ours; `client-refused`: refusal 8, where it stands
+-- among the others.
 -- Assumes nothing.
 use mathlib.Core.Path.{_≡_, refl}
 use mathlib.Core.List.{List, [], _∷_, _++_, map}
@@ -11,8 +13,8 @@ use Prim.Native.Nat.{ℕ}
 use lib.IntN.{ℤ, pos, negℤ}
 use Rattle.nodes.specs.Nodes.{Node, glyph, rule}
 use Rattle.setting.specs.Setting.{Box}
-use Rattle.answers.specs.Answers.{Result, boxed, resultOf, Answered, measured, setting, bufferAfter}
-use Rattle.answers.specs.BenchTable.{benchTable}
+use Rattle.answers.specs.Answers.{Result, boxed, refused, resultOf, Answered, measured, setting, bufferAfter}
+use Rattle.answers.specs.BenchTable.{benchTable, clientTable, turningTable}
 use Rattle.answers.specs.Definitions.{definitions}
 
 -- ---- formulas as bytes
@@ -135,7 +137,7 @@ examples =
     ∷ []
 
 computed : Example → Result
-computed e = resultOf (e .style) benchTable (e .formula)
+computed e = resultOf (e .style) benchTable [] (e .formula)
 
 stated : Example → Result
 stated e = boxed (e .box)
@@ -154,7 +156,7 @@ choice d t sc ss = 67 ∷ 52 ∷ (d ++ t ++ sc ++ ss)
 
 -- a, then D from here if the style is T, then P12's operator, 165 behind a
 display-from-here :
-    resultOf T benchTable
+    resultOf T benchTable []
     (alone ord a ++ choice (sublist 0 []) (sublist 3 (83 ∷ 84 ∷ D ∷ [])) (sublist 0 []) (sublist 0 []) ++ atom op (symbol 3 80) empty a)
     ≡ boxed record {
       size = record { width = pos 2065; height = pos 950; depth = pos 1150 };
@@ -224,6 +226,25 @@ fences-hold : map computed fences ≡ map stated fences
 unfolding definitions benchTable fences computed stated
 fences-hold = refl
 
+-- ---- a client's table
+
+client-set :
+    resultOf D benchTable clientTable (alone ord a ++ atom op (symbol 3 80) empty a)
+    ≡ boxed record {
+      size = record { width = pos 2265; height = pos 1050; depth = pos 1250 };
+      nodes =
+          glyph (pos 0) (pos 0) 0 1 97 ∷ glyph (pos 765) (pos 1050) 0 3 88 ∷ glyph (pos 1265) (minus 1150) 1 1 97 ∷ [];
+    }
+unfolding definitions benchTable clientTable
+client-set = refl
+
+-- for a chain over both tables that does not end, and for a table that is cut off; before 3 and behind 2
+client-refused :
+    resultOf T benchTable turningTable (65 ∷ []) ∷ resultOf T benchTable (67 ∷ []) [] ∷ resultOf T [] (67 ∷ []) [] ∷ []
+    ≡ refused 8 0 ∷ refused 8 0 ∷ refused 2 0 ∷ []
+unfolding definitions benchTable turningTable
+client-refused = refl
+
 -- ---- the underlined a, in T, with a buffer that has two bytes more than its nodes need
 
 underlined : List ℕ
@@ -243,16 +264,16 @@ underlinedAnswer =
       count = 2;
     }
 
-underlined-measured : measured T benchTable underlined ≡ underlinedAnswer
+underlined-measured : measured T benchTable [] underlined ≡ underlinedAnswer
 unfolding definitions benchTable underlined underlinedAnswer
 underlined-measured = refl
 
-underlined-set : setting T benchTable underlined 38 ≡ underlinedAnswer
+underlined-set : setting T benchTable [] underlined 38 ≡ underlinedAnswer
 unfolding definitions benchTable underlined underlinedAnswer
 underlined-set = refl
 
 underlined-buffer :
-    bufferAfter T benchTable underlined buffer
+    bufferAfter T benchTable [] underlined buffer
     ≡ 0x47 ∷ 0x4c ∷ 0x00 ∷ 0x00 ∷ 0x00 ∷ 0x00 ∷ 0x00 ∷ 0x00 ∷ 0x00
     ∷ 0x00 ∷ 0x00 ∷ 0x01 ∷ 0x61 ∷ 0x00 ∷ 0x00 ∷ 0x00 ∷ 0x00 ∷ 0x00
     ∷ 0x52 ∷ 0x55 ∷ 0x00 ∷ 0x00 ∷ 0x00 ∷ 0x00 ∷ 0x60 ∷ 0xff ∷ 0xff

@@ -1,11 +1,13 @@
 -- The answers; their laws; how small they are; measuring and setting agree; a formula without style changes, choices and fences is
--- answered as before; a list field in the whole as it stands alone; the worked examples. Assumes nothing.
+-- answered as before, and so is every formula without a client's table; a list field in the whole as it stands alone; the worked examples.
+-- Assumes nothing.
 pub mod Answers
 pub mod AnswersLaws
 pub mod Small
 pub mod Agreement
 pub mod Accepting
 pub mod AsBefore
+pub mod OursAlone
 pub mod MovedBytes
 pub mod FieldBytes
 pub mod ListFields

@@ -13,8 +13,8 @@ use native.Mathlib.Omega.{arith}
 use lib.Dec.{ltb}
 use lib.ListN.{length, length-append}
 use borrow.Author.Tests.{ltb-false}
-use Rattle.font.specs.Table.{goodTable}
-use Rattle.font.specs.Font.{Font, fontOf}
+use Rattle.font.specs.Table.{goodTable, goodClient}
+use Rattle.font.specs.Font.{Font, fontWith}
 use Rattle.formula.specs.declared.Fault.the-variants.{Unreadable}
 use Rattle.formula.specs.declared.Kind.{Kind}
 use Rattle.formula.specs.Tree.{Items, Item, Field, cons, noad, kern, restyle, choice, empty, symbol, list, openingBytes, kernBytes, restyleBytes, choiceOpeningBytes, listOpeningBytes, sublistBytes, thirdBytes, itemsBytes, itemBytes, fieldBytes}
@@ -35,7 +35,7 @@ use Rattle.setting.specs.Setting.{Box, Line, Symbol, Part, symbolIn, symbolPart
 use Rattle.setting.specs.SettingLaws.{length-own, signs-found, setItem-choice, missingItem-choice}
 use Rattle.setting.specs.Missing.{_orElse_, later, absentAt, missingItems, missingItem, missingField}
 use Rattle.setting.specs.Fitting.{listFits}
-use Rattle.answers.specs.Answers.{Answered, Result, boxed, refused, refusal, accepted, noRoomNumber, ifFits, ifPresent, ifRead, ifGood, ifStyle, resultOf, resultBetween, measuredBy, measured, measuredBetween, hasRoom, setBy, setting, settingBetween}
+use Rattle.answers.specs.Answers.{Answered, Result, boxed, refused, refusal, accepted, noRoomNumber, ifFits, ifPresent, ifRead, ifClient, ifGood, ifStyle, resultOf, resultBetween, measuredBy, measured, measuredBetween, hasRoom, setBy, setting, settingBetween}
 
 -- ---- what is written in n bytes
 
@@ -301,17 +301,24 @@ module _ (F : Font) (s : Style) where
       go false e =
           reading-small (length formula) (read (depthLimit - 1) formula) (ltb-false formulaLimit (length formula) e) (read-in parts parts-so (depthLimit - 1) formula)
 
-found-small : (style : ℕ) (table formula : List ℕ) → FoundSmall (resultOf style table formula)
-unfolding resultBetween ifStyle ifGood
-found-small style table formula = styled (styleOf style)
+found-small : (style : ℕ) (table client formula : List ℕ) → FoundSmall (resultOf style table client formula)
+unfolding resultBetween ifStyle ifGood ifClient
+found-small style table client formula = styled (styleOf style)
   where
-    tabled : (s : Style) (t : Bool) → FoundSmall (ifGood t (fontOf table) noSides s (readFormula formula))
-    tabled s true = formula-small (fontOf table) s formula
-    tabled s false = omega arith
+    F : Font
+    F = fontWith table client
 
-    styled : (o : Option Style) → FoundSmall (ifStyle noSides table formula o)
+    lent : (s : Style) (c : Bool) → FoundSmall (ifClient c F noSides s (readFormula formula))
+    lent s true = formula-small F s formula
+    lent s false = omega arith
+
+    tabled : (s : Style) (t c : Bool) → FoundSmall (ifGood t c F noSides s (readFormula formula))
+    tabled s true c = lent s c
+    tabled s false c = omega arith
+
+    styled : (o : Option Style) → FoundSmall (ifStyle noSides table client formula o)
     styled none = omega arith
-    styled (some s) = tabled s (goodTable table)
+    styled (some s) = tabled s (goodTable table) (goodClient table client)
 
 -- ---- the answers
 
@@ -319,17 +326,17 @@ pub record Small (a : Answered) : Type 0 where
   pub place : a .place ≤ formulaLimit
   pub count : a .count ≤ formulaLimit
 
-pub measured-small : (style : ℕ) (table formula : List ℕ) → Small (measured style table formula)
+pub measured-small : (style : ℕ) (table client formula : List ℕ) → Small (measured style table client formula)
 unfolding measuredBetween measuredBy
-measured-small style table formula = go (resultOf style table formula) (found-small style table formula)
+measured-small style table client formula = go (resultOf style table client formula) (found-small style table client formula)
   where
     go : (r : Result) → FoundSmall r → Small (measuredBy r)
     go (boxed b) h = record { place = omega arith; count = omega arith }
     go (refused number place) h = record { place = h; count = omega arith }
 
-pub setting-small : (style : ℕ) (table formula : List ℕ) (room : ℕ) → Small (setting style table formula room)
+pub setting-small : (style : ℕ) (table client formula : List ℕ) (room : ℕ) → Small (setting style table client formula room)
 unfolding settingBetween setBy
-setting-small style table formula room = go (resultOf style table formula) (found-small style table formula)
+setting-small style table client formula room = go (resultOf style table client formula) (found-small style table client formula)
   where
     roomy : (b : Box) (t : Bool) → length (b .nodes) ≤ formulaLimit →
         Small (elim t [ true ↦ accepted b | false ↦ refusal noRoomNumber 0 ])

@@ -20,38 +20,40 @@ const NO_ANSWER: u8 = 255;
 
 // Measures a formula.
 #[no_mangle]
-pub extern "C" fn torfianka_measure(
+pub extern "C" fn torfianka_measure<'a>(
     style: u8,
-    table: &[u8],
+    table: &'a [u8],
+    client: &'a [u8],
     formula: &[u8],
     answer: &mut [i64],
 ) -> u8
-    ensures { λ r. ⌜ r ≡ numberBy (measured style (now (table .entry)) (now (formula .entry))) (now (answer .entry)) ⌝ }
-    ensures { λ _. ⌜ now (answer .exit) ≡ wordsBy (measured style (now (table .entry)) (now (formula .entry))) (now (answer .entry)) ⌝ }
+    ensures { λ r. ⌜ r ≡ numberBy (measured style (now (table .entry)) (now (client .entry)) (now (formula .entry))) (now (answer .entry)) ⌝ }
+    ensures { λ _. ⌜ now (answer .exit) ≡ wordsBy (measured style (now (table .entry)) (now (client .entry)) (now (formula .entry))) (now (answer .entry)) ⌝ }
 {
     if answer.len() < ANSWER_SPACE {
         return NO_ANSWER;
     }
-    report(layout::measure(style, table, formula), answer)
+    report(layout::measure(style, table, client, formula), answer)
 }
 
 // Sets a formula into the front of the node buffer.
 #[no_mangle]
-pub extern "C" fn torfianka_set(
+pub extern "C" fn torfianka_set<'a>(
     style: u8,
-    table: &[u8],
+    table: &'a [u8],
+    client: &'a [u8],
     formula: &[u8],
     nodes: &mut [u8],
     answer: &mut [i64],
 ) -> u8
-    ensures { λ r. ⌜ r ≡ numberBy (setting style (now (table .entry)) (now (formula .entry)) (length (now (nodes .entry)))) (now (answer .entry)) ⌝ }
-    ensures { λ _. ⌜ now (answer .exit) ≡ wordsBy (setting style (now (table .entry)) (now (formula .entry)) (length (now (nodes .entry)))) (now (answer .entry)) ⌝ }
-    ensures { λ _. ⌜ now (nodes .exit) ≡ bufferBy (bufferAfter style (now (table .entry)) (now (formula .entry)) (now (nodes .entry))) (now (nodes .entry)) (now (answer .entry)) ⌝ }
+    ensures { λ r. ⌜ r ≡ numberBy (setting style (now (table .entry)) (now (client .entry)) (now (formula .entry)) (length (now (nodes .entry)))) (now (answer .entry)) ⌝ }
+    ensures { λ _. ⌜ now (answer .exit) ≡ wordsBy (setting style (now (table .entry)) (now (client .entry)) (now (formula .entry)) (length (now (nodes .entry)))) (now (answer .entry)) ⌝ }
+    ensures { λ _. ⌜ now (nodes .exit) ≡ bufferBy (bufferAfter style (now (table .entry)) (now (client .entry)) (now (formula .entry)) (now (nodes .entry))) (now (nodes .entry)) (now (answer .entry)) ⌝ }
 {
     if answer.len() < ANSWER_SPACE {
         return NO_ANSWER;
     }
-    report(layout::set(style, table, formula, nodes), answer)
+    report(layout::set(style, table, client, formula, nodes), answer)
 }
 
 // Writes an answer's place, sizes and count, and gives its number.

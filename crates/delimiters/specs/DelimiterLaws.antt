@@ -1,6 +1,6 @@
 -- What the search promises.
 --     found-anyway    whatever has to be reached, it finds something exactly if there is any symbol to look at
---     chain-whole     in a good table no chain is cut: with more than sixteen steps it would be the same
+--     chain-whole     in good tables no chain is cut: with more than sixteen steps it would be the same
 --     chain-begins    a chain by its first symbol
 -- Assumes nothing.
 use mathlib.Core.Path.{_≡_, refl, sym, ap, _∙_}
@@ -10,9 +10,9 @@ use mathlib.Core.Option.{Option, none, some}
 use Prim.Native.Nat.{ℕ, zero, suc, _≤_}
 use native.Mathlib.Omega.{arith}
 use lib.IntN.{ℤ}
-use Rattle.font.specs.Font.{Metrics, Font, fontOf}
+use Rattle.font.specs.Font.{Metrics, Font, fontWith}
 use Rattle.font.specs.Chains.{longestChain, next, goesOn}
-use Rattle.font.specs.Table.{goodTable}
+use Rattle.font.specs.Table.{goodTable, goodClient}
 use Rattle.font.specs.FontLaws.{chains-end}
 use Rattle.formula.specs.declared.Delimiter.{Delimiter}
 use Rattle.delimiters.specs.declared.HasSigns.{HasSigns}
@@ -83,7 +83,7 @@ module _ (F : Font) (size family : ℕ) where
       ∙ same-chain k n (λ c. no-further k n c (omega arith)) code (F .symbol size family code) ends
       ∙ sym (chain-begins k code)
 
-pub chain-whole : (t : List ℕ) → goodTable t ≡ true → (size family steps code : ℕ) → longestChain ≤ steps →
-    chain (fontOf t) size family steps code ≡ chain (fontOf t) size family longestChain code
-chain-whole t good size family steps code more =
-    no-further (fontOf t) size family (suc longestChain) (suc steps) code (omega arith) (chains-end t good size family code)
+pub chain-whole : (t c : List ℕ) → goodTable t ≡ true → goodClient t c ≡ true → (size family steps code : ℕ) → longestChain ≤ steps →
+    chain (fontWith t c) size family steps code ≡ chain (fontWith t c) size family longestChain code
+chain-whole t c good client size family steps code more =
+    no-further (fontWith t c) size family (suc longestChain) (suc steps) code (omega arith) (chains-end t c good client size family code)

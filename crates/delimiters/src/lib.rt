@@ -16,8 +16,8 @@ use scaled::Sp;
 ghost use mathlib.Core.Path.{_≡_};
 ghost use mathlib.Core.Bool.{true, _&&_};
 ghost use lib.Dec.{eqb};
-ghost use Rattle.font.specs.Records.{goodRecords};
-ghost use Rattle.font.specs.Font.{fontOf};
+ghost use Rattle.font.specs.Table.{SoundTables};
+ghost use Rattle.font.specs.Font.{fontWith};
 ghost use Rattle.boxes.specs.Values.{sizeAs, offsetAs, signingAs};
 ghost use Rattle.boxes.specs.Bounds.{itemWords, Moderate, OffsetWithin, SigningWithin};
 ghost use Rattle.delimiters.specs.Delimiters as definition;
@@ -60,14 +60,14 @@ enum Search {
 }
 
 // The small symbol, then the large, each in sizes from the current one up to text.
-pub fn sign_for(table: &[u8], size: u8, d: Delimiter, needed: Sp) -> Chosen
-    requires { ⌜ goodRecords (now table) ≡ true ⌝ }
-    ensures { λ r. ⌜ chosenAs r ≡ signFor (fontOf (now (table .entry))) size d (needed .0) ⌝ }
+pub fn sign_for<'a>(table: &'a [u8], client: &'a [u8], size: u8, d: Delimiter, needed: Sp) -> Chosen
+    requires { ⌜ SoundTables (now table) (now client) ⌝ }
+    ensures { λ r. ⌜ chosenAs r ≡ signFor (fontWith (now (table .entry)) (now (client .entry))) size d (needed .0) ⌝ }
 {
     let small = d.small;
     let large = d.large;
-    let first = search_pair(table, size, small, needed, Search::Nothing);
-    let second = search_pair(table, size, large, needed, first);
+    let first = search_pair(table, client, size, small, needed, Search::Nothing);
+    let second = search_pair(table, client, size, large, needed, first);
     match second {
         Search::Nothing => Chosen::Blank,
         Search::Short(t) => Chosen::Sign(t),
@@ -76,31 +76,56 @@ pub fn sign_for(table: &[u8], size: u8, d: Delimiter, needed: Sp) -> Chosen
 }
 
 // Two zero bytes stand for no symbol.
-fn search_pair(table: &[u8], size: u8, pair: Pair, needed: Sp, far: Search) -> Search
-    requires { ⌜ goodRecords (now table) ≡ true ⌝ }
-    ensures { λ r. ⌜ searchAs r ≡ lookedAt (needed .0) (searchAs far) (ofPair (fontOf (now (table .entry))) size pair) ⌝ }
+fn search_pair<'a>(
+    table: &'a [u8],
+    client: &'a [u8],
+    size: u8,
+    pair: Pair,
+    needed: Sp,
+    far: Search,
+) -> Search
+    requires { ⌜ SoundTables (now table) (now client) ⌝ }
+    ensures { λ r. ⌜ searchAs r ≡ lookedAt (needed .0) (searchAs far) (ofPair (fontWith (now (table .entry)) (now (client .entry))) size pair) ⌝ }
 {
     if is_zero(pair) {
         return far;
     }
-    search_sizes(table, size, pair.family, pair.code, needed, far)
+    search_sizes(table, client, size, pair.family, pair.code, needed, far)
 }
 
 // A symbol in sizes from this one up to text.
-fn search_sizes(table: &[u8], size: u8, family: u8, code: u8, needed: Sp, far: Search) -> Search
-    requires { ⌜ goodRecords (now table) ≡ true ⌝ }
-    ensures { λ r. ⌜ searchAs r ≡ lookedAt (needed .0) (searchAs far) (inSizes (fontOf (now (table .entry))) family code size) ⌝ }
+fn search_sizes<'a>(
+    table: &'a [u8],
+    client: &'a [u8],
+    size: u8,
+    family: u8,
+    code: u8,
+    needed: Sp,
+    far: Search,
+) -> Search
+    requires { ⌜ SoundTables (now table) (now client) ⌝ }
+    ensures { λ r. ⌜ searchAs r ≡ lookedAt (needed .0) (searchAs far) (inSizes (fontWith (now (table .entry)) (now (client .entry))) family code size) ⌝ }
 {
-    let here = follow(table, size, family, code, needed, far, LONGEST_CHAIN);
+    let here = follow(
+        table,
+        client,
+        size,
+        family,
+        code,
+        needed,
+        far,
+        LONGEST_CHAIN,
+    );
     if size == 0 {
         return here;
     }
-    search_sizes(table, size - 1, family, code, needed, here)
+    search_sizes(table, client, size - 1, family, code, needed, here)
 }
 
 // The chain is followed symbol by symbol, until one suffices or no step is left.
-fn follow(
-    table: &[u8],
+fn follow<'a>(
+    table: &'a [u8],
+    client: &'a [u8],
     size: u8,
     family: u8,
     code: u8,
@@ -108,13 +133,13 @@ fn follow(
     far: Search,
     steps: usize,
 ) -> Search
-    requires { ⌜ goodRecords (now table) ≡ true ⌝ }
-    ensures { λ r. ⌜ searchAs r ≡ lookedAt (needed .0) (searchAs far) (chain (fontOf (now (table .entry))) size family steps code) ⌝ }
+    requires { ⌜ SoundTables (now table) (now client) ⌝ }
+    ensures { λ r. ⌜ searchAs r ≡ lookedAt (needed .0) (searchAs far) (chain (fontWith (now (table .entry)) (now (client .entry))) size family steps code) ⌝ }
 {
     if let Search::Enough(_) = far {
         return far;
     }
-    let Found::Symbol(metrics) = symbol(table, size, family, code) else {
+    let Found::Symbol(metrics) = symbol(table, client, size, family, code) else {
         return far;
     };
     let sign = Sign {
@@ -131,7 +156,7 @@ fn follow(
     if steps == 0 {
         return seen;
     }
-    follow(table, size, family, c, needed, seen, steps - 1)
+    follow(table, client, size, family, c, needed, seen, steps - 1)
 }
 
 // One symbol more.
@@ -204,37 +229,37 @@ pub fn sign_at(place: Offset, chosen: Chosen) -> Signing
 }
 
 // Whether the search finds anything, however tall it has to be. It ends at the first symbol present.
-pub fn has_sign(table: &[u8], size: u8, d: Delimiter) -> bool
-    requires { ⌜ goodRecords (now table) ≡ true ⌝ }
-    ensures { λ r. ⌜ r ≡ hasSign (fontOf (now (table .entry))) size d ⌝ }
+pub fn has_sign<'a>(table: &'a [u8], client: &'a [u8], size: u8, d: Delimiter) -> bool
+    requires { ⌜ SoundTables (now table) (now client) ⌝ }
+    ensures { λ r. ⌜ r ≡ hasSign (fontWith (now (table .entry)) (now (client .entry))) size d ⌝ }
 {
     let small = d.small;
     let large = d.large;
-    if has_pair(table, size, small) {
+    if has_pair(table, client, size, small) {
         return true;
     }
-    has_pair(table, size, large)
+    has_pair(table, client, size, large)
 }
 
-fn has_pair(table: &[u8], size: u8, pair: Pair) -> bool
-    requires { ⌜ goodRecords (now table) ≡ true ⌝ }
-    ensures { λ r. ⌜ r ≡ hasAny (ofPair (fontOf (now (table .entry))) size pair) ⌝ }
+fn has_pair<'a>(table: &'a [u8], client: &'a [u8], size: u8, pair: Pair) -> bool
+    requires { ⌜ SoundTables (now table) (now client) ⌝ }
+    ensures { λ r. ⌜ r ≡ hasAny (ofPair (fontWith (now (table .entry)) (now (client .entry))) size pair) ⌝ }
 {
     if is_zero(pair) {
         return false;
     }
-    is_in_sizes(table, size, pair.family, pair.code)
+    is_in_sizes(table, client, size, pair.family, pair.code)
 }
 
-fn is_in_sizes(table: &[u8], size: u8, family: u8, code: u8) -> bool
-    requires { ⌜ goodRecords (now table) ≡ true ⌝ }
-    ensures { λ r. ⌜ r ≡ hasAny (inSizes (fontOf (now (table .entry))) family code size) ⌝ }
+fn is_in_sizes<'a>(table: &'a [u8], client: &'a [u8], size: u8, family: u8, code: u8) -> bool
+    requires { ⌜ SoundTables (now table) (now client) ⌝ }
+    ensures { λ r. ⌜ r ≡ hasAny (inSizes (fontWith (now (table .entry)) (now (client .entry))) family code size) ⌝ }
 {
-    if let Found::Symbol(_) = symbol(table, size, family, code) {
+    if let Found::Symbol(_) = symbol(table, client, size, family, code) {
         return true;
     }
     if size == 0 {
         return false;
     }
-    is_in_sizes(table, size - 1, family, code)
+    is_in_sizes(table, client, size - 1, family, code)
 }

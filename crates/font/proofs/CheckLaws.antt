@@ -1,6 +1,7 @@
 -- The check of a table, test by test.
 --     pass, stop                            tests joined by `&&`, after one that holds, or does not
 --     good-bytes, good-table, length-..     the tests of a table, for `is_good`
+--     good-client, client-..                the tests of a client's table, for `is_good_client`
 --     soundFrom, sound-pass                 the CH records in one pass that carries the least key for the next, for `are_characters`
 --     good-character                        the tests of a CH record, for `is_character`
 -- The idea: each definition is brought into the order of the code's tests, as a && (b && ..), and is then followed by
@@ -14,12 +15,12 @@ use native.Mathlib.Omega.{arith}
 use borrow.Author.Tests.{le-leb, lt-leb, eq-eqb, ne-eqb}
 use lib.Dec.{leb, eqb}
 use lib.ListN.{length}
-use Rattle.font.specs.Records.{headerBytes, characterBytes, mostCharacters, greatestSize, greatestFamily}
+use Rattle.font.specs.Records.{headerBytes, characterBytes, mostCharacters, mostClientCharacters, greatestSize, greatestFamily, clientRecords, clientCount}
 use Rattle.font.specs.Records.{parameterRecords, characterRecords, characterCount, metricWords, sizeByte, familyByte, flagByte, successorByte}
-use Rattle.font.specs.Records.{every, marked, goodWord, goodParameters, goodCharacter, before, rising, goodLength, goodRecords}
-use Rattle.font.specs.Font.{fontOf}
+use Rattle.font.specs.Records.{every, marked, goodWord, goodParameters, goodCharacter, before, rising, goodLength, goodRecords, goodClientLength, goodClientRecords}
+use Rattle.font.specs.Font.{fontOf, fontWith}
 use Rattle.font.specs.Chains.{chainEnds}
-use Rattle.font.specs.Table.{goodTable}
+use Rattle.font.specs.Table.{goodTable, seenEnds, goodClient}
 use Rattle.font.specs.Values.{soundCharacters}
 use Rattle.font.specs.Keys.{keyIn, InBytes, AllInBytes, before-key}
 
@@ -77,6 +78,41 @@ module _ (t : List ℕ) where
   pub length-good : length t ≡ whole t → count t ≤ mostCharacters → goodLength t ≡ true
   unfolding goodLength characterCount
   length-good e h = pass _ _ (eq-eqb _ _ e) ∙ le-leb _ _ h
+
+-- ---- a client's table
+
+in-turn-client : (l g r a b : Bool) → (l && g && r && a && b) ≡ (l && ((g && r) && (a && b)))
+in-turn-client false g r a b = refl
+in-turn-client true false r a b = refl
+in-turn-client true true r a b = and-assoc r a b
+
+module _ (t c : List ℕ) where
+  pub good-client :
+      goodClient t c
+      ≡ (goodClientLength c
+      && (soundCharacters (clientRecords c)
+      && (every (seenEnds (fontWith t c)) (clientRecords c) && every (seenEnds (fontWith t c)) (characterRecords t))))
+  unfolding goodClient goodClientRecords soundCharacters
+  good-client = in-turn-client (goodClientLength c) (every goodCharacter (clientRecords c)) _ _ _
+
+module _ (c : List ℕ) where
+  pub good-client-records : goodClientRecords c ≡ (goodClientLength c && soundCharacters (clientRecords c))
+  unfolding goodClientRecords soundCharacters
+  good-client-records = and-assoc (goodClientLength c) _ _
+
+  pub client-broken : (length c ≡ characterBytes * (length c / characterBytes) → ⊥) → goodClientLength c ≡ false
+  unfolding goodClientLength clientCount
+  client-broken h = stop _ _ (ne-eqb (length c) _ h)
+
+  pub client-great : length c ≡ characterBytes * (length c / characterBytes) → mostClientCharacters < length c / characterBytes →
+      goodClientLength c ≡ false
+  unfolding goodClientLength clientCount
+  client-great e h = pass _ _ (eq-eqb _ _ e) ∙ lt-leb _ _ h
+
+  pub client-sized : length c ≡ characterBytes * (length c / characterBytes) → length c / characterBytes ≤ mostClientCharacters →
+      goodClientLength c ≡ true
+  unfolding goodClientLength clientCount
+  client-sized e h = pass _ _ (eq-eqb _ _ e) ∙ le-leb _ _ h
 
 -- ---- CH records, in one pass
 

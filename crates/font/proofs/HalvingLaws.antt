@@ -1,42 +1,41 @@
--- A range of the records of a good table that is halved, for `symbol`.
---     recorded, record-at, in-bytes    the CH records of a table: how many, where each stands, and that they hold bytes
---     byte-at, key-at    a byte and the key of a record, by its bytes in the table
+-- A range of CH records that is halved, for `record_in`.
+--     recorded, record-at, in-bytes    records one after the other: how many, where each stands, and that they hold bytes
+--     byte-at, key-at    a byte and the key of a record, by where it stands
 --     Halved            the range in which a symbol's record can be, and the steps that are enough for it: the loop's invariant
---     twelve-enough     twelve steps are enough for the most records that a table may have
+--     twelve-enough     twelve steps are enough for the most records that there may be
 --     step-left         a range that is not empty has a step left
---     halved-..         the range at first, after a step to either side of its middle, and what is found there or nowhere
+--     halved-..         the range at first, after a step to either side of its middle, and what is found nowhere
+--     numbered-there    what is found at a number; `lies`: the part of the records that was found
 -- Assumes nothing.
-use mathlib.Core.Path.{_≡_, ap, _∙_}
-use mathlib.Core.Bool.{true}
+use mathlib.Core.Path.{_≡_, sym, ap, _∙_}
 use mathlib.Core.List.{List, [], _∷_}
-use mathlib.Core.Option.{none, some}
 use Prim.Native.Nat.{ℕ, zero, suc, _+_, _-_, _*_, _/_, _^_, _<_, _≤_}
 use native.Mathlib.Omega.{arith}
 use mir.Syntax.{w8}
 use mir.Val.{Fits}
 use lib.ListN.{length, getD, take, drop}
-use lib.Seq.{drop-drop, getD-take, getD-drop}
-use Rattle.font.specs.Records.{headerBytes, characterBytes, mostCharacters, pieces, characterRecords, characterCount, goodRecords}
-use Rattle.font.specs.Font.{metricsOf, fontOf}
-use Rattle.font.specs.FontLaws.{whole-records, few-records, records-rise}
+use lib.Seq.{getD-take, getD-drop}
+use Rattle.font.specs.Records.{characterBytes, mostCharacters, pieces, clientRecords, clientCount}
+use Rattle.font.specs.Font.{recordIn, placeIn, past}
+use Rattle.font.specs.Table.{SoundRecords}
 use Rattle.font.specs.Keys.{keyOf, keyIn, Bytes, AllInBytes}
-use Rattle.font.specs.Halving.{Narrowed, narrowed-whole, narrowed-right, narrowed-left, found-there, found-nowhere}
+use Rattle.font.specs.Halving.{FoundAt, Narrowed, narrowed-whole, narrowed-right, narrowed-left, found-there, found-nowhere}
 use Rattle.font.proofs.WordLaws.{length-pieces, piece-at}
 
--- ---- the records of a table, by number
+-- ---- records by number
 
-module _ (t : List ℕ) where
+module _ (s : List ℕ) where
   -- how many there are, as the code counts them
   abbrev pub count : ℕ
-  count = (length t - headerBytes) / characterBytes
+  count = length s / characterBytes
 
-  pub recorded : length (characterRecords t) ≡ count
-  unfolding characterRecords characterCount
-  recorded = length-pieces characterBytes count (drop headerBytes t)
+  pub recorded : length (clientRecords s) ≡ count
+  unfolding clientRecords clientCount
+  recorded = length-pieces characterBytes count s
 
-  pub record-at : (m : ℕ) → m < count → getD (characterRecords t) m [] ≡ take characterBytes (drop (headerBytes + characterBytes * m) t)
-  unfolding characterRecords characterCount
-  record-at m h = piece-at characterBytes count (drop headerBytes t) m h ∙ rw drop-drop
+  pub record-at : (m : ℕ) → m < count → getD (clientRecords s) m [] ≡ take characterBytes (drop (characterBytes * m) s)
+  unfolding clientRecords clientCount
+  record-at m h = piece-at characterBytes count s m h
 
 -- a byte of a piece is one of the whole, or 0 where there is none
 pub piece-byte : (k n : ℕ) (t : List ℕ) → ((i : ℕ) → getD t i 0 < 256) → (i j : ℕ) → getD (getD (pieces k n t) i []) j 0 < 256
@@ -56,7 +55,7 @@ in-bytes k n t byte i =
     let each : (j : ℕ) → getD (getD (pieces k n t) i []) j 0 < 256 = piece-byte k n t (λ (i : ℕ). omega (arith, byte i)) i in
     record { family-byte = each 3; code-byte = each 4 }
 
--- ---- a byte and a key of a record, read from a table
+-- ---- a byte and a key of a record, read where it stands
 
 module _ (s : List ℕ) (at : ℕ) where
   pub byte-at : (k : ℕ) → k < characterBytes → getD (take characterBytes (drop at s)) k 0 ≡ getD s (at + k) 0
@@ -76,95 +75,96 @@ pub half-left : (n half steps : ℕ) → half + half ≤ n → n < 2 ^ steps →
 half-left n half zero less few more = absurd (omega arith)
 half-left n half (suc steps) less few more = let left : suc steps - 1 ≡ steps = omega arith in rw left (omega arith)
 
--- twelve for the most records that a table may have
+-- twelve for the most records that there may be
 pub twelve-enough : (n : ℕ) → n ≤ mostCharacters → n < 2 ^ 12
 twelve-enough n few = omega arith
 
 -- ---- a range, and the steps that are left
 
 -- from `from` to `to`; the symbol has this key
-pub record Halved (t : List ℕ) (key from to steps : ℕ) : Type 0 where
-  pub within : to ≤ count t
-  pub narrowed : Narrowed (characterRecords t) key from to
+pub record Halved (s : List ℕ) (key from to steps : ℕ) : Type 0 where
+  pub within : to ≤ count s
+  pub narrowed : Narrowed (clientRecords s) key from to
   pub enough : to - from < 2 ^ steps
 
--- the record in its middle
+-- the record of a number, and that in the middle of a range
+abbrev pub numbered : List ℕ → ℕ → List ℕ
+numbered s m = take characterBytes (drop (characterBytes * m) s)
+
 abbrev pub middle : List ℕ → ℕ → ℕ → List ℕ
-middle t from to = take characterBytes (drop (headerBytes + characterBytes * ((from + to) / 2)) t)
+middle s from to = numbered s ((from + to) / 2)
 
-module _ (t : List ℕ) (good : goodRecords t ≡ true) where
-  pub counted : length t ≡ headerBytes + characterBytes * count t
-  unfolding characterCount
-  counted = whole-records t good
+module _ (s : List ℕ) (sound : SoundRecords s) where
+  pub counted : length s ≡ characterBytes * count s
+  unfolding clientCount
+  counted = sound .whole
 
-  pub few : count t ≤ mostCharacters
-  unfolding characterCount
-  few = few-records t good
+  pub few : count s ≤ mostCharacters
+  unfolding clientCount
+  few = sound .few
 
-  module _ (byte : (i : ℕ) → Fits w8 (getD t i 0)) where
-    in-table : AllInBytes (characterRecords t)
-    unfolding characterRecords characterCount
-    in-table = in-bytes characterBytes (count t) (drop headerBytes t) (λ (i : ℕ). rw getD-drop (byte (headerBytes + i)))
+  module _ (byte : (i : ℕ) → Fits w8 (getD s i 0)) where
+    pub all-in-bytes : AllInBytes (clientRecords s)
+    unfolding clientRecords clientCount
+    all-in-bytes = in-bytes characterBytes (count s) s byte
 
-    pub halved-whole : (key steps : ℕ) → count t < 2 ^ steps → Halved t key 0 (count t) steps
+    pub halved-whole : (key steps : ℕ) → count s < 2 ^ steps → Halved s key 0 (count s) steps
     halved-whole key steps enough =
         record {
           within = omega arith;
-          narrowed = narrowed-whole (characterRecords t) in-table (records-rise t good) key (count t) (omega (arith, recorded t));
+          narrowed = narrowed-whole (clientRecords s) all-in-bytes (sound .rise) key (count s) (omega (arith, recorded s));
           enough = omega arith;
         }
 
-    module _ (key from to steps : ℕ) (more : from < to) (h : Halved t key from to steps) where
+    module _ (key from to steps : ℕ) (more : from < to) (h : Halved s key from to steps) where
       abbrev m : ℕ
       m = (from + to) / 2
 
-      inside : m < count t
+      inside : m < count s
       inside = omega (arith, h .within)
 
-      listed : m < length (characterRecords t)
-      listed = omega (arith, inside, recorded t)
+      listed : m < length (clientRecords s)
+      listed = omega (arith, inside, recorded s)
 
-      here : keyIn (getD (characterRecords t) m []) ≡ keyIn (middle t from to)
-      here = ap keyIn (record-at t m inside)
+      here : keyIn (getD (clientRecords s) m []) ≡ keyIn (middle s from to)
+      here = ap keyIn (record-at s m inside)
 
       pub has-step : 0 < steps
       has-step = step-left (to - from) steps (omega arith) (h .enough)
 
-      pub halved-right : keyIn (middle t from to) < key → Halved t key (m + 1) to (steps - 1)
+      pub halved-right : keyIn (middle s from to) < key → Halved s key (m + 1) to (steps - 1)
       halved-right less =
           record {
             within = h .within;
-            narrowed =
-                narrowed-right (characterRecords t) in-table (records-rise t good) key from to m listed (rw here less) (h .narrowed);
+            narrowed = narrowed-right (clientRecords s) all-in-bytes (sound .rise) key from to m listed (rw here less) (h .narrowed);
             enough = half-left (to - from) (to - (m + 1)) steps (omega arith) (h .enough) has-step;
           }
 
-      pub halved-left : key < keyIn (middle t from to) → Halved t key from m (steps - 1)
+      pub halved-left : key < keyIn (middle s from to) → Halved s key from m (steps - 1)
       halved-left less =
           record {
             within = omega (arith, inside);
-            narrowed = narrowed-left (characterRecords t) in-table (records-rise t good) key from to m (rw here less) (h .narrowed);
+            narrowed = narrowed-left (clientRecords s) all-in-bytes (sound .rise) key from to m (rw here less) (h .narrowed);
             enough = half-left (to - from) (m - from) steps (omega arith) (h .enough) has-step;
           }
 
     module _ (size family code : ℕ) (b : Bytes family code) where
       -- the record of a number that has the symbol's key
-      pub numbered-there : (m : ℕ) → m < count t →
-          let r = take characterBytes (drop (headerBytes + characterBytes * m) t) in
-          keyIn r ≡ keyOf size family code → fontOf t .symbol size family code ≡ some (metricsOf r)
-      unfolding fontOf
+      pub numbered-there : (m : ℕ) → m < count s → keyIn (numbered s m) ≡ keyOf size family code →
+          FoundAt size family code (clientRecords s) (numbered s m) (characterBytes * m)
       numbered-there m inside same =
-          let is = record-at t m inside in
-          found-there (characterRecords t) in-table size family code b (records-rise t good) m (omega (arith, recorded t)) (ap keyIn is ∙ same)
-          ∙ ap (λ (r : List ℕ). some (metricsOf r)) is
+          let is = record-at s m inside in
+          let found = found-there (clientRecords s) all-in-bytes size family code b (sound .rise) m (omega (arith, recorded s)) (ap keyIn is ∙ same) in
+          record { bytes = found .bytes ∙ is; place = found .place }
 
-      pub halved-there : (from to steps : ℕ) → from < to → Halved t (keyOf size family code) from to steps →
-          keyIn (middle t from to) ≡ keyOf size family code →
-          fontOf t .symbol size family code ≡ some (metricsOf (middle t from to))
-      halved-there from to steps more h same = numbered-there ((from + to) / 2) (omega (arith, h .within)) same
-
-      pub halved-nowhere : (from to steps : ℕ) → to ≤ from → Halved t (keyOf size family code) from to steps →
-          fontOf t .symbol size family code ≡ none
-      unfolding fontOf
+      pub halved-nowhere : (from to steps : ℕ) → to ≤ from → Halved s (keyOf size family code) from to steps →
+          FoundAt size family code (clientRecords s) [] (length s)
       halved-nowhere from to steps done h =
-          found-nowhere (characterRecords t) in-table size family code b from to done (h .narrowed)
+          let found = found-nowhere (clientRecords s) all-in-bytes size family code b from to done (h .narrowed) in
+          record { bytes = found .bytes; place = omega (arith, found .place, recorded s, counted) }
+
+-- ---- what a part of the records holds, and where it starts
+
+module _ (size family code : ℕ) {l : List (List ℕ)} {r : List ℕ} {k : ℕ} (f : FoundAt size family code l r k) where
+  pub lies : (p : ℕ × ℕ) {q : List ℕ} → q ≡ r → (q ≡ recordIn size family code l) × (past k p ≡ past (placeIn size family code l) p)
+  lies p e = (e ∙ sym (f .bytes), rw (f .place))

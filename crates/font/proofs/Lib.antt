@@ -3,5 +3,6 @@ mod WordLaws
 mod CheckLaws
 mod RecordLaws
 mod HalvingLaws
+mod LookupLaws
 mod ChainLaws
 mod Examples

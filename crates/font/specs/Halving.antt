@@ -1,6 +1,7 @@
 -- A symbol looked up by halving: what is known of the records on either side of a range that the symbol can still be in.
 --     Narrowed        records below a range have lesser keys than the symbol's, those above it greater ones
 --     narrowed-whole, narrowed-right, narrowed-left    the whole, and a step to either side of a record
+--     FoundAt         what a lookup comes to, bytes and place
 --     found-there     the record with the symbol's key is the first that is the symbol's
 --     found-nowhere   with an empty range there is none
 -- The definition of a font is the first record that is the symbol's, in whatever order they stand; rising records make it the only one.
@@ -8,41 +9,60 @@
 use mathlib.Core.Path.{_≡_, refl, ap, _∙_}
 use mathlib.Core.Bool.{Bool, true, false}
 use mathlib.Core.List.{List, [], _∷_}
-use mathlib.Core.Option.{Option, none, some}
-use Prim.Native.Nat.{ℕ, zero, suc, _+_, _<_, _≤_}
+use Prim.Native.Nat.{ℕ, zero, suc, _+_, _*_, _<_, _≤_}
 use native.Mathlib.Omega.{arith}
 use borrow.Author.Tests.{eq-eqb, ne-eqb, ltb-true, ltb-false}
 use lib.Dec.{ltb}
 use lib.ListN.{length, getD}
-use Rattle.font.specs.Records.{rising}
-use Rattle.font.specs.Font.{Metrics, isOf, lookup, metricsOf}
+use Rattle.font.specs.Records.{characterBytes, rising}
+use Rattle.font.specs.Font.{isOf, recordIn, placeIn}
 use Rattle.font.specs.Keys.{keyOf, keyIn, Bytes, AllInBytes, is-of-key, rising-keys}
 
 -- ---- the first record that is a symbol's
 
+-- among l the record r is the symbol's, or no bytes if none is, and k bytes stand before it
+pub record FoundAt (size family code : ℕ) (l : List (List ℕ)) (r : List ℕ) (k : ℕ) : Type 0 where
+  pub bytes : recordIn size family code l ≡ r
+  pub place : placeIn size family code l ≡ k
+
 module _ (size family code : ℕ) where
-  chosen : List ℕ → Option Metrics → Bool → Option Metrics
-  chosen r rest b = elim b [ true ↦ some (metricsOf r) | false ↦ rest ]
+  chosen : {A : Type 0} → A → A → Bool → A
+  chosen a behind b = elim b [ true ↦ a | false ↦ behind ]
+
+  -- the first is the symbol's
+  found-first : (r : List ℕ) (l : List (List ℕ)) → isOf size family code r ≡ true → FoundAt size family code (r ∷ l) r 0
+  unfolding recordIn placeIn chosen
+  found-first r l is =
+      record { bytes = ap (chosen r (recordIn size family code l)) is; place = ap (chosen 0 (characterBytes + placeIn size family code l)) is }
+
+  -- the first is not
+  found-behind : (r : List ℕ) (l : List (List ℕ)) {q : List ℕ} {k : ℕ} → isOf size family code r ≡ false → FoundAt size family code l q k →
+      FoundAt size family code (r ∷ l) q (characterBytes + k)
+  unfolding recordIn placeIn chosen
+  found-behind r l is found =
+      record {
+        bytes = ap (chosen r (recordIn size family code l)) is ∙ found .bytes;
+        place = ap (chosen 0 (characterBytes + placeIn size family code l)) is ∙ ap (λ (k : ℕ). characterBytes + k) (found .place);
+      }
 
   -- no record is the symbol's
-  lookup-none : (l : List (List ℕ)) → ((i : ℕ) → i < length l → isOf size family code (getD l i []) ≡ false) →
-      lookup size family code l ≡ none
-  unfolding lookup chosen
-  lookup-none [] other = refl
-  lookup-none (r ∷ l) other =
-      ap (chosen r (lookup size family code l)) (other 0 (omega arith))
-      ∙ lookup-none l (λ i h. other (suc i) (omega arith))
+  found-none : (l : List (List ℕ)) → ((i : ℕ) → i < length l → isOf size family code (getD l i []) ≡ false) →
+      FoundAt size family code l [] (characterBytes * length l)
+  unfolding recordIn placeIn
+  found-none [] other = record { bytes = refl; place = refl }
+  found-none (r ∷ l) other =
+      let here = found-behind r l (other 0 (omega arith)) (found-none l (λ i h. other (suc i) (omega arith))) in
+      record { bytes = here .bytes; place = omega (arith, here .place) }
 
   -- the m-th is, and none before it
-  lookup-at : (l : List (List ℕ)) (m : ℕ) → m < length l → isOf size family code (getD l m []) ≡ true →
+  found-at : (l : List (List ℕ)) (m : ℕ) → m < length l → isOf size family code (getD l m []) ≡ true →
       ((i : ℕ) → i < m → isOf size family code (getD l i []) ≡ false) →
-      lookup size family code l ≡ some (metricsOf (getD l m []))
-  unfolding lookup chosen
-  lookup-at [] m h is other = absurd (omega arith)
-  lookup-at (r ∷ l) zero h is other = ap (chosen r (lookup size family code l)) is
-  lookup-at (r ∷ l) (suc m) h is other =
-      ap (chosen r (lookup size family code l)) (other 0 (omega arith))
-      ∙ lookup-at l m (omega arith) is (λ i k. other (suc i) (omega arith))
+      FoundAt size family code l (getD l m []) (characterBytes * m)
+  found-at [] m h is other = absurd (omega arith)
+  found-at (r ∷ l) zero h is other = found-first r l is
+  found-at (r ∷ l) (suc m) h is other =
+      let here = found-behind r l (other 0 (omega arith)) (found-at l m (omega arith) is (λ i k. other (suc i) (omega arith))) in
+      record { bytes = here .bytes; place = omega (arith, here .place) }
 
 -- ---- ranges
 
@@ -76,13 +96,14 @@ module _ (l : List (List ℕ)) (bytes : AllInBytes l) (size family code : ℕ) (
   other i h = is-of-key size family code (getD l i []) b (bytes i) ∙ ne-eqb _ _ h
 
   pub found-there : rising l ≡ true → (m : ℕ) → m < length l → keyIn (getD l m []) ≡ keyOf size family code →
-      lookup size family code l ≡ some (metricsOf (getD l m []))
+      FoundAt size family code l (getD l m []) (characterBytes * m)
   found-there up m h same =
-      lookup-at size family code l m h (is-of-key size family code (getD l m []) b (bytes m) ∙ eq-eqb _ _ same)
+      found-at size family code l m h (is-of-key size family code (getD l m []) b (bytes m) ∙ eq-eqb _ _ same)
       (λ i g. other i (λ e. let earlier = rising-keys l bytes up i m g h in omega arith))
 
-  pub found-nowhere : (from to : ℕ) → to ≤ from → Narrowed l (keyOf size family code) from to → lookup size family code l ≡ none
-  found-nowhere from to h n = lookup-none size family code l (λ i g. other i (λ (e : keyIn (getD l i []) ≡ keyOf size family code). outside i g e))
+  pub found-nowhere : (from to : ℕ) → to ≤ from → Narrowed l (keyOf size family code) from to →
+      FoundAt size family code l [] (characterBytes * length l)
+  found-nowhere from to h n = found-none size family code l (λ i g. other i (λ (e : keyIn (getD l i []) ≡ keyOf size family code). outside i g e))
     where
       outside : (i : ℕ) → i < length l → keyIn (getD l i []) ≡ keyOf size family code → ⊥
       outside i g e = go (ltb i from) refl

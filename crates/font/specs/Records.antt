@@ -2,6 +2,7 @@
 --     parameterRecords t    the three PA records of a table t
 --     characterRecords t    its CH records
 --     goodRecords t         whether t breaks no rule of document 01
+--     clientRecords c, goodClientRecords c     the same of a client's table c, which has CH records alone (request 6)
 -- A table is read from its front, a record at a time.
 -- Assumes nothing.
 use mathlib.Core.Bool.{Bool, true, _&&_, _||_}
@@ -38,6 +39,10 @@ characterBytes = 23
 abbrev pub mostCharacters : ℕ
 mostCharacters = 2_048
 
+-- in a client's table
+abbrev pub mostClientCharacters : ℕ
+mostClientCharacters = 512
+
 abbrev pub greatestWord : ℕ
 greatestWord = 8_388_607
 
@@ -62,6 +67,13 @@ parameterRecords t = pieces parameterBytes sizeCount t
 
 unfoldable pub characterRecords : List ℕ → List (List ℕ)
 characterRecords t = pieces characterBytes (characterCount t) (drop headerBytes t)
+
+-- those of a client's table start with its first byte
+unfoldable pub clientCount : List ℕ → ℕ
+clientCount c = length c / characterBytes
+
+unfoldable pub clientRecords : List ℕ → List (List ℕ)
+clientRecords c = pieces characterBytes (clientCount c) c
 
 -- n four-byte words, from the front of t
 unfoldable pub words : ℕ → List ℕ → List ℕ
@@ -143,3 +155,10 @@ goodRecords t =
     && every goodParameters (parameterRecords t)
     && every goodCharacter (characterRecords t)
     && rising (characterRecords t)
+
+unfoldable pub goodClientLength : List ℕ → Bool
+goodClientLength c = eqb (length c) (characterBytes * clientCount c) && leb (clientCount c) mostClientCharacters
+
+-- an empty one is good
+unfoldable pub goodClientRecords : List ℕ → Bool
+goodClientRecords c = goodClientLength c && every goodCharacter (clientRecords c) && rising (clientRecords c)

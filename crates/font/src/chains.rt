@@ -1,49 +1,58 @@
-// Chains of successors, of sixteen steps at most (specs/Chains.antt).
-use crate::Found;
+// Chains of successors, of sixteen steps at most (specs/Chains.antt), each step to a symbol of the client's or else of ours.
 use crate::LONGEST_CHAIN;
-use crate::Successor;
 use crate::format;
-use crate::symbol_near;
+use crate::lookup;
 ghost use mathlib.Core.Path.{_≡_};
-ghost use mathlib.Core.Bool.{true};
-ghost use Prim.Native.Nat.{_+_, _≤_};
-ghost use lib.ListN.{length, take, drop};
-ghost use Rattle.font.specs.Records.{characterBytes, mostCharacters, characterCount, characterRecords, every, goodRecords};
-ghost use Rattle.font.specs.Font.{fontOf};
-ghost use Rattle.font.specs.Chains.{goesOn, chainEnds};
+ghost use Prim.Native.Nat.{_≤_};
+ghost use lib.ListN.{length};
+ghost use Rattle.font.specs.Records.{characterBytes, mostCharacters, clientRecords, every};
+ghost use Rattle.font.specs.Font.{fontWith};
+ghost use Rattle.font.specs.Chains.{goesOn};
+ghost use Rattle.font.specs.Table.{seenEnds, SoundTables, SoundRecords};
+ghost use Rattle.font.specs.Values.{Followed, AllFollowed};
 
-// Whether none of a table's n records starts a chain of more than sixteen steps.
-pub fn all_end(table: &[u8], n: usize) -> bool
-    requires { ⌜ (goodRecords (now table) ≡ true) × (n ≡ characterCount (now table)) ⌝ }
-    ensures { λ answer. ⌜ answer ≡ every (chainEnds (fontOf (now (table .entry)))) (characterRecords (now (table .entry))) ⌝ }
+// Whether none of the records s starts a chain of more than sixteen steps.
+pub fn all_end<'a>(table: &'a [u8], client: &'a [u8], s: &'a [u8]) -> bool
+    requires { ⌜ SoundTables (now table) (now client) × SoundRecords (now s) × AllFollowed (now table) (now client) (clientRecords (now s)) ⌝ }
+    ensures { λ answer. ⌜ answer ≡ every (seenEnds (fontWith (now (table .entry)) (now (client .entry)))) (clientRecords (now (s .entry))) ⌝ }
 {
+    let n = s.len() / format::CHARACTER_BYTES;
     let mut good = true;
     let mut i = 0;
     while i < n {
-        let at = format::HEADER_BYTES + format::CHARACTER_BYTES * i;
-        good = good & ends(table, i, at);
+        let at = format::CHARACTER_BYTES * i;
+        let end = at + format::CHARACTER_BYTES;
+        good = good & ends(table, client, &s[at..end], i);
         i += 1;
     }
     good
 }
 
-// The chain of the i-th record, which starts at a place. Without the flag it has no step.
-fn ends(table: &[u8], i: usize, at: usize) -> bool
-    requires { ⌜ (goodRecords (now table) ≡ true) × (at + characterBytes ≤ length (now table)) × (i ≤ mostCharacters) ⌝ }
-    ensures { λ answer. ⌜ answer ≡ chainEnds (fontOf (now (table .entry))) (take characterBytes (drop at (now (table .entry)))) ⌝ }
+// The chain of the symbol of r, the i-th record. Without the flag it has no step. With no client's table the record is its own
+// symbol's, and its successor comes next.
+fn ends<'a>(table: &'a [u8], client: &'a [u8], r: &'a [u8], i: usize) -> bool
+    requires { ⌜ SoundTables (now table) (now client) × (characterBytes ≤ length (now r)) × (i ≤ mostCharacters) × Followed (now table) (now client) (now r) ⌝ }
+    ensures { λ answer. ⌜ answer ≡ seenEnds (fontWith (now (table .entry)) (now (client .entry))) (now (r .entry)) ⌝ }
 {
-    if table[at + format::FLAG] != 1 {
+    if r[format::FLAG] != 1 {
         return true;
     }
-    let first = first_of(i, table[at + format::CODE]);
-    !goes_on(
-        table,
-        table[at + format::SIZE],
-        table[at + format::FAMILY],
-        table[at + format::SUCCESSOR],
-        first,
-        LONGEST_CHAIN,
-    )
+    let size = r[format::SIZE];
+    let family = r[format::FAMILY];
+    let code = r[format::CODE];
+    let first = first_of(i, code);
+    if client.len() == 0 {
+        return !goes_on(
+            table,
+            client,
+            size,
+            family,
+            r[format::SUCCESSOR],
+            first,
+            LONGEST_CHAIN,
+        );
+    }
+    !goes_on(table, client, size, family, code, first, LONGEST_CHAIN + 1)
 }
 
 // Where the family of the i-th record should start: most have all their codes in a row.
@@ -58,20 +67,36 @@ fn first_of(i: usize, code: u8) -> usize
     }
 }
 
-// Whether the symbol of a code is present, and so many steps can be taken from it. `first` is where its family should start.
-fn goes_on(table: &[u8], size: u8, family: u8, code: u8, first: usize, steps: usize) -> bool
-    requires { ⌜ (goodRecords (now table) ≡ true) × (first ≤ mostCharacters) ⌝ }
-    ensures { λ answer. ⌜ answer ≡ goesOn (fontOf (now (table .entry))) size family steps (fontOf (now (table .entry)) .symbol size family code) ⌝ }
+// Whether the symbol of a code is present, and so many steps can be taken from it. `first` is where its family should start in ours.
+fn goes_on<'a>(
+    table: &'a [u8],
+    client: &'a [u8],
+    size: u8,
+    family: u8,
+    code: u8,
+    first: usize,
+    steps: usize,
+) -> bool
+    requires { ⌜ SoundTables (now table) (now client) × (first ≤ mostCharacters) ⌝ }
+    ensures { λ answer. ⌜ answer ≡ goesOn (fontWith (now (table .entry)) (now (client .entry))) size family steps (fontWith (now (table .entry)) (now (client .entry)) .symbol size family code) ⌝ }
 {
-    let Found::Symbol(m) = symbol_near(table, first + code as usize, size, family, code) else {
+    let r = lookup::record_near(table, client, first + code as usize, size, family, code);
+    if r.len() < format::CHARACTER_BYTES {
         return false;
-    };
+    }
     if steps == 0 {
         return true;
     }
-    let next = m.successor;
-    match next {
-        Successor::Nothing => false,
-        Successor::Code(c) => goes_on(table, size, family, c, first, steps - 1),
+    if r[format::FLAG] != 1 {
+        return false;
     }
+    goes_on(
+        table,
+        client,
+        size,
+        family,
+        r[format::SUCCESSOR],
+        first,
+        steps - 1,
+    )
 }

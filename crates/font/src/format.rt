@@ -18,6 +18,9 @@ pub const CHARACTER_BYTES: usize = 23;
 
 pub const MOST_CHARACTERS: usize = 2_048;
 
+// In a client's table.
+pub const MOST_CLIENT_CHARACTERS: usize = 512;
+
 // Steps of a lookup, each of which halves the records.
 pub const MOST_STEPS: usize = 12;
 

@@ -1,16 +1,18 @@
-// The font table: its bytes, its parameters and its characters. What a good table is, and the font that it holds,
-// is defined in specs/Table.antt and specs/Font.antt; what these functions answer, in specs/Values.antt.
+// The font table: its bytes, its parameters and its characters, and a client's table of characters over it. What a good table is,
+// and the font that it holds, is defined in specs/Table.antt and specs/Font.antt; what these functions answer, in specs/Values.antt.
 mod chains;
 mod format;
+mod lookup;
 mod records;
 
 ghost use mathlib.Core.Path.{_≡_};
 ghost use mathlib.Core.Bool.{true};
 ghost use Prim.Native.Nat.{_<_, _≤_};
 ghost use lib.ListN.{length};
-ghost use Rattle.font.specs.Records.{sizeCount, headerBytes, characterBytes, goodRecords};
-ghost use Rattle.font.specs.Table.{goodTable};
-ghost use Rattle.font.specs.Font.{fontOf, metricsOf, successorOf};
+ghost use denote.Ref.{ptr};
+ghost use Rattle.font.specs.Records.{sizeCount, headerBytes, characterBytes};
+ghost use Rattle.font.specs.Table.{goodTable, goodClient, SoundTables};
+ghost use Rattle.font.specs.Font.{fontWith, recordOf, placeOf, metricsOf, successorOf};
 ghost use Rattle.font.specs.Values.{foundAs, metricsAs, successorAs, HoldsRow, HoldsParameters};
 
 // The code of the next larger symbol of the same family, if there is one.
@@ -57,7 +59,31 @@ pub fn is_good(table: &[u8]) -> bool
     if !records::are_characters(&table[format::HEADER_BYTES..], n) {
         return false;
     }
-    chains::all_end(table, n)
+    chains::all_end(table, &table[..0], &table[format::HEADER_BYTES..])
+}
+
+// Whether a client's table breaks no rule, alone and with ours. An empty one changes nothing.
+pub fn is_good_client<'a>(table: &'a [u8], client: &'a [u8]) -> bool
+    requires { ⌜ goodTable (now table) ≡ true ⌝ }
+    ensures { λ answer. ⌜ answer ≡ goodClient (now (table .entry)) (now (client .entry)) ⌝ }
+{
+    if client.len() == 0 {
+        return true;
+    }
+    let n = client.len() / format::CHARACTER_BYTES;
+    if client.len() != format::CHARACTER_BYTES * n {
+        return false;
+    }
+    if format::MOST_CLIENT_CHARACTERS < n {
+        return false;
+    }
+    if !records::are_characters(client, n) {
+        return false;
+    }
+    if !chains::all_end(table, client, client) {
+        return false;
+    }
+    chains::all_end(table, client, &table[format::HEADER_BYTES..])
 }
 
 // The parameters of the three sizes.
@@ -86,47 +112,26 @@ fn row(table: &[u8], size: usize) -> [u32; 35]
     words
 }
 
-// The symbol of a size, family and code. The records of a good table rise, so that each step halves the range `from` to `to`
-// in which its record can be. `steps` only counts: that it never falls below 0 is proved, so that twelve are enough.
-pub fn symbol(table: &[u8], size: u8, family: u8, code: u8) -> Found
-    requires { ⌜ goodRecords (now table) ≡ true ⌝ }
-    ensures { λ answer. ⌜ foundAs answer ≡ fontOf (now (table .entry)) .symbol size family code ⌝ }
+// The record of a symbol, as a part of the client's table or else of ours, or an empty part. No record has the number that is
+// tried first.
+pub fn record_of<'a>(table: &'a [u8], client: &'a [u8], size: u8, family: u8, code: u8) -> &'a [u8]
+    requires { ⌜ SoundTables (now table) (now client) ⌝ }
+    ensures { λ r. ⌜ now r ≡ recordOf (now (table .entry)) (now (client .entry)) size family code ⌝ }
+    ensures { λ r. ⌜ ptr r ≡ placeOf (now (table .entry)) (now (client .entry)) (ptr (table .entry)) (ptr (client .entry)) size family code ⌝ }
 {
-    let key = records::key_of(size, family, code);
-    let mut from = 0;
-    let mut to = (table.len() - format::HEADER_BYTES) / format::CHARACTER_BYTES;
-    let mut steps = format::MOST_STEPS;
-    while from < to {
-        steps -= 1;
-        let middle = (from + to) / 2;
-        let at = format::HEADER_BYTES + format::CHARACTER_BYTES * middle;
-        let other = records::key_at(table, at);
-        if other == key {
-            let end = at + format::CHARACTER_BYTES;
-            return Found::Symbol(metrics_of(&table[at..end]));
-        }
-        if other < key {
-            from = middle + 1;
-        } else {
-            to = middle;
-        }
-    }
-    Found::Absent
+    lookup::record_near(table, client, format::MOST_CHARACTERS, size, family, code)
 }
 
-// The same, with the record of a number tried first. Where that is the symbol's, nothing is halved.
-pub fn symbol_near(table: &[u8], number: usize, size: u8, family: u8, code: u8) -> Found
-    requires { ⌜ goodRecords (now table) ≡ true ⌝ }
-    ensures { λ answer. ⌜ foundAs answer ≡ fontOf (now (table .entry)) .symbol size family code ⌝ }
+// The symbol of a size, family and code.
+pub fn symbol<'a>(table: &'a [u8], client: &'a [u8], size: u8, family: u8, code: u8) -> Found
+    requires { ⌜ SoundTables (now table) (now client) ⌝ }
+    ensures { λ answer. ⌜ foundAs answer ≡ fontWith (now (table .entry)) (now (client .entry)) .symbol size family code ⌝ }
 {
-    if number < (table.len() - format::HEADER_BYTES) / format::CHARACTER_BYTES {
-        let at = format::HEADER_BYTES + format::CHARACTER_BYTES * number;
-        if records::key_at(table, at) == records::key_of(size, family, code) {
-            let end = at + format::CHARACTER_BYTES;
-            return Found::Symbol(metrics_of(&table[at..end]));
-        }
+    let r = record_of(table, client, size, family, code);
+    if r.len() < format::CHARACTER_BYTES {
+        return Found::Absent;
     }
-    symbol(table, size, family, code)
+    Found::Symbol(metrics_of(r))
 }
 
 // The metrics in a record.

@@ -12,7 +12,7 @@ use mathlib.Core.Option.{none, some}
 use Prim.Native.Nat.{ℕ, _*_, _≤_, _<_}
 use native.Mathlib.Omega.{arith}
 use lib.ListN.{length, take, drop, length-take, drop-of-length-le}
-use Rattle.font.specs.Font.{fontOf}
+use Rattle.font.specs.Font.{fontWith}
 use Rattle.formula.specs.Places.{treeOf}
 use Rattle.boxes.specs.declared.styles.Style.{Style}
 use Rattle.boxes.specs.declared.Size.{Size}
@@ -39,40 +39,40 @@ drawn-whole ns n b ys count room drawn =
     in
     drawn (omega arith) ∙ ap (λ (r : List ℕ). bytesOf ns ++ r) rest ∙ append-nil (bytesOf ns)
 
-module _ (style : ℕ) (table formula : List ℕ) where
-  module _ (s : Style) (g : Reads style table formula s) where
-    module _ (z : Size) (n : ℕ) (h : Boxes s table formula z n) where
+module _ (style : ℕ) (table client formula : List ℕ) where
+  module _ (s : Style) (g : Reads style table client formula s) where
+    module _ (z : Size) (n : ℕ) (h : Boxes s table client formula z n) where
       abbrev found : Box
-      found = setList (fontOf table) noSides s (treeOf formula)
+      found = setList (fontWith table client) noSides s (treeOf formula)
 
-      found-is : resultOf style table formula ≡ boxed found
+      found-is : resultOf style table client formula ≡ boxed found
       found-is = g .result-is ∙ h .result-is
 
-      pub measured-is : answeredAs (Accepted z n) ≡ measured style table formula
+      pub measured-is : answeredAs (Accepted z n) ≡ measured style table client formula
       measured-is =
           let answer : answeredAs (Accepted z n) ≡ accepted found =
           λ i. record { number = 0; place = 0; size = h .size-is i; count = h .count-is i }
           in
-          answer ∙ sym (answers.measured-boxed noSides style table formula found found-is)
+          answer ∙ sym (answers.measured-boxed noSides style table client formula found found-is)
 
-      count-measured : n ≡ measured style table formula .count
+      count-measured : n ≡ measured style table client formula .count
       count-measured = ap (λ (a : Answered). a .count) measured-is
 
-      pub setting-is : (room : ℕ) → bytesInNode * n ≤ room → answeredAs (Accepted z n) ≡ setting style table formula room
+      pub setting-is : (room : ℕ) → bytesInNode * n ≤ room → answeredAs (Accepted z n) ≡ setting style table client formula room
       setting-is room l =
           measured-is
-          ∙ sym (answers.set-boxed noSides style table formula found found-is room (subst (λ (k : ℕ). bytesInNode * k ≤ room) count-measured l))
+          ∙ sym (answers.set-boxed noSides style table client formula found found-is room (subst (λ (k : ℕ). bytesInNode * k ≤ room) count-measured l))
 
       pub no-room-is : (b : List ℕ) → length b < bytesInNode * n →
-          (answeredAs NoRoom ≡ setting style table formula (length b)) × (b ≡ bufferAfter style table formula b)
+          (answeredAs NoRoom ≡ setting style table client formula (length b)) × (b ≡ bufferAfter style table client formula b)
       no-room-is b l =
-          let lacks : length b < bytesInNode * measured style table formula .count = rw count-measured at l in
-          let e = answers.no-room-is noSides style table formula found found-is b lacks in
+          let lacks : length b < bytesInNode * measured style table client formula .count = rw count-measured at l in
+          let e = answers.no-room-is noSides style table client formula found found-is b lacks in
           (sym (e .0), sym (e .1))
 
       pub written-is : (b ys : List ℕ) (r : ItemsSet) → bytesInNode * n ≤ length b →
-          ListDone (fontOf table) noSides s (treeOf formula) (length formula) (take (bytesInNode * n) b) r ys →
-          (ys ++ drop (bytesInNode * n) b) ≡ bufferAfter style table formula b
+          ListDone (fontWith table client) noSides s (treeOf formula) (length formula) (take (bytesInNode * n) b) r ys →
+          (ys ++ drop (bytesInNode * n) b) ≡ bufferAfter style table client formula b
       written-is b ys (Missing place) l done = absurd (impossible (sym (h .none-missing) ∙ done .0))
         where
           impossible : none ≡ some place → ⊥
@@ -81,18 +81,18 @@ module _ (style : ℕ) (table formula : List ℕ) where
           let front : ys ≡ bytesOf (found .nodes) = drawn-whole (found .nodes) n b ys (h .count-is) l (done .1 (h .fits)) in
           ap (λ (r : List ℕ). r ++ drop (bytesInNode * n) b) front
           ∙ ap (λ (k : ℕ). bytesOf (found .nodes) ++ drop (bytesInNode * k) b) count-measured
-          ∙ sym (answers.buffer-boxed noSides style table formula found found-is b (subst (λ (k : ℕ). bytesInNode * k ≤ length b) count-measured l))
+          ∙ sym (answers.buffer-boxed noSides style table client formula found found-is b (subst (λ (k : ℕ). bytesInNode * k ≤ length b) count-measured l))
 
-    pub refused-later : (a : Answer) → Refuses a (readResult s table formula) → Refuses a (resultOf style table formula)
+    pub refused-later : (a : Answer) → Refuses a (readResult s table client formula) → Refuses a (resultOf style table client formula)
     refused-later a h =
         record { number = h .number; place = h .place; result-is = g .result-is ∙ h .result-is; answer-is = h .answer-is }
 
-  module _ (a : Answer) (h : Refuses a (resultOf style table formula)) where
-    pub measured-refused : answeredAs a ≡ measured style table formula
-    measured-refused = h .answer-is ∙ sym (answers.measured-refused noSides style table formula _ _ (h .result-is))
+  module _ (a : Answer) (h : Refuses a (resultOf style table client formula)) where
+    pub measured-refused : answeredAs a ≡ measured style table client formula
+    measured-refused = h .answer-is ∙ sym (answers.measured-refused noSides style table client formula _ _ (h .result-is))
 
     pub refused-is : (b : List ℕ) →
-        (answeredAs a ≡ setting style table formula (length b)) × (b ≡ bufferAfter style table formula b)
+        (answeredAs a ≡ setting style table client formula (length b)) × (b ≡ bufferAfter style table client formula b)
     refused-is b =
-        let e = answers.refused-is noSides style table formula _ _ (h .result-is) b in
+        let e = answers.refused-is noSides style table client formula _ _ (h .result-is) b in
         (h .answer-is ∙ sym (e .0), sym (e .1))

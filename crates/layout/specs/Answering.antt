@@ -10,8 +10,8 @@ use mathlib.Core.List.{List}
 use mathlib.Core.Option.{none}
 use Prim.Native.Nat.{ℕ, _≤_}
 use lib.ListN.{length}
-use Rattle.font.specs.Table.{goodTable}
-use Rattle.font.specs.Font.{fontOf}
+use Rattle.font.specs.Table.{goodTable, goodClient}
+use Rattle.font.specs.Font.{fontWith}
 use Rattle.formula.specs.Reading.{formulaLimit}
 use Rattle.formula.specs.Places.{Readable, treeOf}
 use Rattle.boxes.specs.declared.styles.Style.{Style}
@@ -39,34 +39,35 @@ pub record Refuses (a : Answer) (r : Result) : Type 0 where
 
 -- ---- the tests before the walk
 
-abbrev pub readResult : Style → List ℕ → List ℕ → Result
-readResult s table formula =
-    ifPresent (fontOf table) noSides s (treeOf formula) (missingItems (fontOf table) s (treeOf formula))
+abbrev pub readResult : Style → List ℕ → List ℕ → List ℕ → Result
+readResult s table client formula =
+    ifPresent (fontWith table client) noSides s (treeOf formula) (missingItems (fontWith table client) s (treeOf formula))
 
--- a formula that reads, in a style that there is, and a table that breaks no rule
-pub record Reads (style : ℕ) (table formula : List ℕ) (s : Style) : Type 0 where
+-- a formula that reads, in a style that there is, and tables that break no rule
+pub record Reads (style : ℕ) (table client formula : List ℕ) (s : Style) : Type 0 where
   pub table-good : goodTable table ≡ true
+  pub client-good : goodClient table client ≡ true
   pub readable : Readable formula
   pub short : length formula ≤ formulaLimit
-  pub result-is : resultOf style table formula ≡ readResult s table formula
+  pub result-is : resultOf style table client formula ≡ readResult s table client formula
 
-abbrev pub ReadDone : ℕ → List ℕ → List ℕ → Reading → Type 0
-ReadDone style table formula (reading.Reads s) = Reads style table formula s
-ReadDone style table formula (reading.Refused a) = Refuses a (resultOf style table formula)
+abbrev pub ReadDone : ℕ → List ℕ → List ℕ → List ℕ → Reading → Type 0
+ReadDone style table client formula (reading.Reads s) = Reads style table client formula s
+ReadDone style table client formula (reading.Refused a) = Refuses a (resultOf style table client formula)
 
 -- ---- the walk
 
 -- a formula in the style s that is accepted, with the size z and n nodes
-pub record Boxes (s : Style) (table formula : List ℕ) (z : Size) (n : ℕ) : Type 0 where
-  pub none-missing : missingItems (fontOf table) s (treeOf formula) ≡ none
-  pub fits : itemsFit (fontOf table) s (treeOf formula) ≡ true
-  pub result-is : readResult s table formula ≡ boxed (setList (fontOf table) noSides s (treeOf formula))
-  pub size-is : sizeAs z ≡ setList (fontOf table) noSides s (treeOf formula) .size
-  pub count-is : n ≡ length (setList (fontOf table) noSides s (treeOf formula) .nodes)
+pub record Boxes (s : Style) (table client formula : List ℕ) (z : Size) (n : ℕ) : Type 0 where
+  pub none-missing : missingItems (fontWith table client) s (treeOf formula) ≡ none
+  pub fits : itemsFit (fontWith table client) s (treeOf formula) ≡ true
+  pub result-is : readResult s table client formula ≡ boxed (setList (fontWith table client) noSides s (treeOf formula))
+  pub size-is : sizeAs z ≡ setList (fontWith table client) noSides s (treeOf formula) .size
+  pub count-is : n ≡ length (setList (fontWith table client) noSides s (treeOf formula) .nodes)
 
-abbrev pub Examined : Style → List ℕ → List ℕ → Finding → Type 0
-Examined s table formula (finding.Boxed z n) = Boxes s table formula z n
-Examined s table formula (finding.Refused a) = Refuses a (readResult s table formula)
+abbrev pub Examined : Style → List ℕ → List ℕ → List ℕ → Finding → Type 0
+Examined s table client formula (finding.Boxed z n) = Boxes s table client formula z n
+Examined s table client formula (finding.Refused a) = Refuses a (readResult s table client formula)
 
 abbrev pub Weighed : Line → Finding → Type 0
 Weighed l (finding.Boxed z n) = (lineFits l ≡ true) × (z ≡ l .size) × (n ≡ l .run .count)

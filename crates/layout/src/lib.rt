@@ -1,5 +1,6 @@
-// Measuring and setting a formula. What they answer is defined in specs/Answers.antt.
-// Every test that needs no walk comes before the parameters are taken out of the table; they are then lent to each walk.
+// Measuring and setting a formula, with the symbols of a client's table over ours. What they answer is defined in specs/Answers.antt of
+// crate answers.
+// Every test that needs no walk comes before the parameters are taken out of our table; they are then lent to each walk.
 
 ghost use mathlib.Core.Path.{_≡_};
 ghost use lib.ListN.{length};
@@ -29,6 +30,7 @@ pub enum Answer {
     Accepted(Size, usize),
     NoStyle,
     BadTable,
+    BadClient,
     Unreadable(usize),
     TooDeep(usize),
     Missing(usize),
@@ -49,10 +51,10 @@ pub enum Finding {
 }
 
 // The answer of measuring.
-pub fn measure(style: u8, table: &[u8], formula: &[u8]) -> Answer
-    ensures { λ r. ⌜ answeredAs r ≡ measured style (now (table .entry)) (now (formula .entry)) ⌝ }
+pub fn measure<'a>(style: u8, table: &'a [u8], client: &'a [u8], formula: &[u8]) -> Answer
+    ensures { λ r. ⌜ answeredAs r ≡ measured style (now (table .entry)) (now (client .entry)) (now (formula .entry)) ⌝ }
 {
-    let reading = read(style, table, formula);
+    let reading = read(style, table, client, formula);
     let s = match reading {
         Reading::Reads(s) => s,
         Reading::Refused(answer) => {
@@ -60,7 +62,7 @@ pub fn measure(style: u8, table: &[u8], formula: &[u8]) -> Answer
         }
     };
     let p = font::parameters(table);
-    let finding = examine(table, &p, s, formula);
+    let finding = examine(table, client, &p, s, formula);
     match finding {
         Finding::Boxed(size, count) => Answer::Accepted(size, count),
         Finding::Refused(answer) => answer,
@@ -68,11 +70,17 @@ pub fn measure(style: u8, table: &[u8], formula: &[u8]) -> Answer
 }
 
 // The answer of setting. Nodes are written only where nothing is left to refuse.
-pub fn set(style: u8, table: &[u8], formula: &[u8], nodes: &mut [u8]) -> Answer
-    ensures { λ r. ⌜ answeredAs r ≡ setting style (now (table .entry)) (now (formula .entry)) (length (now (nodes .entry))) ⌝ }
-    ensures { λ _. ⌜ now (nodes .exit) ≡ bufferAfter style (now (table .entry)) (now (formula .entry)) (now (nodes .entry)) ⌝ }
+pub fn set<'a>(
+    style: u8,
+    table: &'a [u8],
+    client: &'a [u8],
+    formula: &[u8],
+    nodes: &mut [u8],
+) -> Answer
+    ensures { λ r. ⌜ answeredAs r ≡ setting style (now (table .entry)) (now (client .entry)) (now (formula .entry)) (length (now (nodes .entry))) ⌝ }
+    ensures { λ _. ⌜ now (nodes .exit) ≡ bufferAfter style (now (table .entry)) (now (client .entry)) (now (formula .entry)) (now (nodes .entry)) ⌝ }
 {
-    let reading = read(style, table, formula);
+    let reading = read(style, table, client, formula);
     let s = match reading {
         Reading::Reads(s) => s,
         Reading::Refused(answer) => {
@@ -80,23 +88,23 @@ pub fn set(style: u8, table: &[u8], formula: &[u8], nodes: &mut [u8]) -> Answer
         }
     };
     let p = font::parameters(table);
-    let finding = examine(table, &p, s, formula);
+    let finding = examine(table, client, &p, s, formula);
     match finding {
         Finding::Boxed(size, count) => {
             if nodes.len() / BYTES_IN_NODE < count {
                 return Answer::NoRoom;
             }
             let end = BYTES_IN_NODE * count;
-            set_list(table, &p, s, formula, &mut nodes[..end]);
+            set_list(table, client, &p, s, formula, &mut nodes[..end]);
             Answer::Accepted(size, count)
         }
         Finding::Refused(answer) => answer,
     }
 }
 
-// The tests of the style, the table and the reading, in this order.
-fn read(style: u8, table: &[u8], formula: &[u8]) -> Reading
-    ensures { λ r. ⌜ ReadDone style (now (table .entry)) (now (formula .entry)) r ⌝ }
+// The tests of the style, our table, the client's and the reading, in this order.
+fn read<'a>(style: u8, table: &'a [u8], client: &'a [u8], formula: &[u8]) -> Reading
+    ensures { λ r. ⌜ ReadDone style (now (table .entry)) (now (client .entry)) (now (formula .entry)) r ⌝ }
 {
     let numbered = style_of(style);
     let Numbered::Styled(s) = numbered else {
@@ -104,6 +112,9 @@ fn read(style: u8, table: &[u8], formula: &[u8]) -> Reading
     };
     if !font::is_good(table) {
         return Reading::Refused(Answer::BadTable);
+    }
+    if !font::is_good_client(table, client) {
+        return Reading::Refused(Answer::BadClient);
     }
     let verdict = read_formula(formula);
     match verdict {
@@ -123,12 +134,18 @@ fn faulty(fault: Fault, place: usize) -> Answer
 }
 
 // The tests of a formula that reads: the walk without room for any node.
-fn examine(table: &[u8], p: &Parameters, style: Style, formula: &[u8]) -> Finding
-    requires { ⌜ ListGiven (now table) (now p) (now formula) ⌝ }
-    ensures { λ r. ⌜ Examined style (now (table .entry)) (now (formula .entry)) r ⌝ }
+fn examine<'a>(
+    table: &'a [u8],
+    client: &'a [u8],
+    p: &Parameters,
+    style: Style,
+    formula: &[u8],
+) -> Finding
+    requires { ⌜ ListGiven (now table) (now client) (now p) (now formula) ⌝ }
+    ensures { λ r. ⌜ Examined style (now (table .entry)) (now (client .entry)) (now (formula .entry)) r ⌝ }
 {
     let mut none = [0u8; 1];
-    let l = set_list(table, p, style, formula, &mut none);
+    let l = set_list(table, client, p, style, formula, &mut none);
     match l {
         ItemsSet::Whole(line) => weighed(line),
         ItemsSet::Missing(place) => Finding::Refused(Answer::Missing(place)),

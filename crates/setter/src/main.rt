@@ -1,11 +1,15 @@
-// The thin program: reads font.tab in the working folder, and a style byte and a formula from standard input, and writes what
-// setting gives.
+// The thin program: reads font.tab and, where there is one, client.tab in the working folder, and a style byte and a formula from
+// standard input, and writes what setting gives.
 
+ghost use Rattle.io.specs.Counts.{Counts};
 use layout::Answer;
 use libc::STDIN_FILENO;
 
-// One byte more than the longest table, and one more than a style and the longest formula, so that a longer one is seen.
+// One byte more than the longest table, ours and a client's, and one more than a style and the longest formula, so that a longer one is
+// seen.
 const TABLE_SPACE: usize = 47_531;
+
+const CLIENT_SPACE: usize = 11_777;
 
 const INPUT_SPACE: usize = 4_098;
 
@@ -16,23 +20,46 @@ fn main() {
     let mut input = [0u8; INPUT_SPACE];
     let got = io::read_full(STDIN_FILENO, &mut input);
     let mut table = [0u8; TABLE_SPACE];
-    let fd = os::open_read(b"font.tab");
-    if fd < 0 {
-        show(&table[..0], &input[..got]);
-        return;
-    }
-    let size = io::read_full(fd, &mut table);
-    libc::close(fd);
-    show(&table[..size], &input[..got]);
+    let ours = read_table(b"font.tab", &mut table);
+    let mut client = [0u8; CLIENT_SPACE];
+    let theirs = read_table(b"client.tab", &mut client);
+    show(&table[..ours], &client[..theirs], &input[..got]);
 }
 
-// Without a style there is no style that is known; a table that could not be read has no bytes, and is no good one.
-fn show(table: &[u8], input: &[u8]) {
+// Reads a table to the front of a buffer. One that is not there has no bytes: ours is then no good table, and a client's has no symbols.
+// One that cannot be read has a single byte, so that neither is good.
+fn read_table(name: &[u8], buffer: &mut [u8]) -> usize
+    ensures { λ r. ⌜ Counts r (now (buffer .exit)) ⌝ }
+{
+    let fd = os::open_read(name);
+    if fd < 0 {
+        if os::errno() == libc::ENOENT {
+            return 0;
+        }
+        return io::count(1, buffer);
+    }
+    let size = io::read_full(fd, buffer);
+    let fails = read_fails(fd);
+    libc::close(fd);
+    if fails {
+        return io::count(1, buffer);
+    }
+    size
+}
+
+// Whether a read that stopped was stopped by a failure, as that of a folder is: the next one then fails too.
+fn read_fails(fd: i32) -> bool {
+    let mut byte = [0u8; 1];
+    libc::read(fd, &mut byte) < 0
+}
+
+// Without a style there is no style that is known.
+fn show<'a>(table: &'a [u8], client: &'a [u8], input: &[u8]) {
     if input.len() == 0 {
         listing::write_answer(Answer::NoStyle, input);
         return;
     }
     let mut nodes = [0u8; NODE_SPACE];
-    let answer = layout::set(input[0], table, &input[1..], &mut nodes);
+    let answer = layout::set(input[0], table, client, &input[1..], &mut nodes);
     listing::write_answer(answer, &nodes);
 }

@@ -1,9 +1,10 @@
 // Runs test cases through the library and writes what the thin program would write for each.
-// cases.bin: 'T', a four-byte length and a table, which holds from there on; 'F', a style, a two-byte length and a formula.
+// cases.bin: 'T' or 'C', a four-byte length and a table of ours or of a client's, which holds from there on, the client's being empty at
+// first; 'F', a style, a two-byte length and a formula.
 
 ghost use Prim.Native.Nat.{_≤_};
 
-const CASES_SPACE: usize = 360_000;
+const CASES_SPACE: usize = 512_000;
 
 const NODE_SPACE: usize = 131_072;
 
@@ -23,6 +24,8 @@ fn main() {
 fn run(cases: &[u8]) {
     let mut table: usize = 0;
     let mut table_end: usize = 0;
+    let mut client: usize = 0;
+    let mut client_end: usize = 0;
     let mut at: usize = 0;
     while 4 <= cases.len() - at {
         let rest = &cases[at..];
@@ -39,11 +42,26 @@ fn run(cases: &[u8]) {
         if cases[at] == b'T' {
             table = start;
             table_end = end;
+        } else if cases[at] == b'C' {
+            client = start;
+            client_end = end;
         } else {
-            show(cases[at + 1], &cases[table..table_end], &cases[start..end]);
+            show(
+                cases[at + 1],
+                &cases[table..table_end],
+                &cases[client..client_end],
+                &cases[start..end],
+            );
         }
         at = end;
     }
+}
+
+fn is_table(letter: u8) -> bool {
+    if letter == b'T' {
+        return true;
+    }
+    letter == b'C'
 }
 
 // The bytes before a table or a formula.
@@ -51,33 +69,28 @@ fn opening_at(s: &[u8]) -> usize
     ensures { λ r. ⌜ (4 ≤ r) × (r ≤ 5) ⌝ }
 {
     if 0 < s.len() {
-        if s[0] == b'T' {
+        if is_table(s[0]) {
             return 5;
         }
     }
     4
 }
 
-// The length of the table or the formula at the front.
+// The length of the table or the formula at the front; of one that is cut off any number.
 fn size_at(s: &[u8]) -> usize {
-    if s.len() < 4 {
-        return 0;
-    }
-    if s[0] == b'T' {
-        if s.len() < 5 {
-            return 0;
+    if 5 <= s.len() {
+        if is_table(s[0]) {
+            return words::word(s, 1) as usize;
         }
-        return number(s[1], s[2], s[3], s[4]);
     }
-    number(s[2], s[3], 0, 0)
+    if 4 <= s.len() {
+        return words::of_bytes(s[2], s[3], 0, 0) as usize;
+    }
+    0
 }
 
-fn number(a: u8, b: u8, c: u8, d: u8) -> usize {
-    (a as usize) + (b as usize) * 256 + (c as usize) * 65536 + (d as usize) * 16777216
-}
-
-fn show(style: u8, table: &[u8], formula: &[u8]) {
+fn show<'a>(style: u8, table: &'a [u8], client: &'a [u8], formula: &[u8]) {
     let mut nodes = [0u8; NODE_SPACE];
-    let answer = layout::set(style, table, formula, &mut nodes);
+    let answer = layout::set(style, table, client, formula, &mut nodes);
     listing::write_answer(answer, &nodes);
 }

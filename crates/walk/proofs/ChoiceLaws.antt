@@ -133,14 +133,14 @@ choice-seen {style} {s} {c} {inside} {n} opens span seen place =
 
 -- ---- what it comes to
 
-pub choice-given : {t : List ℕ} {p : List (List ℕ)} {s : List ℕ} {l : lines.Line} {style : Style} {c : Span} →
-    OpenedGiven t p s Choice l → TakenSpan style s c → ItemsGiven t p (part c s) l × (length (part c s) < length s)
+pub choice-given : {t u : List ℕ} {p : List (List ℕ)} {s : List ℕ} {l : lines.Line} {style : Style} {c : Span} →
+    OpenedGiven t u p s Choice l → TakenSpan style s c → ItemsGiven t u p (part c s) l × (length (part c s) < length s)
 choice-given given span =
     let list = given .items .list in
     let short = list .short in
     let shorter = span .shorter in (
       record {
-        list = record { table-good = list .table-good; parameters-are = list .parameters-are; readable = span .readable; short = omega arith };
+        list = record { tables-good = list .tables-good; parameters-are = list .parameters-are; readable = span .readable; short = omega arith };
         small = line-more (omega arith) (given .items .small);
       },
       omega arith,

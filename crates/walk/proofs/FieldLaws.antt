@@ -41,7 +41,7 @@ pub record Head (s : List ℕ) (at : ℕ) (h : FieldHead) (end : ℕ) : Type 0 w
   pub inside : end ≤ length s
 
 -- as the code finds it: r in the rest of the item, and its bytes n
-pub head-at : {t : List ℕ} {p : List (List ℕ)} {s : List ℕ} {at n : ℕ} {r h : FieldHead} → FieldGiven t p s at →
+pub head-at : {t u : List ℕ} {p : List (List ℕ)} {s : List ℕ} {at n : ℕ} {r h : FieldHead} → FieldGiven t u p s at →
     r ≡ fieldHead (take (length s - at) (drop at s)) → n ≡ headBytes r → r ≡ h → Head s at h (at + n)
 head-at {s = s} {at} {n} {r} {h} given read size is =
     let here : headAt s at ≡ h = sym (read ∙ ap fieldHead (tail-part s at)) ∙ is in
@@ -62,7 +62,7 @@ empty-is (Sublist opening n) e = let z : _≡_ {A = ℕ} 0 1 = cc in absurd (ome
 empty-is CutSublist e = let z : _≡_ {A = ℕ} 0 1 = cc in absurd (omega arith)
 
 -- a head has so few bytes that they can be added up
-pub head-short : {t : List ℕ} {p : List (List ℕ)} {s : List ℕ} {at : ℕ} {r : FieldHead} → FieldGiven t p s at →
+pub head-short : {t u : List ℕ} {p : List (List ℕ)} {s : List ℕ} {at : ℕ} {r : FieldHead} → FieldGiven t u p s at →
     r ≡ fieldHead (take (length s - at) (drop at s)) → at + headBytes r ≤ longest
 head-short {s = s} {at} {r} given read =
     let o = head-at given read refl refl in
@@ -140,10 +140,10 @@ module _ (F : Font) (st : Style) (manner : Manner) (b : List ℕ) {s : List ℕ}
       (field-empty F st manner at end b c (omega (arith, o .goes)) e))
 
 -- what the setter of a list is given, and that the list is shorter than what holds the item
-pub list-given : {t : List ℕ} {p : List (List ℕ)} {s : List ℕ} {at end opening n : ℕ} {left : Neighbour} {st : Style} {start : lines.Line} → FieldGiven t p s at →
+pub list-given : {t u : List ℕ} {p : List (List ℕ)} {s : List ℕ} {at end opening n : ℕ} {left : Neighbour} {st : Style} {start : lines.Line} → FieldGiven t u p s at →
     Head s at (Sublist opening n) end → StartLine left st start →
     let part = take (end - (at + opening)) (drop (at + opening) s) in
-    ItemsGiven t p part start × (length part < length s)
+    ItemsGiven t u p part start × (length part < length s)
 list-given {s = s} {at} {end} {opening} {n} given o empty-line =
     let shorter = contents-shorter (drop at s) opening n (o .is) in
     let rest = length-drop at s in
@@ -155,7 +155,7 @@ list-given {s = s} {at} {end} {opening} {n} given o empty-line =
       record {
         list =
             record {
-              table-good = given .table-good;
+              tables-good = given .tables-good;
               parameters-are = given .parameters-are;
               readable = subst (GoodField (drop at s)) (o .is) (given .good);
               short = omega arith;

@@ -14,8 +14,8 @@ use lib.IntN.{ℤ, pos, _+ℤ_}
 use lib.ListN.{length, drop}
 use Rattle.scaled.specs.Length.{maxℤ}
 use Rattle.scaled.specs.Signed.{Within}
-use Rattle.font.specs.Table.{goodTable}
-use Rattle.font.specs.Font.{Font, fontOf}
+use Rattle.font.specs.Table.{SoundTables}
+use Rattle.font.specs.Font.{Font, fontWith}
 use Rattle.formula.specs.declared.Class.{Class}
 use Rattle.formula.specs.declared.Kind.{Kind}
 use Rattle.formula.specs.declared.Opening.{Opening}
@@ -302,27 +302,27 @@ pub record Finished (P : Parameters) (s : Style) (kind : Kind) (signs : Signs) (
 
 -- ---- the setters: what they are given
 
--- a list's bytes, a table and its parameters
-pub record ListGiven (t : List ℕ) (p : List (List ℕ)) (s : List ℕ) : Type 0 where
-  pub table-good : goodTable t ≡ true
-  pub parameters-are : parametersIn p ≡ fontOf t .parameter
+-- a list's bytes, our table and the client's, and the parameters
+pub record ListGiven (t u : List ℕ) (p : List (List ℕ)) (s : List ℕ) : Type 0 where
+  pub tables-good : SoundTables t u
+  pub parameters-are : parametersIn p ≡ fontWith t u .parameter
   pub readable : Readable s
   pub short : length s ≤ longest
 
 -- and a line that they are to follow
-pub record ItemsGiven (t : List ℕ) (p : List (List ℕ)) (s : List ℕ) (l : lines.Line) : Type 0 where
-  pub list : ListGiven t p s
+pub record ItemsGiven (t u : List ℕ) (p : List (List ℕ)) (s : List ℕ) (l : lines.Line) : Type 0 where
+  pub list : ListGiven t u p s
   pub small : LineWithin (longest - length s) l
 
 -- and what opens at its head
-pub record OpenedGiven (t : List ℕ) (p : List (List ℕ)) (s : List ℕ) (o : Opening) (l : lines.Line) : Type 0 where
-  pub items : ItemsGiven t p s l
+pub record OpenedGiven (t u : List ℕ) (p : List (List ℕ)) (s : List ℕ) (o : Opening) (l : lines.Line) : Type 0 where
+  pub items : ItemsGiven t u p s l
   pub opens : openingOf s ≡ o
 
 -- a field at a place of its item
-pub record FieldGiven (t : List ℕ) (p : List (List ℕ)) (s : List ℕ) (at : ℕ) : Type 0 where
-  pub table-good : goodTable t ≡ true
-  pub parameters-are : parametersIn p ≡ fontOf t .parameter
+pub record FieldGiven (t u : List ℕ) (p : List (List ℕ)) (s : List ℕ) (at : ℕ) : Type 0 where
+  pub tables-good : SoundTables t u
+  pub parameters-are : parametersIn p ≡ fontWith t u .parameter
   pub good : GoodFieldAt s at
   pub inside : at ≤ length s
   pub short : length s ≤ longest

@@ -6,7 +6,7 @@
 
 ghost use Prim.Native.Nat.{_<_};
 ghost use lib.ListN.{length};
-ghost use Rattle.font.specs.Font.{fontOf};
+ghost use Rattle.font.specs.Font.{fontWith};
 ghost use Rattle.formula.specs.declared.Opening.the-variants.{Fields, Choice};
 ghost use Rattle.formula.specs.Places as tree;
 ghost use Rattle.spacing.specs.Values.{neighbourAs};
@@ -72,12 +72,20 @@ enum StretchSet {
 }
 
 // Sets a list at its own reference point, into the front of buf.
-pub fn set_list(table: &[u8], p: &Parameters, style: Style, s: &[u8], buf: &mut [u8]) -> ItemsSet
-    requires { ⌜ ListGiven (now table) (now p) (now s) ⌝ }
-    ensures { λ r. ⌜ ListDone (fontOf (now (table .entry))) noSides style (tree.treeOf (now (s .entry))) (length (now (s .entry))) (now (buf .entry)) r (now (buf .exit)) ⌝ }
+pub fn set_list<'a>(
+    table: &'a [u8],
+    client: &'a [u8],
+    p: &Parameters,
+    style: Style,
+    s: &[u8],
+    buf: &mut [u8],
+) -> ItemsSet
+    requires { ⌜ ListGiven (now table) (now client) (now p) (now s) ⌝ }
+    ensures { λ r. ⌜ ListDone (fontWith (now (table .entry)) (now (client .entry))) noSides style (tree.treeOf (now (s .entry))) (length (now (s .entry))) (now (buf .entry)) r (now (buf .exit)) ⌝ }
 {
     set_items(
         table,
+        client,
         p,
         Neighbour::End,
         s,
@@ -87,18 +95,19 @@ pub fn set_list(table: &[u8], p: &Parameters, style: Style, s: &[u8], buf: &mut 
 }
 
 // Sets items behind what stands so far of a line; buf starts behind the nodes of that, and `beyond` is the class that follows.
-fn set_items(
-    table: &[u8],
+fn set_items<'a>(
+    table: &'a [u8],
+    client: &'a [u8],
     p: &Parameters,
     beyond: Neighbour,
     s: &[u8],
     line: Line,
     buf: &mut [u8],
 ) -> ItemsSet
-    requires { ⌜ ItemsGiven (now table) (now p) (now s) line ⌝ }
-    ensures { λ r. ⌜ ItemsDone (fontOf (now (table .entry))) (neighbourAs beyond) (tree.treeOf (now (s .entry))) (length (now (s .entry))) line (now (buf .entry)) r (now (buf .exit)) ⌝ }
+    requires { ⌜ ItemsGiven (now table) (now client) (now p) (now s) line ⌝ }
+    ensures { λ r. ⌜ ItemsDone (fontWith (now (table .entry)) (now (client .entry))) (neighbourAs beyond) (tree.treeOf (now (s .entry))) (length (now (s .entry))) line (now (buf .entry)) r (now (buf .exit)) ⌝ }
 {
-    let first = set_stretch(table, p, beyond, s, line, buf);
+    let first = set_stretch(table, client, p, beyond, s, line, buf);
     let mut at: usize = 0;
     let mut l = line;
     match first {
@@ -112,7 +121,7 @@ fn set_items(
     }
     while at < s.len() {
         let j = room(l.run.count - line.run.count, buf.len());
-        let step = set_onward(table, p, beyond, &s[at..], l, &mut buf[j..]);
+        let step = set_onward(table, client, p, beyond, &s[at..], l, &mut buf[j..]);
         match step {
             StretchSet::UpTo(size, next) => {
                 at += size;
@@ -127,22 +136,23 @@ fn set_items(
 }
 
 // Sets the choice at the head of s, and the items behind it up to the next choice.
-fn set_onward(
-    table: &[u8],
+fn set_onward<'a>(
+    table: &'a [u8],
+    client: &'a [u8],
     p: &Parameters,
     beyond: Neighbour,
     s: &[u8],
     line: Line,
     buf: &mut [u8],
 ) -> StretchSet
-    requires { ⌜ OpenedGiven (now table) (now p) (now s) Choice line ⌝ }
-    ensures { λ r. ⌜ StretchDone (fontOf (now (table .entry))) (neighbourAs beyond) (now (s .entry)) line (now (buf .entry)) r (now (buf .exit)) × Onward r ⌝ }
+    requires { ⌜ OpenedGiven (now table) (now client) (now p) (now s) Choice line ⌝ }
+    ensures { λ r. ⌜ StretchDone (fontWith (now (table .entry)) (now (client .entry))) (neighbourAs beyond) (now (s .entry)) line (now (buf .entry)) r (now (buf .exit)) × Onward r ⌝ }
 {
-    let taken = set_choice(table, p, beyond, s, line, buf);
+    let taken = set_choice(table, client, p, beyond, s, line, buf);
     match taken {
         StretchSet::UpTo(end, next) => {
             let j = room(next.run.count - line.run.count, buf.len());
-            let rest = set_stretch(table, p, beyond, &s[end..], next, &mut buf[j..]);
+            let rest = set_stretch(table, client, p, beyond, &s[end..], next, &mut buf[j..]);
             match rest {
                 StretchSet::UpTo(size, last) => StretchSet::UpTo(end + size, last),
                 StretchSet::Missing(place) => StretchSet::Missing(end + place),
@@ -153,22 +163,23 @@ fn set_onward(
 }
 
 // Sets items up to the first choice.
-fn set_stretch(
-    table: &[u8],
+fn set_stretch<'a>(
+    table: &'a [u8],
+    client: &'a [u8],
     p: &Parameters,
     beyond: Neighbour,
     s: &[u8],
     line: Line,
     buf: &mut [u8],
 ) -> StretchSet
-    requires { ⌜ ItemsGiven (now table) (now p) (now s) line ⌝ }
-    ensures { λ r. ⌜ StretchDone (fontOf (now (table .entry))) (neighbourAs beyond) (now (s .entry)) line (now (buf .entry)) r (now (buf .exit)) ⌝ }
+    requires { ⌜ ItemsGiven (now table) (now client) (now p) (now s) line ⌝ }
+    ensures { λ r. ⌜ StretchDone (fontWith (now (table .entry)) (now (client .entry))) (neighbourAs beyond) (now (s .entry)) line (now (buf .entry)) r (now (buf .exit)) ⌝ }
 {
     let mut at: usize = 0;
     let mut l = line;
     while at < s.len() {
         let j = room(l.run.count - line.run.count, buf.len());
-        let step = set_item(table, p, beyond, &s[at..], l, &mut buf[j..]);
+        let step = set_item(table, client, p, beyond, &s[at..], l, &mut buf[j..]);
         match step {
             ItemSet::Next(size, next) => {
                 at += size;
@@ -186,21 +197,22 @@ fn set_stretch(
 }
 
 // Sets the item at the head of s behind what stands so far.
-fn set_item(
-    table: &[u8],
+fn set_item<'a>(
+    table: &'a [u8],
+    client: &'a [u8],
     p: &Parameters,
     beyond: Neighbour,
     s: &[u8],
     line: Line,
     buf: &mut [u8],
 ) -> ItemSet
-    requires { ⌜ ItemsGiven (now table) (now p) (now s) line × (0 < length (now s)) ⌝ }
-    ensures { λ r. ⌜ ItemDone (fontOf (now (table .entry))) (neighbourAs beyond) (now (s .entry)) line (now (buf .entry)) r (now (buf .exit)) ⌝ }
+    requires { ⌜ ItemsGiven (now table) (now client) (now p) (now s) line × (0 < length (now s)) ⌝ }
+    ensures { λ r. ⌜ ItemDone (fontWith (now (table .entry)) (now (client .entry))) (neighbourAs beyond) (now (s .entry)) line (now (buf .entry)) r (now (buf .exit)) ⌝ }
 {
     let o = opening(s);
     match o {
         Opening::NoItem => ItemSet::Missing(0), // not in a list that reads
-        Opening::Fields(kind) => set_noad(table, p, kind, beyond, s, line, buf),
+        Opening::Fields(kind) => set_noad(table, client, p, kind, beyond, s, line, buf),
         Opening::Kern(n) => ItemSet::Next(KERN_BYTES, kerned(line, n)),
         Opening::Restyle(number) => {
             ItemSet::Next(RESTYLE_BYTES, styled(line, restyled(line.style, number)))
@@ -210,16 +222,17 @@ fn set_item(
 }
 
 // Sets the list that a choice's style takes behind the same line.
-fn set_choice(
-    table: &[u8],
+fn set_choice<'a>(
+    table: &'a [u8],
+    client: &'a [u8],
     p: &Parameters,
     beyond: Neighbour,
     s: &[u8],
     line: Line,
     buf: &mut [u8],
 ) -> StretchSet
-    requires { ⌜ OpenedGiven (now table) (now p) (now s) Choice line ⌝ }
-    ensures { λ r. ⌜ ChoiceDone (fontOf (now (table .entry))) (neighbourAs beyond) (now (s .entry)) line (now (buf .entry)) r (now (buf .exit)) ⌝ }
+    requires { ⌜ OpenedGiven (now table) (now client) (now p) (now s) Choice line ⌝ }
+    ensures { λ r. ⌜ ChoiceDone (fontWith (now (table .entry)) (now (client .entry))) (neighbourAs beyond) (now (s .entry)) line (now (buf .entry)) r (now (buf .exit)) ⌝ }
 {
     let style = line.style;
     let taken = taken_span(style, s);
@@ -227,7 +240,7 @@ fn set_choice(
     let last = taken.end;
     let end = list_place(s, CHOICE_LISTS);
     let right = beyond_choice(style, beyond, &s[first..last], &s[end..]);
-    let set = set_items(table, p, right, &s[first..last], line, buf);
+    let set = set_items(table, client, p, right, &s[first..last], line, buf);
     match set {
         ItemsSet::Whole(next) => StretchSet::UpTo(end, next),
         ItemsSet::Missing(place) => StretchSet::Missing(first + place),
@@ -235,8 +248,9 @@ fn set_choice(
 }
 
 // Sets the fields of an item one behind another, and then the item.
-fn set_noad(
-    table: &[u8],
+fn set_noad<'a>(
+    table: &'a [u8],
+    client: &'a [u8],
     p: &Parameters,
     kind: Kind,
     beyond: Neighbour,
@@ -244,17 +258,17 @@ fn set_noad(
     line: Line,
     buf: &mut [u8],
 ) -> ItemSet
-    requires { ⌜ OpenedGiven (now table) (now p) (now s) (Fields kind) line ⌝ }
-    ensures { λ r. ⌜ ItemDone (fontOf (now (table .entry))) (neighbourAs beyond) (now (s .entry)) line (now (buf .entry)) r (now (buf .exit)) ⌝ }
+    requires { ⌜ OpenedGiven (now table) (now client) (now p) (now s) (Fields kind) line ⌝ }
+    ensures { λ r. ⌜ ItemDone (fontWith (now (table .entry)) (now (client .entry))) (neighbourAs beyond) (now (s .entry)) line (now (buf .entry)) r (now (buf .exit)) ⌝ }
 {
     let style = line.style;
-    let signed = has_signs(table, style, kind);
+    let signed = has_signs(table, client, style, kind);
     let own = own_counts(p, style, kind, signed);
     let i = room(own.before, buf.len());
     let first = first_style(kind, style);
     let manner = first_manner(kind, style);
     let at = opening_bytes(kind);
-    let x = set_field(table, p, first, manner, s, at, &mut buf[i..]);
+    let x = set_field(table, client, p, first, manner, s, at, &mut buf[i..]);
     let a = match x {
         FieldSet::Whole(a) => a,
         FieldSet::Missing(place) => {
@@ -264,7 +278,16 @@ fn set_noad(
     let n = own.before + a.run.count + own.behind;
     let j = room(n, buf.len());
     let second = second_style(kind, style);
-    let y = set_field(table, p, second, Manner::Plain, s, a.end, &mut buf[j..]);
+    let y = set_field(
+        table,
+        client,
+        p,
+        second,
+        Manner::Plain,
+        s,
+        a.end,
+        &mut buf[j..],
+    );
     let b = match y {
         FieldSet::Whole(b) => b,
         FieldSet::Missing(place) => {
@@ -275,6 +298,7 @@ fn set_noad(
     let z = if has_third(kind) {
         set_field(
             table,
+            client,
             p,
             third_style(style),
             Manner::Plain,
@@ -294,14 +318,15 @@ fn set_noad(
     let end = c.end;
     let right = right_of(kind, style, beyond, &s[end..]);
     let inside = a.shape;
-    let signs = signs_in(table, p, style, kind, inside);
+    let signs = signs_in(table, client, p, style, kind, inside);
     ItemSet::Next(end, finished(p, kind, signs, right, line, a, b, c, buf))
 }
 
 // Sets the field whose kind byte stands at `at` of its item alone, at its own reference point, into the front of buf. Most are
 // empty.
-fn set_field(
-    table: &[u8],
+fn set_field<'a>(
+    table: &'a [u8],
+    client: &'a [u8],
     p: &Parameters,
     style: Style,
     manner: Manner,
@@ -309,18 +334,19 @@ fn set_field(
     at: usize,
     buf: &mut [u8],
 ) -> FieldSet
-    requires { ⌜ FieldGiven (now table) (now p) (now s) at ⌝ }
-    ensures { λ r. ⌜ HeadDone (fontOf (now (table .entry))) style manner (now (s .entry)) at (now (buf .entry)) r (now (buf .exit)) ⌝ }
+    requires { ⌜ FieldGiven (now table) (now client) (now p) (now s) at ⌝ }
+    ensures { λ r. ⌜ HeadDone (fontWith (now (table .entry)) (now (client .entry))) style manner (now (s .entry)) at (now (buf .entry)) r (now (buf .exit)) ⌝ }
 {
     if is_empty(&s[at..]) {
         return FieldSet::Whole(empty_part(at + 1));
     }
-    set_given(table, p, style, manner, s, at, buf)
+    set_given(table, client, p, style, manner, s, at, buf)
 }
 
 // Sets a field whatever it is.
-fn set_given(
-    table: &[u8],
+fn set_given<'a>(
+    table: &'a [u8],
+    client: &'a [u8],
     p: &Parameters,
     style: Style,
     manner: Manner,
@@ -328,8 +354,8 @@ fn set_given(
     at: usize,
     buf: &mut [u8],
 ) -> FieldSet
-    requires { ⌜ FieldGiven (now table) (now p) (now s) at ⌝ }
-    ensures { λ r. ⌜ HeadDone (fontOf (now (table .entry))) style manner (now (s .entry)) at (now (buf .entry)) r (now (buf .exit)) ⌝ }
+    requires { ⌜ FieldGiven (now table) (now client) (now p) (now s) at ⌝ }
+    ensures { λ r. ⌜ HeadDone (fontWith (now (table .entry)) (now (client .entry))) style manner (now (s .entry)) at (now (buf .entry)) r (now (buf .exit)) ⌝ }
 {
     let head = field_head(&s[at..]);
     let end = at + field_bytes(head);
@@ -337,14 +363,22 @@ fn set_given(
         FieldHead::NoField => FieldSet::Whole(empty_part(end)),
         FieldHead::Empty => FieldSet::Whole(empty_part(end)),
         FieldHead::Symbol(family, code) => {
-            symbol_part(table, style, manner, family, code, at, end, buf)
+            symbol_part(table, client, style, manner, family, code, at, end, buf)
         }
         FieldHead::Sublist(opening, _) => {
             let first = at + opening;
             let sides = sides_of(manner);
             let left = sides.left;
             let right = sides.right;
-            let l = set_items(table, p, right, &s[first..end], start(left, style), buf);
+            let l = set_items(
+                table,
+                client,
+                p,
+                right,
+                &s[first..end],
+                start(left, style),
+                buf,
+            );
             match l {
                 ItemsSet::Whole(line) => {
                     FieldSet::Whole(closed_part(p, style, right, end, line))

@@ -3,8 +3,8 @@
 ghost use mathlib.Core.Path.{_≡_};
 ghost use mathlib.Core.Bool.{true};
 ghost use Prim.Native.Nat.{_<_};
-ghost use Rattle.font.specs.Table.{goodTable};
-ghost use Rattle.font.specs.Font.{fontOf};
+ghost use Rattle.font.specs.Table.{SoundTables};
+ghost use Rattle.font.specs.Font.{fontWith};
 ghost use Rattle.formula.specs.Tree.{symbol};
 ghost use Rattle.walk.specs.Walked.{EmptyPart, FieldDone};
 use crate::sides::is_enlarged;
@@ -43,8 +43,9 @@ pub fn empty_part(end: usize) -> Part
 
 // A symbol's glyph stands at the reference point. The field goes from `at` to `end` of its item; a symbol that is missing
 // is so at the field's kind byte.
-pub fn symbol_part(
-    table: &[u8],
+pub fn symbol_part<'a>(
+    table: &'a [u8],
+    client: &'a [u8],
     style: Style,
     manner: Manner,
     family: u8,
@@ -53,11 +54,11 @@ pub fn symbol_part(
     end: usize,
     buf: &mut [u8],
 ) -> FieldSet
-    requires { ⌜ (goodTable (now table) ≡ true) × (at < end) ⌝ }
-    ensures { λ r. ⌜ FieldDone (fontOf (now (table .entry))) style manner (symbol family code) at end (now (buf .entry)) r (now (buf .exit)) ⌝ }
+    requires { ⌜ SoundTables (now table) (now client) × (at < end) ⌝ }
+    ensures { λ r. ⌜ FieldDone (fontWith (now (table .entry)) (now (client .entry))) style manner (symbol family code) at end (now (buf .entry)) r (now (buf .exit)) ⌝ }
 {
     let size = font_size(style) as u8;
-    let sought = symbol_in(table, size, is_enlarged(manner), family, code);
+    let sought = symbol_in(table, client, size, is_enlarged(manner), family, code);
     match sought {
         Sought::Present(symbol) => {
             let metrics = symbol.metrics;

@@ -2,8 +2,8 @@
 
 ghost use mathlib.Core.Path.{_≡_};
 ghost use mathlib.Core.Bool.{true};
-ghost use Rattle.font.specs.Table.{goodTable};
-ghost use Rattle.font.specs.Font.{fontOf};
+ghost use Rattle.font.specs.Table.{SoundTables};
+ghost use Rattle.font.specs.Font.{fontWith};
 ghost use Rattle.boxes.specs.Boxes.{sizeOf};
 ghost use Rattle.boxes.specs.Styles.{fontSize};
 ghost use Rattle.boxes.specs.Values.{parametersIn, shapeAs};
@@ -40,9 +40,9 @@ const NO_SIGNS: Signs = Signs {
 };
 
 // On which side an item has a sign, whatever its fields hold.
-pub fn has_signs(table: &[u8], style: Style, kind: Kind) -> HasSigns
-    requires { ⌜ goodTable (now table) ≡ true ⌝ }
-    ensures { λ r. ⌜ r ≡ definition.hasSigns (fontOf (now (table .entry))) style kind ⌝ }
+pub fn has_signs<'a>(table: &'a [u8], client: &'a [u8], style: Style, kind: Kind) -> HasSigns
+    requires { ⌜ SoundTables (now table) (now client) ⌝ }
+    ensures { λ r. ⌜ r ≡ definition.hasSigns (fontWith (now (table .entry)) (now (client .entry))) style kind ⌝ }
 {
     let Kind::Scripted(base) = kind else {
         return UNSIGNED;
@@ -52,23 +52,30 @@ pub fn has_signs(table: &[u8], style: Style, kind: Kind) -> HasSigns
         Base::Over => UNSIGNED,
         Base::Under => UNSIGNED,
         Base::Root(d) => HasSigns {
-            before: has_sign(table, font_size(style) as u8, d),
+            before: has_sign(table, client, font_size(style) as u8, d),
             behind: false,
         },
         Base::Fence(left, right) => {
             let size = font_size(style) as u8;
             HasSigns {
-                before: has_sign(table, size, left),
-                behind: has_sign(table, size, right),
+                before: has_sign(table, client, size, left),
+                behind: has_sign(table, client, size, right),
             }
         }
     }
 }
 
 // Its signs, by the shape of its first field.
-pub fn signs_in(table: &[u8], p: &Parameters, style: Style, kind: Kind, inside: Shape) -> Signs
-    requires { ⌜ (goodTable (now table) ≡ true) × (parametersIn (now p) ≡ fontOf (now table) .parameter) × ModerateShape inside ⌝ }
-    ensures { λ r. ⌜ signsAs r ≡ definition.signsIn (fontOf (now (table .entry))) style kind (shapeAs inside) ⌝ }
+pub fn signs_in<'a>(
+    table: &'a [u8],
+    client: &'a [u8],
+    p: &Parameters,
+    style: Style,
+    kind: Kind,
+    inside: Shape,
+) -> Signs
+    requires { ⌜ SoundTables (now table) (now client) × (parametersIn (now p) ≡ fontWith (now table) (now client) .parameter) × ModerateShape inside ⌝ }
+    ensures { λ r. ⌜ signsAs r ≡ definition.signsIn (fontWith (now (table .entry)) (now (client .entry))) style kind (shapeAs inside) ⌝ }
 {
     let Kind::Scripted(base) = kind else {
         return NO_SIGNS;
@@ -78,38 +85,46 @@ pub fn signs_in(table: &[u8], p: &Parameters, style: Style, kind: Kind, inside: 
         Base::Over => NO_SIGNS,
         Base::Under => NO_SIGNS,
         Base::Root(d) => Signs {
-            before: root_sign(table, p, style, d, inside),
+            before: root_sign(table, client, p, style, d, inside),
             behind: Chosen::Blank,
         },
-        Base::Fence(left, right) => fence_signs(table, p, style, left, right, inside),
+        Base::Fence(left, right) => fence_signs(table, client, p, style, left, right, inside),
     }
 }
 
 // Rule 11: the sign reaches over the nucleus.
-fn root_sign(table: &[u8], p: &Parameters, style: Style, d: Delimiter, nucleus: Shape) -> Chosen
-    requires { ⌜ (goodTable (now table) ≡ true) × (parametersIn (now p) ≡ fontOf (now table) .parameter) × ModerateShape nucleus ⌝ }
-    ensures { λ r. ⌜ chosenAs r ≡ signFor (fontOf (now (table .entry))) (fontSize style) d (signExtent (fontOf (now (table .entry)) .parameter) style (sizeOf (shapeAs nucleus))) ⌝ }
+fn root_sign<'a>(
+    table: &'a [u8],
+    client: &'a [u8],
+    p: &Parameters,
+    style: Style,
+    d: Delimiter,
+    nucleus: Shape,
+) -> Chosen
+    requires { ⌜ SoundTables (now table) (now client) × (parametersIn (now p) ≡ fontWith (now table) (now client) .parameter) × ModerateShape nucleus ⌝ }
+    ensures { λ r. ⌜ chosenAs r ≡ signFor (fontWith (now (table .entry)) (now (client .entry))) (fontSize style) d (signExtent (fontWith (now (table .entry)) (now (client .entry)) .parameter) style (sizeOf (shapeAs nucleus))) ⌝ }
 {
     let needed = sign_extent(p, style, size_of(nucleus));
-    sign_for(table, font_size(style) as u8, d, needed)
+    sign_for(table, client, font_size(style) as u8, d, needed)
 }
 
 // Rule 19: both delimiters grow with the list.
-fn fence_signs(
-    table: &[u8],
+fn fence_signs<'a>(
+    table: &'a [u8],
+    client: &'a [u8],
     p: &Parameters,
     style: Style,
     left: Delimiter,
     right: Delimiter,
     list: Shape,
 ) -> Signs
-    requires { ⌜ (goodTable (now table) ≡ true) × (parametersIn (now p) ≡ fontOf (now table) .parameter) × ModerateShape list ⌝ }
-    ensures { λ r. ⌜ signsAs r ≡ definition.signsFor (fontOf (now (table .entry))) style left right (fenceExtent (fontOf (now (table .entry)) .parameter) style (sizeOf (shapeAs list))) ⌝ }
+    requires { ⌜ SoundTables (now table) (now client) × (parametersIn (now p) ≡ fontWith (now table) (now client) .parameter) × ModerateShape list ⌝ }
+    ensures { λ r. ⌜ signsAs r ≡ definition.signsFor (fontWith (now (table .entry)) (now (client .entry))) style left right (fenceExtent (fontWith (now (table .entry)) (now (client .entry)) .parameter) style (sizeOf (shapeAs list))) ⌝ }
 {
     let needed = fence_extent(p, style, size_of(list));
     let size = font_size(style) as u8;
     Signs {
-        before: sign_for(table, size, left, needed),
-        behind: sign_for(table, size, right, needed),
+        before: sign_for(table, client, size, left, needed),
+        behind: sign_for(table, client, size, right, needed),
     }
 }

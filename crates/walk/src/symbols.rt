@@ -2,8 +2,8 @@
 
 ghost use mathlib.Core.Path.{_≡_};
 ghost use mathlib.Core.Bool.{true};
-ghost use Rattle.font.specs.Table.{goodTable};
-ghost use Rattle.font.specs.Font.{fontOf};
+ghost use Rattle.font.specs.Table.{SoundTables};
+ghost use Rattle.font.specs.Font.{fontWith};
 ghost use Rattle.font.specs.Values.{foundAs, successorAs};
 ghost use Rattle.setting.specs.Setting as definition;
 ghost use Rattle.walk.specs.Values.{symbolAs, soughtAs};
@@ -23,16 +23,23 @@ pub enum Sought {
 }
 
 // A symbol gives way to its successor, if it has one, where it is enlarged.
-pub fn symbol_in(table: &[u8], size: u8, enlarge: bool, family: u8, code: u8) -> Sought
-    requires { ⌜ goodTable (now table) ≡ true ⌝ }
-    ensures { λ r. ⌜ soughtAs r ≡ definition.symbolIn (fontOf (now (table .entry))) size enlarge family code ⌝ }
+pub fn symbol_in<'a>(
+    table: &'a [u8],
+    client: &'a [u8],
+    size: u8,
+    enlarge: bool,
+    family: u8,
+    code: u8,
+) -> Sought
+    requires { ⌜ SoundTables (now table) (now client) ⌝ }
+    ensures { λ r. ⌜ soughtAs r ≡ definition.symbolIn (fontWith (now (table .entry)) (now (client .entry))) size enlarge family code ⌝ }
 {
-    let found = font::symbol(table, size, family, code);
+    let found = font::symbol(table, client, size, family, code);
     match found {
         Found::Symbol(metrics) => {
             let symbol = Symbol { code, metrics };
             if enlarge {
-                return successor(table, size, family, symbol);
+                return successor(table, client, size, family, symbol);
             }
             Sought::Present(symbol)
         }
@@ -40,15 +47,15 @@ pub fn symbol_in(table: &[u8], size: u8, enlarge: bool, family: u8, code: u8) ->
     }
 }
 
-fn successor(table: &[u8], size: u8, family: u8, symbol: Symbol) -> Sought
-    requires { ⌜ goodTable (now table) ≡ true ⌝ }
-    ensures { λ r. ⌜ soughtAs r ≡ definition.successor (fontOf (now (table .entry))) size family (symbolAs symbol) (successorAs (symbol .metrics .successor)) ⌝ }
+fn successor<'a>(table: &'a [u8], client: &'a [u8], size: u8, family: u8, symbol: Symbol) -> Sought
+    requires { ⌜ SoundTables (now table) (now client) ⌝ }
+    ensures { λ r. ⌜ soughtAs r ≡ definition.successor (fontWith (now (table .entry)) (now (client .entry))) size family (symbolAs symbol) (successorAs (symbol .metrics .successor)) ⌝ }
 {
     let metrics = symbol.metrics;
     let next = metrics.successor;
     match next {
         Successor::Nothing => Sought::Present(symbol),
-        Successor::Code(code) => symbol_of(code, font::symbol(table, size, family, code)),
+        Successor::Code(code) => symbol_of(code, font::symbol(table, client, size, family, code)),
     }
 }
 

@@ -1,49 +1,75 @@
 //! Sets a stored record over a font table and prints its sizes and nodes.
 //!
-//! `set_formula TABLE RECORD [SVG]`; with the third name a picture of the boxes
-//! is written too. A record is a style byte and a formula. An empty record is
-//! refused as style, a table that can't be read as table. The status is 1 for a
-//! refusal.
+//! `set_formula TABLE RECORD [--client CLIENT] [--svg SVG]`; a client's table
+//! has symbols that go before the font table's, and a picture of the boxes is
+//! written to the last name. A record is a style byte and a formula. An empty
+//! record is refused as style, a font table that can't be read as table. The
+//! status is 1 for a refusal, 2 if a client's table can't be read or the picture
+//! not be written.
 
-mod font;
 mod picture;
+mod tables;
 
-use font::Font;
 use std::fs;
 use std::process::ExitCode;
-use torfianka::{measure, nodes, set, Measured, Node, Refusal, NODE_BYTES};
+use tables::Tables;
+use torfianka::{measure, nodes, set, Font, Measured, Node, Refusal, NODE_BYTES};
 
 fn main() -> ExitCode {
     let arguments: Vec<String> = std::env::args().skip(1).collect();
-    let (table, record, svg) = match arguments.as_slice() {
-        [table, record] => (table, record, None),
-        [table, record, svg] => (table, record, Some(svg)),
+    let arguments: Vec<&str> = arguments.iter().map(String::as_str).collect();
+    let (table, record, client, svg) = match arguments[..] {
+        [table, record] => (table, record, None, None),
+        [table, record, "--client", client] => (table, record, Some(client), None),
+        [table, record, "--svg", svg] => (table, record, None, Some(svg)),
+        [table, record, "--client", client, "--svg", svg] => {
+            (table, record, Some(client), Some(svg))
+        }
         _ => {
-            eprintln!("usage: set_formula TABLE RECORD [SVG]");
+            eprintln!("usage: set_formula TABLE RECORD [--client CLIENT] [--svg SVG]");
             return ExitCode::from(2);
         }
     };
-    let table = fs::read(table).unwrap_or_default();
+    run(table, record, client, svg).unwrap_or_else(|message| {
+        eprintln!("{message}");
+        ExitCode::from(2)
+    })
+}
+
+fn run(
+    table: &str,
+    record: &str,
+    client: Option<&str>,
+    svg: Option<&str>,
+) -> Result<ExitCode, String> {
+    let failed = |path: &str, error| format!("{path}: {error}");
+    let client = client.map(|path| fs::read(path).map_err(|error| failed(path, error)));
+    let tables = Tables {
+        table: fs::read(table).unwrap_or_default(),
+        client: client.transpose()?.unwrap_or_default(),
+    };
     let record = fs::read(record).unwrap_or_default();
-    match set_record(&table, &record) {
+    match set_record(&tables.font(), &record) {
         Ok((measured, nodes)) => {
             print(&measured, &nodes);
-            svg.map_or(ExitCode::SUCCESS, |path| {
-                draw(path, &picture::svg(&measured, &nodes, &Font::new(&table)))
-            })
+            if let Some(path) = svg {
+                let picture = picture::svg(&measured, &nodes, &tables);
+                fs::write(path, picture).map_err(|error| failed(path, error))?;
+            }
+            Ok(ExitCode::SUCCESS)
         }
         Err(refusal) => {
             println!("{refusal}");
-            ExitCode::from(1)
+            Ok(ExitCode::from(1))
         }
     }
 }
 
-fn set_record(table: &[u8], record: &[u8]) -> Result<(Measured, Vec<Node>), Refusal> {
+fn set_record(font: &Font, record: &[u8]) -> Result<(Measured, Vec<Node>), Refusal> {
     let (&style, formula) = record.split_first().unwrap_or((&u8::MAX, &[]));
-    let count = measure(style, table, formula)?.count;
+    let count = measure(style, font, formula)?.count;
     let mut buffer = vec![0; NODE_BYTES * count];
-    let measured = set(style, table, formula, &mut buffer)?;
+    let measured = set(style, font, formula, &mut buffer)?;
     Ok((measured, nodes(&buffer).collect()))
 }
 
@@ -57,15 +83,5 @@ fn print(measured: &Measured, nodes: &[Node]) {
     println!("w {width} h {height} d {depth} n {count}");
     for node in nodes {
         println!("{node}");
-    }
-}
-
-fn draw(path: &str, picture: &str) -> ExitCode {
-    match fs::write(path, picture) {
-        Ok(()) => ExitCode::SUCCESS,
-        Err(error) => {
-            eprintln!("{path}: {error}");
-            ExitCode::from(2)
-        }
     }
 }

@@ -1,6 +1,6 @@
 //! A picture of a set formula: its glyphs' boxes, its rules and its baseline.
 
-use crate::font::{Font, Metrics};
+use crate::tables::{Metrics, Tables};
 use torfianka::{Measured, Node};
 
 const SP_PER_POINT: f64 = 65_536.0;
@@ -13,7 +13,7 @@ const X_HEIGHT_SHARE: f64 = 0.48;
 const OPERATOR_DEPTH: f64 = 0.2;
 
 /// Lengths in the picture are points, and y goes down.
-pub fn svg(measured: &Measured, nodes: &[Node], font: &Font) -> String {
+pub fn svg(measured: &Measured, nodes: &[Node], tables: &Tables) -> String {
     let (width, height, depth) = (
         points(measured.width),
         points(measured.height),
@@ -22,7 +22,7 @@ pub fn svg(measured: &Measured, nodes: &[Node], font: &Font) -> String {
     let (left, top) = (-MARGIN, -height - MARGIN);
     let (across, down) = (width + 2.0 * MARGIN, height + depth + 2.0 * MARGIN);
     let (pixels_across, pixels_down) = (across * PIXELS_PER_POINT, down * PIXELS_PER_POINT);
-    let drawn: String = nodes.iter().map(|node| draw(node, font)).collect();
+    let drawn: String = nodes.iter().map(|node| draw(node, tables)).collect();
     format!(
         r##"<svg xmlns="http://www.w3.org/2000/svg" width="{pixels_across:.0}" height="{pixels_down:.0}" viewBox="{left:.3} {top:.3} {across:.3} {down:.3}">
 <rect x="{left:.3}" y="{top:.3}" width="{across:.3}" height="{down:.3}" fill="white"/>
@@ -38,7 +38,7 @@ fn points(sp: impl Into<i64>) -> f64 {
     sp.into() as f64 / SP_PER_POINT
 }
 
-fn draw(node: &Node, font: &Font) -> String {
+fn draw(node: &Node, tables: &Tables) -> String {
     match *node {
         Node::Glyph {
             x,
@@ -46,11 +46,11 @@ fn draw(node: &Node, font: &Font) -> String {
             size,
             family,
             code,
-        } => font
+        } => tables
             .metrics(size, family, code)
             .map(|metrics| {
-                let letter = letter(family, code).map(|letter| {
-                    let em = points(font.x_height(size)) / X_HEIGHT_SHARE;
+                let letter = letter(family, code, metrics.is_client).map(|letter| {
+                    let em = points(tables.x_height(size)) / X_HEIGHT_SHARE;
                     letter.draw(points(x), -points(y), em, &metrics)
                 });
                 outline(points(x), -points(y), &metrics) + &letter.unwrap_or_default()
@@ -70,25 +70,31 @@ fn rule(x: f64, y: f64, width: f64, thickness: f64) -> String {
     format!("<rect x=\"{x:.3}\" y=\"{top:.3}\" width=\"{width:.3}\" height=\"{thickness:.3}\"/>\n")
 }
 
+/// Of another colour if the character is the client's.
 fn outline(x: f64, y: f64, metrics: &Metrics) -> String {
     let top = y - points(metrics.height);
     let (width, height) = (
         points(metrics.width),
         points(metrics.height + metrics.depth),
     );
+    let colour = if metrics.is_client { "#e80" } else { "#69c" };
     format!(
         "<rect x=\"{x:.3}\" y=\"{top:.3}\" width=\"{width:.3}\" height=\"{height:.3}\" \
-         fill=\"none\" stroke=\"#69c\" stroke-width=\"0.08\"/>\n"
+         fill=\"none\" stroke=\"{colour}\" stroke-width=\"0.08\"/>\n"
     )
 }
 
 enum Letter {
     Upright(char),
     Italic(char),
+    /// With a stroke across.
+    Struck(char),
     /// Its box hangs from the baseline, so it is fitted into the box.
     Operator(char),
     /// The sign of a root: two strokes in its box, the second up to the rule.
     Radical,
+    /// An angle: two strokes in its box.
+    Angle,
     /// A grown bracket: three strokes in its box.
     Square(Side),
     /// A grown parenthesis: an arc in its box.
@@ -124,23 +130,30 @@ impl Letter {
     fn draw(&self, x: f64, y: f64, em: f64, metrics: &Metrics) -> String {
         let reach = points(metrics.height + metrics.depth);
         let (top, width) = (y - points(metrics.height), points(metrics.width));
-        let (letter, slope, em, y) = match *self {
-            Letter::Upright(letter) => (letter, "normal", em, y),
-            Letter::Italic(letter) => (letter, "italic", em, y),
-            Letter::Operator(letter) => {
-                let bottom = y + points(metrics.depth);
-                (letter, "normal", reach, bottom - OPERATOR_DEPTH * reach)
-            }
-            Letter::Radical => return radical(x, top, width, reach),
-            Letter::Square(ref side) => return square(side.reach(x, width), top, reach),
-            Letter::Round(ref side) => return round(side.reach(x, width), top, reach),
-        };
         let middle = x + width / 2.0;
-        format!(
-            "<text x=\"{middle:.3}\" y=\"{y:.3}\" font-size=\"{em:.3}\" \
-             font-style=\"{slope}\">{letter}</text>\n"
-        )
+        match self {
+            Letter::Upright(letter) => text(*letter, "normal", middle, y, em),
+            Letter::Italic(letter) => text(*letter, "italic", middle, y, em),
+            Letter::Struck(letter) => {
+                text(*letter, "normal", middle, y, em) + &slash(x, top, width, reach)
+            }
+            Letter::Operator(letter) => {
+                let baseline = y + points(metrics.depth) - OPERATOR_DEPTH * reach;
+                text(*letter, "normal", middle, baseline, reach)
+            }
+            Letter::Radical => radical(x, top, width, reach),
+            Letter::Angle => angle(x, top, width, reach),
+            Letter::Square(side) => square(side.reach(x, width), top, reach),
+            Letter::Round(side) => round(side.reach(x, width), top, reach),
+        }
     }
+}
+
+fn text(letter: char, slope: &str, middle: f64, y: f64, em: f64) -> String {
+    format!(
+        "<text x=\"{middle:.3}\" y=\"{y:.3}\" font-size=\"{em:.3}\" \
+         font-style=\"{slope}\">{letter}</text>\n"
+    )
 }
 
 /// The strokes of a root's sign, in the box whose upper left corner is given.
@@ -152,6 +165,25 @@ fn radical(x: f64, top: f64, width: f64, reach: f64) -> String {
         x + 0.5 * width,
         top + reach,
         x + width,
+    ))
+}
+
+/// From the upper right to the lower left, then along the baseline.
+fn angle(x: f64, top: f64, width: f64, reach: f64) -> String {
+    let bottom = top + reach;
+    let [left, right] = [0.1, 0.9].map(|share| x + share * width);
+    strokes(&format!(
+        "M{right:.3} {top:.3}L{left:.3} {bottom:.3}H{right:.3}"
+    ))
+}
+
+fn slash(x: f64, top: f64, width: f64, reach: f64) -> String {
+    strokes(&format!(
+        "M{:.3} {:.3}L{:.3} {:.3}",
+        x + 0.25 * width,
+        top + 0.85 * reach,
+        x + 0.75 * width,
+        top + 0.15 * reach,
     ))
 }
 
@@ -176,11 +208,14 @@ fn strokes(path: &str) -> String {
     format!("<path d=\"{path}\" fill=\"none\" stroke=\"black\" stroke-width=\"0.4\"/>\n")
 }
 
-/// The letters of Computer Modern's layout that can be shown with usual fonts.
-fn letter(family: u8, code: u8) -> Option<Letter> {
+/// The letters of Computer Modern's layout that can be shown with usual fonts,
+/// and those of the examples' client.
+fn letter(family: u8, code: u8, is_client: bool) -> Option<Letter> {
     const GREEK: &str = "αβγδϵζηθικλμνξπρστυϕχψω";
     const FIRST_GREEK: u8 = 11;
     match (family, code) {
+        (0, b'0') if is_client => Some(Letter::Struck('0')),
+        (4, 1) if is_client => Some(Letter::Angle),
         (0, _) if code.is_ascii_alphanumeric() || b"!()*+,-./:;=?[]".contains(&code) => {
             Some(Letter::Upright(code.into()))
         }
@@ -190,6 +225,7 @@ fn letter(family: u8, code: u8) -> Option<Letter> {
             letter.map(Letter::Italic)
         }
         (2, 0) => Some(Letter::Upright('−')),
+        (2, 14) => Some(Letter::Upright('∘')),
         (3, 0 | 1 | 16..=19 | 32 | 33) => Some(Letter::Round(Side::of(code))),
         (3, 2 | 3 | 20 | 21 | 34 | 35 | 104 | 105) => Some(Letter::Square(Side::of(code))),
         (3, 80 | 88) => Some(Letter::Operator('∑')),

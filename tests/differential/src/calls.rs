@@ -4,8 +4,9 @@ use crate::guarded::Guarded;
 use crate::input::Input;
 use reference::generate::Random;
 use reference::{Answer, NODE_BYTES};
+use std::ptr;
 use torfianka::sys::{self, ANSWER_WORDS, SHORT_ANSWER};
-use torfianka::{Measured, Refusal};
+use torfianka::{Font, Measured, Refusal};
 
 #[derive(Clone, Copy, Debug)]
 pub enum Call {
@@ -58,7 +59,8 @@ fn disagreement_in(
         answer: Guarded::drawn(words, random, |random| random.word() as i64),
         nodes: Guarded::drawn(room, random, Random::byte),
     };
-    let library = by_library(call, input, before.clone());
+    let client = client_pointer(input, random);
+    let library = by_library(call, input, client, before.clone());
     let reference = by_reference(call, input, before.clone());
     let fault = fault(call, &before, &library, &reference).or_else(|| {
         (!binding_agrees(call, input, &library)).then_some("the Rust binding differs")
@@ -109,17 +111,28 @@ fn fault(
         .find_map(|(is_so, fault)| is_so.then_some(fault))
 }
 
-fn by_library(call: Call, input: &Input, mut lent: Outcome) -> Outcome {
+/// Where the client's table starts; an empty one may be null.
+fn client_pointer(input: &Input, random: &mut Random) -> *const u8 {
+    if input.client.is_empty() && random.percent(50) {
+        ptr::null()
+    } else {
+        input.client.as_ptr()
+    }
+}
+
+fn by_library(call: Call, input: &Input, client: *const u8, mut lent: Outcome) -> Outcome {
     let Input { table, formula, .. } = input;
     let (answer, nodes) = (lent.answer.lent_mut(), lent.nodes.lent_mut());
-    // SAFETY: every pointer is a slice's, with that slice's length; the ones
-    // written through are borrowed alone.
+    // SAFETY: every pointer is a slice's, with that slice's length, or null for
+    // a client's table of length 0; the ones written through are borrowed alone.
     lent.number = unsafe {
         match call {
             Call::Measure => sys::torfianka_measure(
                 input.style,
                 table.as_ptr(),
                 table.len(),
+                client,
+                input.client.len(),
                 formula.as_ptr(),
                 formula.len(),
                 answer.as_mut_ptr(),
@@ -129,6 +142,8 @@ fn by_library(call: Call, input: &Input, mut lent: Outcome) -> Outcome {
                 input.style,
                 table.as_ptr(),
                 table.len(),
+                client,
+                input.client.len(),
                 formula.as_ptr(),
                 formula.len(),
                 nodes.as_mut_ptr(),
@@ -146,14 +161,16 @@ fn by_reference(call: Call, input: &Input, mut lent: Outcome) -> Outcome {
         lent.number = SHORT_ANSWER;
         return lent;
     };
+    let Input {
+        style,
+        table,
+        client,
+        formula,
+        ..
+    } = input;
     let answer = match call {
-        Call::Measure => reference::measure(input.style, &input.table, &input.formula),
-        Call::Set => reference::set(
-            input.style,
-            &input.table,
-            &input.formula,
-            lent.nodes.lent_mut(),
-        ),
+        Call::Measure => reference::measure(*style, table, client, formula),
+        Call::Set => reference::set(*style, table, client, formula, lent.nodes.lent_mut()),
     };
     *words = words_of(&answer);
     lent.number = answer.number;
@@ -187,11 +204,16 @@ fn binding_agrees(call: Call, input: &Input, library: &Outcome) -> bool {
             place: place as usize,
         }),
     };
+    let font = if input.client.is_empty() {
+        Font::new(&input.table)
+    } else {
+        Font::with_client(&input.table, &input.client)
+    };
     match call {
-        Call::Measure => torfianka::measure(input.style, &input.table, &input.formula) == expected,
+        Call::Measure => torfianka::measure(input.style, &font, &input.formula) == expected,
         Call::Set => {
             let mut nodes = library.nodes.lent().to_vec();
-            let result = torfianka::set(input.style, &input.table, &input.formula, &mut nodes);
+            let result = torfianka::set(input.style, &font, &input.formula, &mut nodes);
             result == expected && nodes == library.nodes.lent()
         }
     }

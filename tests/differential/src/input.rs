@@ -7,6 +7,7 @@ use reference::{measure, set, NODE_BYTES};
 pub struct Input {
     pub style: u8,
     pub table: Vec<u8>,
+    pub client: Vec<u8>,
     pub formula: Vec<u8>,
     /// The length of the buffer to set in.
     pub room: usize,
@@ -17,7 +18,7 @@ pub struct Input {
 impl Input {
     pub fn drawn(random: &mut Random) -> Input {
         let case = case(random);
-        let measured = measure(case.style, &case.table, &case.formula);
+        let measured = measure(case.style, &case.table, &case.client, &case.formula);
         let needed = NODE_BYTES * measured.count as usize;
         let more = needed + NODE_BYTES + random.below(1000);
         let room = *random.pick(&[
@@ -34,6 +35,7 @@ impl Input {
         Input {
             style: case.style,
             table: case.table,
+            client: case.client,
             formula: case.formula,
             room,
             filling: random.word(),
@@ -42,7 +44,14 @@ impl Input {
 
     /// The reference's answer number when setting.
     pub fn number(&self) -> u8 {
+        let Input {
+            style,
+            table,
+            client,
+            formula,
+            ..
+        } = self;
         let mut nodes = vec![0; self.room];
-        set(self.style, &self.table, &self.formula, &mut nodes).number
+        set(*style, table, client, formula, &mut nodes).number
     }
 }

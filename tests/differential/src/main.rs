@@ -15,8 +15,8 @@ use reference::generate::Random;
 use std::env;
 use std::process::ExitCode;
 
-/// Answer numbers 0 to 7.
-const NUMBERS: usize = 8;
+/// Answer numbers 0 to 8.
+const NUMBERS: usize = 9;
 /// So many inputs meet every answer number.
 const ENOUGH_FOR_ALL_NUMBERS: u64 = 5_000;
 /// Disagreements printed in full; further ones are only counted.

@@ -17,6 +17,7 @@ pub fn print(input: &Input) {
 pub fn print_input(input: &Input) {
     println!("  style     {}", input.style);
     println!("  table     {}", hex(&input.table));
+    println!("  client    {}", hex(&input.client));
     println!("  formula   {}", hex(&input.formula));
     println!("  room      {}", input.room);
 }

@@ -13,37 +13,22 @@ const LIST_HEAD: usize = 3;
 /// Every run up to this length is tried; longer ones by halves.
 const ALL_RUNS: usize = 32;
 
-/// Drops bytes of the formula, then records of the table.
+/// Drops bytes of the formula, then records of the tables.
 pub fn shrunk(mut input: Input) -> Input {
     let formula_bytes = Units {
         head: 0,
         length: 1,
         without: without_items,
     };
-    let formula = input.formula.clone();
-    input.formula = formula_bytes.dropped(formula, |formula| {
-        disagrees(Input {
-            formula: formula.to_vec(),
-            ..input.clone()
-        })
-    });
-    let records = Units {
-        head: TABLE_HEAD,
+    let records_behind = |head| Units {
+        head,
         length: RECORD_BYTES,
         without,
     };
-    let table = input.table.clone();
-    input.table = records.dropped(table, |table| {
-        disagrees(Input {
-            table: table.to_vec(),
-            ..input.clone()
-        })
-    });
+    formula_bytes.drop_from(|input| &mut input.formula, &mut input);
+    records_behind(0).drop_from(|input| &mut input.client, &mut input);
+    records_behind(TABLE_HEAD).drop_from(|input| &mut input.table, &mut input);
     input
-}
-
-fn disagrees(input: Input) -> bool {
-    disagreement(&input).is_some()
 }
 
 /// What can be dropped from some bytes: units past a head.
@@ -54,6 +39,17 @@ struct Units {
 }
 
 impl Units {
+    /// Drops from one part of an input while the setters disagree.
+    fn drop_from(&self, part: fn(&mut Input) -> &mut Vec<u8>, input: &mut Input) {
+        let bytes = part(input).clone();
+        let bytes = self.dropped(bytes, |bytes| {
+            let mut candidate = input.clone();
+            *part(&mut candidate) = bytes.to_vec();
+            disagreement(&candidate).is_some()
+        });
+        *part(input) = bytes;
+    }
+
     /// Drops runs of units, long ones first, while `holds` stays true.
     fn dropped(&self, mut bytes: Vec<u8>, holds: impl Fn(&[u8]) -> bool) -> Vec<u8> {
         let mut run = bytes.len().saturating_sub(self.head) / self.length;

@@ -26,11 +26,12 @@ impl Answer {
     }
 }
 
-/// Why a formula is refused; a place counts the formula's bytes from 0.
+/// Why a formula is refused, in the order tested; a place counts the formula's bytes from 0.
 #[derive(Clone, Copy, Debug, PartialEq, Eq)]
 pub(crate) enum Refusal {
     Style,
     Table,
+    Client,
     Unreadable(usize),
     TooDeep(usize),
     Absent(usize),
@@ -43,6 +44,7 @@ impl From<Refusal> for Answer {
         let (number, place) = match refusal {
             Refusal::Style => (1, 0),
             Refusal::Table => (2, 0),
+            Refusal::Client => (8, 0),
             Refusal::Unreadable(place) => (3, place),
             Refusal::TooDeep(place) => (4, place),
             Refusal::Absent(place) => (5, place),

@@ -1,16 +1,26 @@
-//! Chains of successors in a font table, none of which may be too long.
+//! Chains of successors, none of which may be too long.
 
-use crate::table::{are_of_one_family, code, successor, Record};
+use crate::records::{code, successor, Record, Records};
 
-/// The most steps of a chain, each to a symbol that the table has.
+/// The most steps of a chain, each to a symbol that is there.
 pub const CHAIN_LIMIT: u8 = 16;
 
 const CODES: usize = 1 << 8;
 
-/// The records rise, so that those of one size and family stand together.
-pub fn are_short(records: &[Record]) -> bool {
-    let mut families = records.chunk_by(are_of_one_family);
+/// A chain keeps to one size and family.
+pub fn are_short(records: Records) -> bool {
+    let mut families = records.families();
     families.all(|family| !family.iter().any(leads_on) || Chains::of(family).are_short())
+}
+
+/// The chains as they are looked up: a record that one over it hides is in
+/// none of them. The lower ones are short by themselves.
+pub fn are_short_over(upper: Records, lower: Records) -> bool {
+    let mut families = upper.families();
+    families.all(|family| {
+        let hidden_or_not = lower.akin_to(&family[0]);
+        Chains::of(hidden_or_not.iter().chain(family)).are_short()
+    })
 }
 
 fn leads_on(record: &Record) -> bool {
@@ -19,27 +29,27 @@ fn leads_on(record: &Record) -> bool {
 
 /// The chains of one size and family.
 struct Chains<'a> {
-    family: &'a [Record],
     by_code: [Option<&'a Record>; CODES],
     /// How many symbols the chain from a code on has; 0 until that is known.
     symbols: [u8; CODES],
 }
 
 impl<'a> Chains<'a> {
-    fn of(family: &'a [Record]) -> Chains<'a> {
+    /// Of two with one code the later counts.
+    fn of(family: impl IntoIterator<Item = &'a Record>) -> Chains<'a> {
         let mut by_code = [None; CODES];
         for record in family {
             by_code[code(record)] = Some(record);
         }
         Chains {
-            family,
             by_code,
             symbols: [0; CODES],
         }
     }
 
     fn are_short(&mut self) -> bool {
-        let mut starts = self.family.iter().filter(|record| leads_on(record));
+        let records = self.by_code;
+        let mut starts = records.iter().flatten().filter(|record| leads_on(record));
         starts.all(|record| self.symbols_within(CHAIN_LIMIT + 1, record).is_some())
     }
 

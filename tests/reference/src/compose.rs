@@ -1,6 +1,7 @@
 //! Bytes of font tables and formulas, put together from their parts.
 
-use crate::table::{CHARACTER_MARK, PARAMETERS, PARAMETER_MARK, RECORD_BYTES, ROWS, ROW_BYTES};
+use crate::parameters::{PARAMETERS, PARAMETER_MARK, ROWS};
+use crate::records::CHARACTER_MARK;
 
 /// A font table before it is written; nothing makes it a good one.
 #[derive(Clone, Debug)]
@@ -21,27 +22,38 @@ pub struct CharacterParts {
 
 impl TableParts {
     pub fn bytes(&self) -> Vec<u8> {
-        let length = ROWS * ROW_BYTES + RECORD_BYTES * self.characters.len();
-        let mut bytes = Vec::with_capacity(length);
+        let mut bytes = Vec::new();
         for row in &self.rows {
             bytes.extend(PARAMETER_MARK);
             bytes.extend(row.iter().flat_map(|word| word.to_le_bytes()));
         }
-        for character in &self.characters {
-            bytes.extend(CHARACTER_MARK);
-            bytes.extend([character.size, character.family, character.code]);
-            bytes.extend([
-                u8::from(character.successor.is_some()),
-                character.successor.unwrap_or(0),
-            ]);
-            bytes.extend(
-                character
-                    .measures
-                    .iter()
-                    .flat_map(|word| word.to_le_bytes()),
-            );
-        }
+        bytes.extend(records(&self.characters));
         bytes
+    }
+}
+
+/// Character records; they are all that a client's table has.
+pub fn records(characters: &[CharacterParts]) -> Vec<u8> {
+    characters.iter().flat_map(CharacterParts::bytes).collect()
+}
+
+impl CharacterParts {
+    /// By this the records of a good table rise.
+    pub fn key(&self) -> (u8, u8, u8) {
+        (self.size, self.family, self.code)
+    }
+
+    /// Whether both have one size and family.
+    pub fn is_akin_to(&self, other: &CharacterParts) -> bool {
+        (self.size, self.family) == (other.size, other.family)
+    }
+
+    fn bytes(&self) -> Vec<u8> {
+        let flag = u8::from(self.successor.is_some());
+        let successor = self.successor.unwrap_or(0);
+        let head = [self.size, self.family, self.code, flag, successor];
+        let measures = self.measures.map(u32::to_le_bytes);
+        [&CHARACTER_MARK[..], &head, measures.as_flattened()].concat()
     }
 }
 

@@ -4,13 +4,14 @@ use crate::answer::Refusal;
 use crate::boxes::{Extent, MathBox};
 use crate::nodes::{Ink, Node, Pen, Run};
 use crate::reading::{Class, Field, Formula, Item, List, Symbol};
+use crate::records::Character;
 use crate::spacing;
 use crate::style::Style;
-use crate::table::{Character, Table};
+use crate::tables::Tables;
 use crate::SIZE_LIMIT;
 
 pub struct Layout<'a, P> {
-    pub table: &'a Table<'a>,
+    pub tables: &'a Tables<'a>,
     pub formula: &'a Formula,
     pub pen: P,
     /// A list or node past the size limit was met. An absent symbol further
@@ -33,9 +34,9 @@ impl Neighbours {
 }
 
 impl<'a, P: Pen> Layout<'a, P> {
-    pub fn new(table: &'a Table<'a>, formula: &'a Formula, pen: P) -> Self {
+    pub fn new(tables: &'a Tables<'a>, formula: &'a Formula, pen: P) -> Self {
         Layout {
-            table,
+            tables,
             formula,
             pen,
             oversize: false,
@@ -85,7 +86,7 @@ impl<'a, P: Pen> Layout<'a, P> {
 
     /// The space before an atom.
     fn space(&self, left: Option<Class>, class: Class, style: Style) -> i64 {
-        let font = self.table.parameters(style.size());
+        let font = self.tables.parameters(style.size());
         left.map_or(0, |left| spacing::space(left, class, style, font))
     }
 
@@ -147,7 +148,7 @@ impl<'a, P: Pen> Layout<'a, P> {
     }
 
     pub fn character(&self, symbol: &Symbol, style: Style) -> Result<Character, Refusal> {
-        self.table
+        self.tables
             .character(style.size(), symbol.family, symbol.code)
             .ok_or(Refusal::Absent(symbol.place as usize))
     }

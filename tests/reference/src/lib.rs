@@ -1,7 +1,8 @@
 //! A formula setter written from the papers, apart from the proved one.
 //!
-//! [`measure`] and [`set`] take a style, a font table and a formula, all as
-//! bytes. Nothing is kept between calls, so every call checks the table anew.
+//! [`measure`] and [`set`] take a style, a font table, a client's symbols over
+//! it and a formula, all as bytes. Nothing is kept between calls, so every call
+//! checks both tables anew.
 
 mod answer;
 mod boxes;
@@ -10,19 +11,22 @@ pub mod compose;
 pub mod generate;
 mod layout;
 mod nodes;
+mod parameters;
 mod printed;
 mod reading;
+mod records;
 mod rules;
 mod spacing;
 mod style;
-mod table;
+mod tables;
 
 pub use answer::Answer;
 pub use chains::CHAIN_LIMIT;
 pub use nodes::NODE_BYTES;
 pub use printed::printed;
 pub use reading::{DEPTH_LIMIT, FORMULA_LIMIT};
-pub use table::{CHARACTER_LIMIT, WORD_LIMIT};
+pub use records::WORD_LIMIT;
+pub use tables::{CHARACTER_LIMIT, CLIENT_LIMIT};
 
 /// The greatest size of a list's dimensions and of a node's coordinates.
 pub const SIZE_LIMIT: i64 = 1_073_741_823;
@@ -33,27 +37,34 @@ use layout::Layout;
 use nodes::{Count, Node, Pen};
 use reading::Formula;
 use style::Style;
-use table::Table;
+use tables::Tables;
 
-/// Finds the formula's sizes and the number of its nodes.
-pub fn measure(style: u8, table: &[u8], formula: &[u8]) -> Answer {
-    match lay_out(style, table, formula, Count::default()) {
+/// Finds the formula's sizes and the number of its nodes. An empty client's
+/// table is none.
+pub fn measure(style: u8, table: &[u8], client: &[u8], formula: &[u8]) -> Answer {
+    match lay_out(style, table, client, formula, Count::default()) {
         Ok((formula_box, pen)) => Answer::accepted(&formula_box, pen.count()),
         Err(refusal) => refusal.into(),
     }
 }
 
 /// Measures, and writes the nodes to the front of `nodes`.
-pub fn set(style: u8, table: &[u8], formula: &[u8], nodes: &mut [u8]) -> Answer {
-    match try_set(style, table, formula, nodes) {
+pub fn set(style: u8, table: &[u8], client: &[u8], formula: &[u8], nodes: &mut [u8]) -> Answer {
+    match try_set(style, table, client, formula, nodes) {
         Ok(answer) => answer,
         Err(refusal) => refusal.into(),
     }
 }
 
-fn try_set(style: u8, table: &[u8], formula: &[u8], nodes: &mut [u8]) -> Result<Answer, Refusal> {
+fn try_set(
+    style: u8,
+    table: &[u8],
+    client: &[u8],
+    formula: &[u8],
+    nodes: &mut [u8],
+) -> Result<Answer, Refusal> {
     let pen: Vec<Node> = Vec::with_capacity(most_nodes(formula));
-    let (formula_box, pen) = lay_out(style, table, formula, pen)?;
+    let (formula_box, pen) = lay_out(style, table, client, formula, pen)?;
     let room = nodes
         .get_mut(..NODE_BYTES * pen.len())
         .ok_or(Refusal::Room)?;
@@ -71,13 +82,14 @@ fn most_nodes(formula: &[u8]) -> usize {
 fn lay_out<P: Pen>(
     style: u8,
     table: &[u8],
+    client: &[u8],
     formula: &[u8],
     pen: P,
 ) -> Result<(MathBox, P), Refusal> {
     let style = Style::new(style).ok_or(Refusal::Style)?;
-    let table = Table::read(table).ok_or(Refusal::Table)?;
+    let tables = Tables::read(table, client)?;
     let formula = Formula::read(formula)?;
-    let mut layout = Layout::new(&table, &formula, pen);
+    let mut layout = Layout::new(&tables, &formula, pen);
     let formula_box = layout.list(formula.top, style)?;
     if layout.oversize {
         return Err(Refusal::Size);

@@ -1,8 +1,8 @@
 //! Class changes and the space between atoms (rules 5, 6 and 20).
 
+use crate::parameters::Parameters;
 use crate::reading::Class;
 use crate::style::Style;
-use crate::table::Parameters;
 
 /// Rules 5 and 6: the class an atom ends with. `left` is the atom before it,
 /// already changed; `right` finds the atom after it.

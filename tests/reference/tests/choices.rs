@@ -219,7 +219,7 @@ fn a_math_unit_is_of_the_style_at_the_right_atom() {
     const QUAD_IN_SCRIPT: usize = 142 + 2 + 4 * 5;
     let mut table = bench_table();
     table[QUAD_IN_SCRIPT..][..4].copy_from_slice(&1800u32.to_le_bytes());
-    let width = |items: [Vec<u8>; 4]| measure(TEXT, &table, &items.concat()).width;
+    let width = |items: [Vec<u8>; 4]| measure(TEXT, &table, &[], &items.concat()).width;
     let (text, script) = (style(TEXT), style(SCRIPT));
     let sum = plain(1, &SUM);
     let into_script = [text.clone(), ord(&A), script.clone(), sum.clone()];

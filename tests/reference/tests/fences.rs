@@ -168,7 +168,7 @@ fn the_closes_math_unit_is_of_the_starting_style() {
     let mut table = bench_table();
     table[QUAD_IN_SCRIPT..][..4].copy_from_slice(&1800u32.to_le_bytes());
     let items = [style(SCRIPT), comma()].concat();
-    let answer = measure(TEXT, &table, &bare_fence([NONE, NONE], &items));
+    let answer = measure(TEXT, &table, &[], &bare_fence([NONE, NONE], &items));
     assert_eq!(answer.width, 2 * BLANK + 500 + 3 * 55);
 }
 
@@ -300,7 +300,7 @@ fn the_kind_is_judged_before_the_depth() {
 fn past_the_size_limit() {
     let far = [kern(8_388_607).repeat(128), kern(127)].concat();
     let back = kern(-200_000);
-    let number = |items: [&[u8]; 3]| measure(TEXT, &table(), &items.concat()).number;
+    let number = |items: [&[u8]; 3]| measure(TEXT, &table(), &[], &items.concat()).number;
     let right_past = bare_fence([NONE, LEFT], &[]);
     assert_eq!(number([&far, &right_past, &back]), 6);
     assert_eq!(number([&far, &back, &right_past]), 0);

@@ -13,14 +13,20 @@ fn calls_keep_their_contract() {
     for _ in 0..CASES {
         let case = case(&mut random);
         let mut nodes = vec![FILLING; case.room];
-        let answer = set(case.style, &case.table, &case.formula, &mut nodes);
+        let answer = set(
+            case.style,
+            &case.table,
+            &case.client,
+            &case.formula,
+            &mut nodes,
+        );
         check_answer(&case, &answer);
         check_buffer(&answer, &nodes);
     }
 }
 
 fn check_answer(case: &Case, answer: &Answer) {
-    let measured = measure(case.style, &case.table, &case.formula);
+    let measured = measure(case.style, &case.table, &case.client, &case.formula);
     if answer.number == 7 {
         assert_eq!(measured.number, 0);
         assert!(case.room < NODE_BYTES * measured.count as usize);
@@ -49,12 +55,18 @@ fn check_buffer(answer: &Answer, nodes: &[u8]) {
 
 #[test]
 fn every_answer_comes_often() {
-    let mut counts = [0; 8];
+    let mut counts = [0; 9];
     let mut random = Random::new(8);
     for _ in 0..CASES {
         let case = case(&mut random);
         let mut nodes = vec![0; case.room];
-        let answer = set(case.style, &case.table, &case.formula, &mut nodes);
+        let answer = set(
+            case.style,
+            &case.table,
+            &case.client,
+            &case.formula,
+            &mut nodes,
+        );
         counts[usize::from(answer.number)] += 1;
     }
     assert!(counts.iter().all(|count| *count > CASES / 50), "{counts:?}");
@@ -69,7 +81,7 @@ fn every_item_is_refused_often() {
     let mut random = Random::new(9);
     for _ in 0..CASES {
         let case = case(&mut random);
-        let answer = measure(case.style, &case.table, &case.formula);
+        let answer = measure(case.style, &case.table, &case.client, &case.formula);
         if answer.number == 3 && case.formula.len() <= FORMULA_LIMIT {
             let item = &case.formula[answer.place as usize..];
             let mark = MARKS.iter().position(|mark| item.starts_with(mark));
@@ -91,7 +103,7 @@ fn fences_are_refused_for_each_fault() {
     let mut random = Random::new(14);
     for _ in 0..CASES {
         let case = case(&mut random);
-        let answer = measure(case.style, &case.table, &case.formula);
+        let answer = measure(case.style, &case.table, &case.client, &case.formula);
         let item = &case.formula[answer.place as usize..];
         if answer.number != 3 || !item.starts_with(b"FE") || item.len() <= KIND {
             continue;
@@ -116,7 +128,7 @@ fn lists_are_refused_for_kind_before_depth() {
     let mut random = Random::new(12);
     for _ in 0..CASES {
         let case = case(&mut random);
-        let answer = measure(case.style, &case.table, &case.formula);
+        let answer = measure(case.style, &case.table, &case.client, &case.formula);
         for ((mark, kind), [deep, wrong]) in LIST_HOLDERS.into_iter().zip(&mut counts) {
             let place = answer.place as usize;
             let is_held = |item: usize| case.formula[item..].starts_with(mark);
@@ -140,7 +152,7 @@ fn would_be_too_deep(case: &Case, field: usize) -> bool {
         return false;
     };
     *kind = 2;
-    measure(case.style, &case.table, &formula).number == 4
+    measure(case.style, &case.table, &case.client, &formula).number == 4
 }
 
 #[test]
@@ -149,11 +161,11 @@ fn chains_are_refused_if_too_long() {
     let mut random = Random::new(10);
     for _ in 0..CASES {
         let Case { table, .. } = case(&mut random);
-        if measure(0, &without_successors(&table), &[]).number == 2 {
+        if measure(0, &without_successors(&table), &[], &[]).number == 2 {
             continue;
         }
         let steps = most_steps(&table);
-        let number = measure(0, &table, &[]).number;
+        let number = measure(0, &table, &[], &[]).number;
         assert_eq!(number, if steps > CHAIN_LIMIT { 2 } else { 0 });
         longest += usize::from(steps == CHAIN_LIMIT);
         too_long += usize::from(steps == CHAIN_LIMIT + 1);

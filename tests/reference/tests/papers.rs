@@ -107,7 +107,7 @@ fn underline_with_its_bytes() {
 fn underline_in_print() {
     let formula = underline([&A, EMPTY, EMPTY]);
     let mut nodes = [0; 2 * NODE_BYTES];
-    let answer = set(TEXT, &bench_table(), &formula, &mut nodes);
+    let answer = set(TEXT, &bench_table(), &[], &formula, &mut nodes);
     assert_eq!(
         reference::printed(&answer, &nodes),
         "w 500 h 430 d 200 n 2\nglyph 0 0 0 1 97\nrule 0 -160 500 40\n"
@@ -117,7 +117,7 @@ fn underline_in_print() {
 #[test]
 fn refusal_in_print() {
     let formula = ord(&symbol(1, 98));
-    let answer = measure(TEXT, &bench_table(), &formula);
+    let answer = measure(TEXT, &bench_table(), &[], &formula);
     assert_eq!(reference::printed(&answer, &[]), "refused 5 at 4\n");
 }
 
@@ -126,11 +126,12 @@ fn refusals_in_order() {
     let table = bench_table();
     let formula = ord(&A);
     let mut short = [7; NODE_BYTES - 1];
-    assert_eq!(measure(8, &[], &[0]).number, 1);
-    assert_eq!(measure(TEXT, &[], &[0]).number, 2);
+    assert_eq!(measure(8, &[], &[0], &[0]).number, 1);
+    assert_eq!(measure(TEXT, &[], &[0], &[0]).number, 2);
+    assert_eq!(measure(TEXT, &table, &[0], &[0]).number, 8);
     assert_eq!(refusal(TEXT, &[0]), (3, 0));
     assert_eq!(refusal(TEXT, &[0; 4097]), (3, 0));
-    assert_eq!(set(TEXT, &table, &formula, &mut short).number, 7);
+    assert_eq!(set(TEXT, &table, &[], &formula, &mut short).number, 7);
     assert_eq!(short, [7; NODE_BYTES - 1]);
 }
 

@@ -287,7 +287,7 @@ fn chain(size: u8, codes: std::ops::RangeInclusive<u8>, last: Option<u8>) -> Vec
 }
 
 fn number(characters: &[CharacterParts]) -> u8 {
-    measure(TEXT, &table_with(characters), &[]).number
+    measure(TEXT, &table_with(characters), &[], &[]).number
 }
 
 #[test]

@@ -8,14 +8,14 @@ use Rattle.capi.proofs.torfianka_set.Tie as tie
 
 returns : tie.Need-returns
 returns c =
-    let w = c .before .before .before .before .args .answer .now in
+    let w = c .before .before .before .before .before .args .answer .now in
     (number-short _ w (c .if1 .taken), (words-short _ w (c .if1 .taken), buffer-short _ _ w (c .if1 .taken)))
 
 set-requires : tie.Need-set-requires
 set-requires c κs = tt
 
 report-requires : tie.Need-report-requires
-report-requires c κs = (search needs, subst Small (sym (c .before .before .before .set .ensures .0)) (setting-small _ _ _ _))
+report-requires c κs = (search needs, subst Small (sym (c .before .before .before .set .ensures .0)) (setting-small _ _ _ _ _))
 
 same-length : tie.Need-same-length
 same-length c = search needs
@@ -25,7 +25,7 @@ same-length-2 c = search needs
 
 returns-2 : tie.Need-returns-2
 returns-2 c =
-    let w = c .before .before .before .before .before .before .before .before .before .before .before .args .answer .now in
+    let w = c .before .before .before .before .before .before .before .before .before .before .before .before .args .answer .now in
     let room = c .before .before .before .before .before .before .before .if1 .left in
     let set = c .before .before .before .before .before .set .ensures in
     let r = rw (set .0) at (c .before .report .ensures) in

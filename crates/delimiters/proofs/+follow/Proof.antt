@@ -4,7 +4,7 @@ use mathlib.Core.Path.{sym, ap, _∙_}
 use Prim.Native.Nat.{ℕ, _-_, _<_}
 use native.Mathlib.Omega.{arith}
 use borrow.Author.Needs.{needs}
-use Rattle.font.specs.Font.{fontOf}
+use Rattle.font.specs.Font.{fontWith}
 use Rattle.font.specs.Values.{foundAs, successorAs}
 use Rattle.delimiters.specs.Delimiters.{chain}
 use Rattle.delimiters.specs.Looking.{Looked, lookedAt}
@@ -21,7 +21,7 @@ use Rattle.delimiters.proofs.+follow.{statement}
 use Rattle.delimiters.proofs.+follow.Tie.{close}
 
 abbrev μ : Measures 1 kinds.ps ℕ
-μ κs a = a .1 .1 .1 .1 .1 .1 .0
+μ κs a = a .1 .1 .1 .1 .1 .1 .1 .0
 
 abbrev at : ℕ → In 1 kinds.ps
 at t = and 1 kinds.ps (is 1 kinds.ps μ t) follow.Pre
@@ -34,25 +34,25 @@ claims t = (symbol-reads.Asked, symbol-reads.Learnt, look-reads.Asked, look-read
 
 returns : (t : ℕ) → lts.Need-returns (claims t) (at t) follow.Post
 returns t c =
-    let a = c .before .before .before .args in
+    let a = c .before .before .before .before .args in
     rw (c .enum-told .given .1) (sym (looked-enough (a .needed .0) _ _))
 
 returns-2 : (t : ℕ) → lts.Need-returns-2 (claims t) (at t) follow.Post
 unfolding lookedAt
 returns-2 t c =
     let found = c .before .before in
-    let a = found .before .before .before .args in
+    let a = found .before .before .before .before .args in
     let is = sym (found .symbol .ensures) ∙ ap foundAs (c .enum-told2 .given .1) in
-    rw (chain-absent (fontOf (a .table .now)) (a .size) (a .family) (a .steps) (a .code) is)
+    rw (chain-absent (fontWith (a .table .now) (a .client .now)) (a .size) (a .family) (a .steps) (a .code) is)
 
 returns-3 : (t : ℕ) → lts.Need-returns-3 (claims t) (at t) follow.Post
 unfolding lookedAt
 returns-3 t c =
     let seen = c .before .before in
     let known = seen .before .before in
-    let a = known .before .before .before .before .before .args in
+    let a = known .before .before .before .before .before .before .args in
     let is = sym (known .before .before .symbol .ensures) ∙ ap foundAs (known .metrics .given .1) in
-    rw (chain-last (fontOf (a .table .now)) (a .size) (a .family) (a .code) _ is (a .steps) (ap successorAs (c .enum-told3 .given .1))) (seen .look .ensures)
+    rw (chain-last (fontWith (a .table .now) (a .client .now)) (a .size) (a .family) (a .code) _ is (a .steps) (ap successorAs (c .enum-told3 .given .1))) (seen .look .ensures)
 
 returns-4 : (t : ℕ) → lts.Need-returns-4 (claims t) (at t) follow.Post
 unfolding lookedAt
@@ -60,9 +60,9 @@ returns-4 t c =
     let code = c .before .before in
     let seen = code .before .before in
     let known = seen .before .before in
-    let a = known .before .before .before .before .before .args in
+    let a = known .before .before .before .before .before .before .args in
     let is = sym (known .before .before .symbol .ensures) ∙ ap foundAs (known .metrics .given .1) in
-    rw (c .if1 .taken, chain-cut (fontOf (a .table .now)) (a .size) (a .family) (a .code) _ is _ (ap successorAs (code .next .given .1))) (seen .look .ensures)
+    rw (c .if1 .taken, chain-cut (fontWith (a .table .now) (a .client .now)) (a .size) (a .family) (a .code) _ is _ (ap successorAs (code .next .given .1))) (seen .look .ensures)
 
 returns-5 : (t : ℕ) → lts.Need-returns-5 (claims t) (at t) follow.Post
 unfolding lookedAt
@@ -70,10 +70,10 @@ returns-5 t c =
     let code = c .before .before .before in
     let seen = code .before .before in
     let known = seen .before .before in
-    let a = known .before .before .before .before .before .args in
+    let a = known .before .before .before .before .before .before .args in
     let is = sym (known .before .before .symbol .ensures) ∙ ap foundAs (known .metrics .given .1) in
-    let rest = chain (fontOf (a .table .now)) (a .size) (a .family) (a .steps - 1) (code .next .given .0 .0) in
-    rw (chain-step (fontOf (a .table .now)) (a .size) (a .family) (a .code) _ is (a .steps) _ (omega arith) (ap successorAs (code .next .given .1)))
+    let rest = chain (fontWith (a .table .now) (a .client .now)) (a .size) (a .family) (a .steps - 1) (code .next .given .0 .0) in
+    rw (chain-step (fontWith (a .table .now) (a .client .now)) (a .size) (a .family) (a .code) _ is (a .steps) _ (omega arith) (ap successorAs (code .next .given .1)))
     (c .follow .ensures ∙ ap (λ (far : Looked). lookedAt (a .needed .0) far rest) (seen .look .ensures))
 
 pub +follow-spec : {M : Type 1} → statement M

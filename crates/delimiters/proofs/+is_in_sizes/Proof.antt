@@ -4,7 +4,7 @@ use mathlib.Core.Path.{sym, ap, _∙_}
 use Prim.Native.Nat.{ℕ, _<_}
 use native.Mathlib.Omega.{arith}
 use borrow.Author.Needs.{needs}
-use Rattle.font.specs.Font.{fontOf}
+use Rattle.font.specs.Font.{fontWith}
 use Rattle.font.specs.Values.{foundAs}
 use Rattle.delimiters.proofs.ChainLaws.{any-here, any-text, any-up}
 use borrow.Fn.Kinds.{In}
@@ -17,7 +17,7 @@ use Rattle.delimiters.proofs.+is_in_sizes.{statement}
 use Rattle.delimiters.proofs.+is_in_sizes.Tie.{close}
 
 abbrev μ : Measures 1 kinds.ps ℕ
-μ κs a = a .1 .0
+μ κs a = a .1 .1 .0
 
 abbrev at : ℕ → In 1 kinds.ps
 at t = and 1 kinds.ps (is 1 kinds.ps μ t) is-in-sizes.Pre
@@ -31,23 +31,23 @@ claims t = (symbol-reads.Asked, symbol-reads.Learnt, below t, is-in-sizes.Post)
 returns : (t : ℕ) → lts.Need-returns (claims t) (at t) is-in-sizes.Post
 returns t c =
     let found = c .before .before in
-    let a = found .before .before .args in
+    let a = found .before .before .before .args in
     let is = sym (found .symbol .ensures) ∙ ap foundAs (c .enum-told .given .1) in
-    sym (any-here (fontOf (a .table .now)) (a .family) (a .code) (a .size) _ is)
+    sym (any-here (fontWith (a .table .now) (a .client .now)) (a .family) (a .code) (a .size) _ is)
 
 returns-2 : (t : ℕ) → lts.Need-returns-2 (claims t) (at t) is-in-sizes.Post
 returns-2 t c =
     let told = c .before in
-    let a = told .before .before .before .before .args in
+    let a = told .before .before .before .before .before .args in
     let is = sym (told .before .before .symbol .ensures) ∙ ap foundAs (told .enum-told2 .given .1) in
-    sym (any-text (fontOf (a .table .now)) (a .family) (a .code) (a .size) (c .if1 .taken) is)
+    sym (any-text (fontWith (a .table .now) (a .client .now)) (a .family) (a .code) (a .size) (c .if1 .taken) is)
 
 returns-3 : (t : ℕ) → lts.Need-returns-3 (claims t) (at t) is-in-sizes.Post
 returns-3 t c =
     let told = c .before .before in
-    let a = told .before .before .before .before .args in
+    let a = told .before .before .before .before .before .args in
     let is = sym (told .before .before .symbol .ensures) ∙ ap foundAs (told .enum-told2 .given .1) in
-    c .is-in-sizes .ensures ∙ sym (any-up (fontOf (a .table .now)) (a .family) (a .code) (a .size) (omega arith) is)
+    c .is-in-sizes .ensures ∙ sym (any-up (fontWith (a .table .now) (a .client .now)) (a .family) (a .code) (a .size) (omega arith) is)
 
 pub +is-in-sizes-spec : {M : Type 1} → statement M
 +is-in-sizes-spec =

@@ -3,7 +3,7 @@
 use Prim.Native.Nat.{ℕ, _<_}
 use native.Mathlib.Omega.{arith}
 use borrow.Author.Needs.{needs}
-use Rattle.font.specs.Font.{fontOf}
+use Rattle.font.specs.Font.{fontWith}
 use Rattle.delimiters.proofs.LookingLaws.{looked-both}
 use Rattle.delimiters.proofs.ChainLaws.{in-text, in-sizes}
 use borrow.Fn.Kinds.{In}
@@ -16,7 +16,7 @@ use Rattle.delimiters.proofs.+search_sizes.{statement}
 use Rattle.delimiters.proofs.+search_sizes.Tie.{close}
 
 abbrev μ : Measures 1 kinds.ps ℕ
-μ κs a = a .1 .0
+μ κs a = a .1 .1 .0
 
 abbrev at : ℕ → In 1 kinds.ps
 at t = and 1 kinds.ps (is 1 kinds.ps μ t) search-sizes.Pre
@@ -29,14 +29,14 @@ claims t = (follow-reads.Asked, follow-reads.Learnt, below t, search-sizes.Post)
 
 returns : (t : ℕ) → lts.Need-returns (claims t) (at t) search-sizes.Post
 returns t c =
-    let a = c .before .before .before .args in
-    rw (in-text (fontOf (a .table .now)) (a .family) (a .code) (a .size) (c .if1 .taken)) (c .before .follow .ensures)
+    let a = c .before .before .before .before .args in
+    rw (in-text (fontWith (a .table .now) (a .client .now)) (a .family) (a .code) (a .size) (c .if1 .taken)) (c .before .follow .ensures)
 
 returns-2 : (t : ℕ) → lts.Need-returns-2 (claims t) (at t) search-sizes.Post
 returns-2 t c =
     let here = c .before .before in
-    let a = here .before .before .args in
-    rw (in-sizes (fontOf (a .table .now)) (a .family) (a .code) (a .size) (omega arith), looked-both, ← here .follow .ensures) (c .search-sizes .ensures)
+    let a = here .before .before .before .args in
+    rw (in-sizes (fontWith (a .table .now) (a .client .now)) (a .family) (a .code) (a .size) (omega arith), looked-both, ← here .follow .ensures) (c .search-sizes .ensures)
 
 pub +search-sizes-spec : {M : Type 1} → statement M
 +search-sizes-spec =

@@ -3,7 +3,7 @@
 use mathlib.Core.Path.{_≡_, sym, ap, _∙_}
 use mathlib.Core.Option.{Option}
 use borrow.Author.Needs.{needs}
-use Rattle.font.specs.Font.{fontOf}
+use Rattle.font.specs.Font.{fontWith}
 use Rattle.delimiters.specs.declared.Search.{Search}
 use Rattle.delimiters.specs.Delimiters.{Sign, ofPair, candidates, signFor}
 use Rattle.delimiters.specs.Looking.{Looked, nothing, lookedAt, outcome}
@@ -16,18 +16,18 @@ abbrev found : Search → Option Sign
 found far = outcome (searchAs far)
 
 searched : (c : tie.After-search-pair2) →
-    let a = c .before .before .before .before .before .args in
-    found (c .search-pair2 .result) ≡ signFor (fontOf (a .table .now)) (a .size) (a .d) (a .needed .0)
+    let a = c .before .before .before .before .before .before .args in
+    found (c .search-pair2 .result) ≡ signFor (fontWith (a .table .now) (a .client .now)) (a .size) (a .d) (a .needed .0)
 unfolding signFor candidates
 searched c =
-    let a = c .before .before .before .before .before .args in
-    let small = ofPair (fontOf (a .table .now)) (a .size) (a .d .small) in
-    let large = ofPair (fontOf (a .table .now)) (a .size) (a .d .large) in
+    let a = c .before .before .before .before .before .before .args in
+    let small = ofPair (fontWith (a .table .now) (a .client .now)) (a .size) (a .d .small) in
+    let large = ofPair (fontWith (a .table .now) (a .client .now)) (a .size) (a .d .large) in
     ap outcome
     (c .search-pair2 .ensures
     ∙ ap (λ (far : Looked). lookedAt (a .needed .0) far large) (c .before .search-pair .ensures)
     ∙ sym (looked-both (a .needed .0) nothing small large))
-    ∙ looked-taken (a .needed .0) (candidates (fontOf (a .table .now)) (a .size) (a .d))
+    ∙ looked-taken (a .needed .0) (candidates (fontWith (a .table .now) (a .client .now)) (a .size) (a .d))
 
 returns : tie.Need-returns
 returns c = sym (ap found (c .enum-told .given .1)) ∙ searched (c .before .before)

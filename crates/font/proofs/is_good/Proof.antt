@@ -1,13 +1,17 @@
 -- `is_good` makes the tests of `good-table`, one after the other: the length, the PA records, the CH records, the chains.
-use mathlib.Core.Path.{_≡_, refl, sym, ap, _∙_}
+use mathlib.Core.Path.{_≡_, sym, ap, _∙_}
 use mathlib.Core.Bool.{true}
 use mathlib.Core.List.{List}
 use Prim.Native.Nat.{ℕ}
 use borrow.Author.Tests.{not-true, not-false}
 use borrow.Author.Needs.{needs}
 use Rattle.font.specs.Values.{soundCharacters}
-use Rattle.font.specs.Records.{headerBytes, characterBytes, pieces, parameterRecords, characterRecords, characterCount, every, goodParameters, goodLength}
+use Rattle.font.specs.Records.{headerBytes, characterBytes, pieces, parameterRecords, characterRecords, characterCount, every, goodParameters, goodLength, goodRecords}
+use Rattle.font.specs.Table.{goodTable}
+use Rattle.font.specs.FontLaws.{sound-alone}
 use Rattle.font.proofs.WordLaws.{rest-of}
+use Rattle.font.proofs.LookupLaws.{sound-part}
+use Rattle.font.proofs.ChainLaws.{alone-followed, alone-ends}
 use Rattle.font.proofs.CheckLaws.{good-bytes, good-table, length-short, length-broken, length-great, length-good, pass, stop}
 use Rattle.font.proofs.is_good.Statement.{statement}
 use Rattle.font.proofs.is_good.Tie as tie
@@ -26,6 +30,12 @@ unfolding characterRecords characterCount
 characters-tested c =
     let t = c .before .before .before .before .before .before .before .before .args .table .now in
     c .are-characters .ensures ∙ ap (λ (s : List ℕ). soundCharacters (pieces characterBytes (characterCount t) s)) (rest-of headerBytes t)
+
+records-good : (c : tie.Else5) → goodRecords (c .before .before .before .before .before .before .before .before .before .args .table .now) ≡ true
+records-good c =
+    let past = c .before .before .before in
+    let characters = sym (characters-tested (c .before)) ∙ not-false _ (c .if5 .left) in
+    good-bytes _ ∙ pass _ _ (sized (past .before .before)) ∙ pass _ _ (parameters-good past) ∙ characters
 
 -- ---- the needs
 
@@ -74,18 +84,21 @@ returns-5 c =
     sym (good-table _ ∙ pass _ _ (sized (past .before .before)) ∙ pass _ _ (parameters-good past) ∙ stop _ _ characters)
 
 all-end-requires : tie.Need-all-end-requires
-unfolding characterCount
 all-end-requires c κs =
-    let past = c .before .before .before in
-    let characters = sym (characters-tested (c .before)) ∙ not-false _ (c .if5 .left) in
-    (good-bytes _ ∙ pass _ _ (sized (past .before .before)) ∙ pass _ _ (parameters-good past) ∙ characters, refl)
+    let tested = c .before .before in
+    let known = tested .before .before .before .before .before .before .before .before in
+    let t = known .before .args .table .now in
+    let good = records-good tested in
+    (sound-alone t good, sound-part t good, alone-followed t good (known .shared-slice-known .given))
 
 returns-6 : tie.Need-returns-6
+unfolding goodTable
 returns-6 c =
-    let tested = c .before .before in
-    let past = tested .before .before in
-    let characters = sym (characters-tested tested) ∙ not-false _ (c .before .if5 .left) in
-    c .all-end .ensures ∙ sym (good-table _ ∙ pass _ _ (sized (past .before .before)) ∙ pass _ _ (parameters-good past) ∙ pass _ _ characters)
+    let tested = c .before .before .before in
+    let known = tested .before .before .before .before .before .before .before .before in
+    let t = known .before .args .table .now in
+    let good = records-good tested in
+    c .all-end .ensures ∙ alone-ends t good (known .shared-slice-known .given) ∙ sym (pass (goodRecords t) _ good)
 
 pub is-good-spec : {M : Type 1} → statement M
 is-good-spec =
@@ -104,5 +117,9 @@ is-good-spec =
     part-are-characters-end
     are-characters-requires
     returns-5
+    (λ c. search needs)
+    (λ c. search needs)
+    (λ c. search needs)
+    (λ c. search needs)
     all-end-requires
     returns-6)

@@ -22,12 +22,12 @@ enum-known-l-2 c = search needs
 returns : tie.Need-returns
 returns c =
     let done = rw (c .before .before .l .given .1) at (c .before .before .before .before .before .set-list .ensures) in
-    whole-examined _ _ _ _ _ (done .0) (c .weighed .result) (c .weighed .ensures)
+    whole-examined _ _ _ _ _ _ (done .0) (c .weighed .result) (c .weighed .ensures)
 
 returns-2 : tie.Need-returns-2
 returns-2 c =
     let done = rw (c .before .l2 .given .1) at (c .before .before .before .before .set-list .ensures) in
-    missing-examined _ _ _ _ (done .0)
+    missing-examined _ _ _ _ _ (done .0)
 
 pub examine-spec : {M : Type 1} → statement M
 examine-spec =

@@ -17,12 +17,12 @@ enum-known-reading-2 : tie.Need-enum-known-reading-2
 enum-known-reading-2 c = search needs
 
 returns : tie.Need-returns
-returns c = measured-refused _ _ _ _ (rw (c .before .reading2 .given .1) at (c .before .before .before .read .ensures))
+returns c = measured-refused _ _ _ _ _ (rw (c .before .reading2 .given .1) at (c .before .before .before .read .ensures))
 
 -- a formula that reads
 reads : (c : tie.After-reading) →
-    let a = c .before .before .before .before .before .args in
-    Reads (a .style) (a .table .now) (a .formula .now) (c .reading .given .0 .0)
+    let a = c .before .before .before .before .before .before .args in
+    Reads (a .style) (a .table .now) (a .client .now) (a .formula .now) (c .reading .given .0 .0)
 reads c = rw (c .reading .given .1) at (c .before .before .read .ensures)
 
 parameters-requires : tie.Need-parameters-requires
@@ -40,12 +40,12 @@ enum-known-finding-2 c = search needs
 returns-2 : tie.Need-returns-2
 returns-2 c =
     let found = rw (c .before .finding .given .1) at (c .before .before .before .examine .ensures) in
-    measured-is _ _ _ _ (reads (c .before .before .before .before .before .before .before)) _ _ found
+    measured-is _ _ _ _ _ (reads (c .before .before .before .before .before .before .before)) _ _ found
 
 returns-3 : tie.Need-returns-3
 returns-3 c =
     let refusal = rw (c .before .finding2 .given .1) at (c .before .before .before .examine .ensures) in
-    measured-refused _ _ _ _ (refused-later _ _ _ _ (reads (c .before .before .before .before .before .before .before)) _ refusal)
+    measured-refused _ _ _ _ _ (refused-later _ _ _ _ _ (reads (c .before .before .before .before .before .before .before)) _ refusal)
 
 pub measure-spec : {M : Type 1} → statement M
 measure-spec =

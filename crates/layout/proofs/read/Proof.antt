@@ -4,11 +4,11 @@ use mathlib.Core.Bool.{true}
 use mathlib.Core.Option.{some}
 use borrow.Author.Tests.{not-true, not-false}
 use borrow.Author.Needs.{needs}
-use Rattle.font.specs.Table.{goodTable}
+use Rattle.font.specs.Table.{goodTable, goodClient}
 use Rattle.formula.specs.PlacesLaws.{formula-good, formula-fault}
 use Rattle.boxes.specs.Styles.{styleOf}
 use Rattle.boxes.specs.Values.{numberedAs}
-use Rattle.layout.proofs.AnsweringLaws.{style-refused, table-refused, fault-refused, formula-reads}
+use Rattle.layout.proofs.AnsweringLaws.{style-refused, table-refused, client-refused, fault-refused, formula-reads}
 use Rattle.layout.proofs.read.Statement.{statement}
 use Rattle.layout.proofs.read.Tie as tie
 
@@ -22,21 +22,35 @@ enum-told : tie.Need-enum-told
 enum-told c = search needs
 
 returns : tie.Need-returns
-returns c = style-refused _ _ _ (sym (c .before .before .style-of .ensures) ∙ ap numberedAs (c .enum-told .given .1))
+returns c = style-refused _ _ _ _ (sym (c .before .before .style-of .ensures) ∙ ap numberedAs (c .enum-told .given .1))
 
 is-good-requires : tie.Need-is-good-requires
 is-good-requires c κs = search needs
 
 -- the style that there is
-styled : (c : tie.After-numbered) → styleOf (c .before .before .before .before .before .args .style) ≡ some (c .numbered .given .0 .0)
+styled : (c : tie.After-numbered) → styleOf (c .before .before .before .before .before .before .args .style) ≡ some (c .numbered .given .0 .0)
 styled c = sym (c .before .before .style-of .ensures) ∙ ap numberedAs (c .numbered .given .1)
 
 returns-2 : tie.Need-returns-2
-returns-2 c = table-refused _ _ _ _ (styled (c .before .before .before)) (sym (c .before .is-good .ensures) ∙ not-true _ (c .if1 .taken))
+returns-2 c = table-refused _ _ _ _ _ (styled (c .before .before .before)) (sym (c .before .is-good .ensures) ∙ not-true _ (c .if1 .taken))
 
--- and the table that breaks no rule
-table-good : (c : tie.Else1) → goodTable (c .before .before .before .before .before .before .before .before .args .table .now) ≡ true
+-- our table, which breaks no rule
+table-good : (c : tie.Else1) → goodTable (c .before .before .before .before .before .before .before .before .before .args .table .now) ≡ true
 table-good c = sym (c .before .is-good .ensures) ∙ not-false _ (c .if1 .left)
+
+is-good-client-requires : tie.Need-is-good-client-requires
+is-good-client-requires c κs = table-good c
+
+returns-3 : tie.Need-returns-3
+returns-3 c =
+    client-refused _ _ _ _ _ (styled (c .before .before .before .before .before)) (table-good (c .before .before))
+    (sym (c .before .is-good-client .ensures) ∙ not-true _ (c .if2 .taken))
+
+-- and the client's
+client-good : (c : tie.Else2) →
+    let a = c .before .before .before .before .before .before .before .before .before .before .before .args in
+    goodClient (a .table .now) (a .client .now) ≡ true
+client-good c = sym (c .before .is-good-client .ensures) ∙ not-false _ (c .if2 .left)
 
 read-formula-requires : tie.Need-read-formula-requires
 read-formula-requires c κs = search needs
@@ -50,14 +64,16 @@ enum-known-verdict c = search needs
 faulty-requires : tie.Need-faulty-requires
 faulty-requires c κs = search needs
 
-returns-3 : tie.Need-returns-3
-returns-3 c =
-    formula-reads _ _ _ _ (styled (c .before .before .before .before .before .before)) (table-good (c .before .before .before))
-    (formula-good _ (sym (c .before .before .read-formula .ensures) ∙ c .enum-told2 .given .1))
-
 returns-4 : tie.Need-returns-4
 returns-4 c =
-    fault-refused _ _ _ _ (styled (c .before .before .before .before .before .before .before .before)) (table-good (c .before .before .before .before .before)) _ _ _
+    let tested = c .before .before .before in
+    formula-reads _ _ _ _ _ (styled (tested .before .before .before .before .before)) (table-good (tested .before .before)) (client-good tested)
+    (formula-good _ (sym (c .before .before .read-formula .ensures) ∙ c .enum-told2 .given .1))
+
+returns-5 : tie.Need-returns-5
+returns-5 c =
+    let tested = c .before .before .before .before .before in
+    fault-refused _ _ _ _ _ (styled (tested .before .before .before .before .before)) (table-good (tested .before .before)) (client-good tested) _ _ _
     (formula-fault _ _ _ (sym (c .before .before .before .before .read-formula .ensures) ∙ c .before .before .verdict .given .1)) (c .faulty .ensures)
 
 pub read-spec : {M : Type 1} → statement M
@@ -70,9 +86,11 @@ read-spec =
     returns
     is-good-requires
     returns-2
+    is-good-client-requires
+    returns-3
     read-formula-requires
     enum-told-2
     enum-known-verdict
     faulty-requires
-    returns-3
-    returns-4)
+    returns-4
+    returns-5)

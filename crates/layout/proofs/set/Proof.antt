@@ -21,13 +21,13 @@ enum-known-reading-2 c = search needs
 
 returns : tie.Need-returns
 returns c =
-    let start = c .before .before .before .before .before .before .before in
-    refused-is _ _ _ _ (rw (c .before .reading2 .given .1) at (c .before .before .before .read .ensures)) (start .args .nodes .now)
+    let start = c .before .before .before .before .before .before .before .before in
+    refused-is _ _ _ _ _ (rw (c .before .reading2 .given .1) at (c .before .before .before .read .ensures)) (start .args .nodes .now)
 
 -- a formula that reads
 reads : (c : tie.After-reading) →
-    let a = c .before .before .before .before .before .before .args in
-    Reads (a .style) (a .table .now) (a .formula .now) (c .reading .given .0 .0)
+    let a = c .before .before .before .before .before .before .before .args in
+    Reads (a .style) (a .table .now) (a .client .now) (a .formula .now) (c .reading .given .0 .0)
 reads c = rw (c .reading .given .1) at (c .before .before .read .ensures)
 
 parameters-requires : tie.Need-parameters-requires
@@ -36,8 +36,8 @@ parameters-requires c κs = good-header _ (reads (c .before) .table-good)
 -- what both walks are lent
 given : (c : tie.After-p) →
     let reading = c .before .before .before in
-    let a = reading .before .before .before .before .before .before .args in
-    ListGiven (a .table .now) (c .before .parameters .result) (a .formula .now)
+    let a = reading .before .before .before .before .before .before .before .args in
+    ListGiven (a .table .now) (a .client .now) (c .before .parameters .result) (a .formula .now)
 given c = given-list _ (reads (c .before .before .before)) (c .before .parameters .ensures)
 
 examine-requires : tie.Need-examine-requires
@@ -49,19 +49,24 @@ enum-known-finding c = search needs
 -- a formula that is accepted
 boxes : (c : tie.After-finding) →
     let reading = c .before .before .before .before .before .before in
-    let a = reading .before .before .before .before .before .before .args in
-    Boxes (reading .reading .given .0 .0) (a .table .now) (a .formula .now) (c .finding .given .0 .0) (c .finding .given .0 .1 .0)
+    let a = reading .before .before .before .before .before .before .before .args in
+    Boxes (reading .reading .given .0 .0) (a .table .now) (a .client .now) (a .formula .now) (c .finding .given .0 .0) (c .finding .given .0 .1 .0)
 boxes c = rw (c .finding .given .1) at (c .before .before .examine .ensures)
 
 returns-2 : tie.Need-returns-2
 returns-2 c =
     let found = c .before .before in
     let reading = found .before .before .before .before .before .before in
-    let start = reading .before .before .before .before .before .before in
-    no-room-is _ _ _ _ (reads reading) _ _ (boxes found) (start .args .nodes .now) (omega arith)
+    let start = reading .before .before .before .before .before .before .before in
+    no-room-is _ _ _ _ _ (reads reading) _ _ (boxes found) (start .args .nodes .now) (omega arith)
 
+-- the bytes of the nodes are no more than those of the buffer, whose number is a `usize`
 mul-end : tie.Need-mul-end
-mul-end c = search needs
+mul-end c =
+    let reading = c .before .before .before .before .before .before .before .before in
+    let start = reading .before .before .before .before .before .before .before in
+    let buffer = start .good .1 .1 .1 .1 .0 in
+    omega (arith, buffer .0)
 
 slice-relend-prefix-set-list : tie.Need-slice-relend-prefix-set-list
 slice-relend-prefix-set-list c = search needs
@@ -83,19 +88,19 @@ returns-3 c =
     let l = c .before .before .set-list in
     let found = c .before .before .before .before .before .before .before in
     let reading = found .before .before .before .before .before .before in
-    let nodes = reading .before .before .before .before .before .before .args .nodes .now in
+    let nodes = reading .before .before .before .before .before .before .before .args .nodes .now in
     let g = reads reading in
     let h = boxes found in (
-      setting-is _ _ _ _ g _ _ h (length nodes) (omega arith),
-      written-is _ _ _ _ g _ _ h nodes _ (l .result) (omega arith) (l .ensures),
+      setting-is _ _ _ _ _ g _ _ h (length nodes) (omega arith),
+      written-is _ _ _ _ _ g _ _ h nodes _ (l .result) (omega arith) (l .ensures),
     )
 
 returns-4 : tie.Need-returns-4
 returns-4 c =
     let reading = c .before .before .before .before .before .before .before in
-    let start = reading .before .before .before .before .before .before in
+    let start = reading .before .before .before .before .before .before .before in
     let refusal = rw (c .before .finding2 .given .1) at (c .before .before .before .examine .ensures) in
-    refused-is _ _ _ _ (refused-later _ _ _ _ (reads reading) _ refusal) (start .args .nodes .now)
+    refused-is _ _ _ _ _ (refused-later _ _ _ _ _ (reads reading) _ refusal) (start .args .nodes .now)
 
 pub set-spec : {M : Type 1} → statement M
 set-spec =

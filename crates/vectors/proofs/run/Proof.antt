@@ -1,4 +1,4 @@
--- The loop goes from case to case; the table's part and the place stay within the cases.
+-- The loop goes from case to case; the parts of the two tables and the place stay within the cases.
 use Prim.Native.Nat.{_≤_, _-_}
 use native.Mathlib.Omega.{arith}
 use lib.ListN.{length}
@@ -6,10 +6,11 @@ use Rattle.vectors.proofs.run.Statement.{statement}
 use Rattle.vectors.proofs.run.Tie as tie
 
 abbrev Inv-loop : tie.InvT-loop
-Inv-loop cases table₀ table-end₀ at₀ table table-end at = (at ≤ length cases) × (table ≤ table-end) × (table-end ≤ length cases)
+Inv-loop cases table₀ table-end₀ client₀ client-end₀ at₀ table table-end client client-end at =
+    (at ≤ length cases) × (table ≤ table-end) × (table-end ≤ length cases) × (client ≤ client-end) × (client-end ≤ length cases)
 
 abbrev μ-loop : tie.MeasureT-loop
-μ-loop cases table₀ table-end₀ at₀ table table-end at = length cases - at
+μ-loop cases table₀ table-end₀ client₀ client-end₀ at₀ table table-end client client-end at = length cases - at
 
 loop-holds : tie.Need-loop-holds Inv-loop μ-loop
 loop-holds c = omega arith
@@ -53,6 +54,9 @@ add-end c = omega arith
 shared-slice-read-if3 : tie.Need-shared-slice-read-if3 Inv-loop μ-loop
 shared-slice-read-if3 c = omega arith
 
+shared-slice-read-if4 : tie.Need-shared-slice-read-if4 Inv-loop μ-loop
+shared-slice-read-if4 c = omega arith
+
 add-show : tie.Need-add-show Inv-loop μ-loop
 add-show c = omega arith
 
@@ -77,6 +81,15 @@ part-show-start-2 c = omega arith
 part-show-end-2 : tie.Need-part-show-end-2 Inv-loop μ-loop
 part-show-end-2 c = omega arith
 
+sub-show-3 : tie.Need-sub-show-3 Inv-loop μ-loop
+sub-show-3 c = omega arith
+
+part-show-start-3 : tie.Need-part-show-start-3 Inv-loop μ-loop
+part-show-start-3 c = omega arith
+
+part-show-end-3 : tie.Need-part-show-end-3 Inv-loop μ-loop
+part-show-end-3 c = omega arith
+
 show-requires : tie.Need-show-requires Inv-loop μ-loop
 show-requires c κs = tt
 
@@ -91,6 +104,12 @@ loop-less-2 c = omega arith
 
 loop-again-2 : tie.Need-loop-again-2 Inv-loop μ-loop
 loop-again-2 c = omega arith
+
+loop-less-3 : tie.Need-loop-less-3 Inv-loop μ-loop
+loop-less-3 c = omega arith
+
+loop-again-3 : tie.Need-loop-again-3 Inv-loop μ-loop
+loop-again-3 c = omega arith
 
 returns-3 : tie.Need-returns-3 Inv-loop μ-loop
 returns-3 c = tt
@@ -115,6 +134,7 @@ run-spec =
     returns-2
     add-end
     shared-slice-read-if3
+    shared-slice-read-if4
     add-show
     shared-slice-read-show
     sub-show
@@ -123,9 +143,14 @@ run-spec =
     sub-show-2
     part-show-start-2
     part-show-end-2
+    sub-show-3
+    part-show-start-3
+    part-show-end-3
     show-requires
     loop-less
     loop-again
     loop-less-2
     loop-again-2
+    loop-less-3
+    loop-again-3
     returns-3)

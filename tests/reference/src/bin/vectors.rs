@@ -1,7 +1,8 @@
 //! Runs a file of cases and prints what the thin program prints for each.
 //!
 //! The file has parts: `T`, a four-byte length and a table, which holds from
-//! there on; or `F`, a style byte, a two-byte length and a formula.
+//! there on; `C`, the same of a client's table, which is empty at first; or
+//! `F`, a style byte, a two-byte length and a formula.
 
 use reference::{measure, printed, set, NODE_BYTES};
 use std::io::{self, BufWriter, Write};
@@ -23,19 +24,17 @@ fn main() -> ExitCode {
 
 fn run(mut cases: &[u8]) -> io::Result<()> {
     let mut out = BufWriter::new(io::stdout().lock());
-    let mut table: &[u8] = &[];
+    let (mut table, mut client): (&[u8], &[u8]) = (&[], &[]);
     while let Some((&mark, rest)) = cases.split_first() {
         cases = rest;
         match mark {
-            b'T' => {
-                let length = u32::from_le_bytes(take(&mut cases)?);
-                table = take_slice(&mut cases, length as usize)?;
-            }
+            b'T' => table = take_table(&mut cases)?,
+            b'C' => client = take_table(&mut cases)?,
             b'F' => {
                 let [style] = take(&mut cases)?;
                 let length = u16::from_le_bytes(take(&mut cases)?);
                 let formula = take_slice(&mut cases, usize::from(length))?;
-                out.write_all(outcome(style, table, formula).as_bytes())?;
+                out.write_all(outcome(style, table, client, formula).as_bytes())?;
             }
             _ => return Err(malformed()),
         }
@@ -43,11 +42,16 @@ fn run(mut cases: &[u8]) -> io::Result<()> {
     out.flush()
 }
 
-fn outcome(style: u8, table: &[u8], formula: &[u8]) -> String {
-    let count = measure(style, table, formula).count as usize;
+fn outcome(style: u8, table: &[u8], client: &[u8], formula: &[u8]) -> String {
+    let count = measure(style, table, client, formula).count as usize;
     let mut nodes = vec![0; NODE_BYTES * count];
-    let answer = set(style, table, formula, &mut nodes);
+    let answer = set(style, table, client, formula, &mut nodes);
     printed(&answer, &nodes)
+}
+
+fn take_table<'a>(cases: &mut &'a [u8]) -> io::Result<&'a [u8]> {
+    let length = u32::from_le_bytes(take(cases)?);
+    take_slice(cases, length as usize)
 }
 
 fn take<const N: usize>(cases: &mut &[u8]) -> io::Result<[u8; N]> {

@@ -2,11 +2,11 @@
 
 use super::{good_table, Random};
 use crate::compose::{CharacterParts, TableParts};
-use crate::table::ROWS;
+use crate::parameters::ROWS;
 use crate::{CHAIN_LIMIT, CHARACTER_LIMIT, WORD_LIMIT};
 
 /// Symbols in a chain that goes as far as it may.
-const LONGEST: usize = CHAIN_LIMIT as usize + 1;
+pub const LONGEST: usize = CHAIN_LIMIT as usize + 1;
 
 /// Families that `good_table` leaves free.
 const FAMILIES: [u8; 10] = [1, 2, 4, 5, 7, 8, 10, 11, 13, 14];
@@ -38,10 +38,14 @@ pub fn chain_table(random: &mut Random) -> TableParts {
     }
     table.characters.truncate(CHARACTER_LIMIT - chains.len());
     table.characters.extend(chains);
-    let key = |c: &CharacterParts| (c.size, c.family, c.code);
-    table.characters.sort_by_key(key);
-    table.characters.dedup_by_key(|c| key(c));
+    in_order(&mut table.characters);
     table
+}
+
+/// Puts characters in order; of those for one symbol the first stays.
+pub fn in_order(characters: &mut Vec<CharacterParts>) {
+    characters.sort_by_key(CharacterParts::key);
+    characters.dedup_by_key(|c| c.key());
 }
 
 /// How a chain ends.

@@ -2,7 +2,7 @@
 
 use super::Random;
 use crate::compose::{CharacterParts, TableParts};
-use crate::table::RECORD_BYTES;
+use crate::records::RECORD_BYTES;
 use crate::{CHARACTER_LIMIT, WORD_LIMIT};
 
 /// Flips, cuts, inserts, doubles or swaps a few bytes.
@@ -88,7 +88,11 @@ pub fn damaged_table(mut parts: TableParts, random: &mut Random) -> Vec<u8> {
             close_ring(&mut parts.characters, random);
             parts.bytes()
         }
-        _ => with_bad_record(&parts, random),
+        _ => {
+            let mut bytes = parts.bytes();
+            spoil_record(&mut bytes, parts.characters.len(), random);
+            bytes
+        }
     }
 }
 
@@ -98,19 +102,22 @@ fn large_word(random: &mut Random) -> u32 {
 
 /// As many characters as a table may have, or one more.
 fn overfill(parts: &mut TableParts, random: &mut Random) {
-    let count = CHARACTER_LIMIT + random.below(2);
-    parts.characters = (0..count)
-        .map(|index| CharacterParts {
-            size: 0,
-            family: (index >> 8) as u8,
-            code: index as u8,
-            successor: None,
-            measures: [0; 4],
-        })
-        .collect();
+    parts.characters = some_characters(CHARACTER_LIMIT + random.below(2));
 }
 
-fn disorder(characters: &mut Vec<CharacterParts>, random: &mut Random) {
+/// So many characters without successors.
+pub fn some_characters(count: usize) -> Vec<CharacterParts> {
+    let character = |index: usize| CharacterParts {
+        size: 0,
+        family: (index >> 8) as u8,
+        code: index as u8,
+        successor: None,
+        measures: [0; 4],
+    };
+    (0..count).map(character).collect()
+}
+
+pub fn disorder(characters: &mut Vec<CharacterParts>, random: &mut Random) {
     let at = random.below(characters.len());
     if random.percent(50) {
         characters.insert(at, characters[at]);
@@ -122,23 +129,17 @@ fn disorder(characters: &mut Vec<CharacterParts>, random: &mut Random) {
 
 /// Lets a character and one of its family, which may be itself, succeed each
 /// other.
-fn close_ring(characters: &mut [CharacterParts], random: &mut Random) {
+pub fn close_ring(characters: &mut [CharacterParts], random: &mut Random) {
     let first = random.below(characters.len());
-    let CharacterParts {
-        size, family, code, ..
-    } = characters[first];
-    let is_akin = |at: &usize| (characters[*at].size, characters[*at].family) == (size, family);
+    let is_akin = |at: &usize| characters[*at].is_akin_to(&characters[first]);
     let akin: Vec<usize> = (0..characters.len()).filter(is_akin).collect();
     let second = *random.pick(&akin);
     characters[first].successor = Some(characters[second].code);
-    characters[second].successor = Some(code);
+    characters[second].successor = Some(characters[first].code);
 }
 
-/// One byte of one record is set past its rule.
-fn with_bad_record(parts: &TableParts, random: &mut Random) -> Vec<u8> {
-    let mut bytes = parts.bytes();
-    let records = bytes.len() - RECORD_BYTES * parts.characters.len();
-    let record = records + RECORD_BYTES * random.below(parts.characters.len());
+/// One byte of one of so many records, the last bytes, is set past its rule.
+pub fn spoil_record(bytes: &mut [u8], records: usize, random: &mut Random) {
     let (offset, value) = *random.pick(&[
         (0, b'P'),
         (1, b'A'),
@@ -153,6 +154,13 @@ fn with_bad_record(parts: &TableParts, random: &mut Random) -> Vec<u8> {
         (21, 0x80),
         (22, 0x80),
     ]);
-    bytes[record + offset] = value;
-    bytes
+    // Only the last record rises with such a size or family.
+    let is_last = (2..4).contains(&offset) && random.percent(70);
+    let from_end = if is_last {
+        1
+    } else {
+        1 + random.below(records)
+    };
+    let start = bytes.len() - RECORD_BYTES * from_end;
+    bytes[start + offset] = value;
 }

@@ -8,8 +8,8 @@ use crate::compose::{
     atom, choice, fraction, kern, list, overline, root, style, symbol, underline, CharacterParts,
     TableParts, EMPTY,
 };
+use crate::parameters::{PARAMETERS, ROWS};
 use crate::reading::KERN_LIMIT;
-use crate::table::{PARAMETERS, ROWS};
 use crate::{DEPTH_LIMIT, FORMULA_LIMIT, SIZE_LIMIT};
 
 /// Grows formulas over some symbols.
@@ -61,6 +61,7 @@ impl<'a> Grower<'a> {
                 let (numerator, denominator) = (self.field(depth, share), self.field(depth, share));
                 fraction(bar, &numerator, &denominator)
             }
+            6 => self.operator(),
             20 | 21 => style(self.random.below(8) as u8),
             22 | 23 if depth > 1 => choice_of(&std::array::from_fn(|_| self.list(depth, share))),
             24 | 25 if depth > 1 => self.fence(depth, share),
@@ -135,6 +136,17 @@ impl<'a> Grower<'a> {
         }
     }
 
+    /// An operator, of a symbol that is enlarged in display if there is one.
+    pub(super) fn operator(&mut self) -> Vec<u8> {
+        let [nucleus, superscript, subscript] = self.fields(1, 0);
+        let nucleus = match self.symbols.enlarged(self.random) {
+            Some((family, code)) if self.random.percent(70) => symbol(family, code),
+            _ => nucleus,
+        };
+        let limits = self.random.below(3) as u8;
+        atom(1, limits, [&nucleus, &superscript, &subscript])
+    }
+
     /// An item that sets nothing.
     fn empty_item(&mut self) -> Vec<u8> {
         match self.random.below(4) {
@@ -154,6 +166,19 @@ impl<'a> Grower<'a> {
         };
         self.random.between((-greatest).into(), greatest.into()) as i32
     }
+}
+
+/// A formula of operators, mostly in display.
+pub fn operator_formula(grower: &mut Grower) -> Vec<u8> {
+    let mut items = style(grower.random.below(2) as u8);
+    for _ in 0..grower.random.below(5) + 1 {
+        items.extend(match grower.random.below(6) {
+            0 => grower.item(2, 40),
+            1 => style(grower.random.below(3) as u8),
+            _ => grower.operator(),
+        });
+    }
+    items
 }
 
 /// An item or two with the given list in them.
@@ -322,7 +347,7 @@ pub fn kerns(sum: i64) -> Vec<u8> {
 
 /// A table and a formula whose lines, one over the other, come near the size
 /// limit upwards or downwards.
-pub fn tall_case(random: &mut Random) -> (Vec<u8>, Vec<u8>) {
+pub fn tall_case(random: &mut Random) -> (TableParts, Vec<u8>) {
     let nucleus_lines = random.between(13, DEPTH_LIMIT as i64);
     let script_lines = random.between(13, DEPTH_LIMIT as i64 - 1);
     let thickness = (reach(random) / (5 * (nucleus_lines + script_lines))) as u32;
@@ -337,12 +362,12 @@ pub fn tall_case(random: &mut Random) -> (Vec<u8>, Vec<u8>) {
     } else {
         underline([&nucleus, EMPTY, &script])
     };
-    (table.bytes(), formula)
+    (table, formula)
 }
 
 /// The same upwards, with roots for some of the lines. Outside of display a
 /// root whose sign has no height goes up by five quarters of a line's thickness.
-pub fn tall_roots(random: &mut Random) -> (Vec<u8>, Vec<u8>) {
+pub fn tall_roots(random: &mut Random) -> (TableParts, Vec<u8>) {
     let deepest = DEPTH_LIMIT as i64 - 1;
     let roots = random.between(1, 4);
     let lines_in_all = 2 * deepest - roots;
@@ -356,7 +381,7 @@ pub fn tall_roots(random: &mut Random) -> (Vec<u8>, Vec<u8>) {
     });
     let nucleus = lines(true, deepest - roots, &rooted);
     let script = lines(true, deepest, &letter);
-    (table.bytes(), atom(0, 0, [&nucleus, &script, EMPTY]))
+    (table, atom(0, 0, [&nucleus, &script, EMPTY]))
 }
 
 /// A length near the size limit.

@@ -2,7 +2,7 @@
 
 use super::Random;
 use crate::compose::{atom, fence, list, symbol, CharacterParts, TableParts, EMPTY};
-use crate::table::{PARAMETERS, ROWS};
+use crate::parameters::{PARAMETERS, ROWS};
 use crate::WORD_LIMIT;
 
 const AXIS_HEIGHT: usize = 21;
@@ -12,7 +12,7 @@ const SIDE: (u8, u8) = (4, 1);
 
 /// A table and a formula: a fence around a letter that goes some way from the
 /// axis, and symbols of about the height that is asked for.
-pub fn graded_case(random: &mut Random) -> (Vec<u8>, Vec<u8>) {
+pub fn graded_case(random: &mut Random) -> (TableParts, Vec<u8>) {
     let greatest = *random.pick(&[3000, 100_000, 1_700_000, 7_000_000]);
     let reach = match random.below(4) {
         0 => random.between(1_650_000, 1_660_000),
@@ -34,10 +34,7 @@ pub fn graded_case(random: &mut Random) -> (Vec<u8>, Vec<u8>) {
         }
     }
     let rows = [row; ROWS];
-    (
-        TableParts { rows, characters }.bytes(),
-        graded_fence(random),
-    )
+    (TableParts { rows, characters }, graded_fence(random))
 }
 
 fn character(

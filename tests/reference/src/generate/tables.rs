@@ -2,7 +2,7 @@
 
 use super::Random;
 use crate::compose::{CharacterParts, TableParts};
-use crate::table::{PARAMETERS, ROWS};
+use crate::parameters::{PARAMETERS, ROWS};
 use crate::{CHAIN_LIMIT, CHARACTER_LIMIT, WORD_LIMIT};
 use std::collections::{BTreeMap, BTreeSet};
 
@@ -16,7 +16,7 @@ pub fn good_table(random: &mut Random) -> TableParts {
 
 /// How large a table's words are.
 #[derive(Clone, Copy)]
-enum Scale {
+pub enum Scale {
     Zero,
     Tiny,
     Small,
@@ -26,7 +26,7 @@ enum Scale {
 }
 
 impl Scale {
-    fn drawn(random: &mut Random) -> Scale {
+    pub fn drawn(random: &mut Random) -> Scale {
         *random.weighted(&[
             (Scale::Zero, 3),
             (Scale::Tiny, 10),
@@ -37,7 +37,7 @@ impl Scale {
         ])
     }
 
-    fn word(self, random: &mut Random) -> u32 {
+    pub fn word(self, random: &mut Random) -> u32 {
         let greatest = match self {
             Scale::Zero => 0,
             Scale::Tiny => 5,
@@ -108,9 +108,7 @@ fn symbol_set(random: &mut Random) -> BTreeSet<(u8, u8)> {
 /// Gives some characters successors; no chain gets too long.
 fn link(characters: &mut [CharacterParts], random: &mut Random) {
     let flagged = *random.pick(&[0, 20, 70, 70, 100]);
-    let are_of_one_family =
-        |a: &CharacterParts, b: &CharacterParts| (a.size, a.family) == (b.size, b.family);
-    for family in characters.chunk_by_mut(are_of_one_family) {
+    for family in characters.chunk_by_mut(|a, b| a.is_akin_to(b)) {
         link_family(family, flagged, random);
     }
 }
@@ -143,12 +141,14 @@ fn absent_code(family: &[CharacterParts], random: &mut Random) -> Option<u8> {
     is_absent.then_some(code)
 }
 
-/// The families and codes of a table.
+/// The families and codes of both tables, as a lookup finds them.
 #[derive(Clone, Debug)]
 pub struct Symbols {
     known: Vec<(u8, u8)>,
     /// Those that a formula can use in every style without a refusal.
     usable: Vec<(u8, u8)>,
+    /// Those of them that are enlarged in display as an operator.
+    enlarged: Vec<(u8, u8)>,
     /// Those that have a successor at one size at least.
     linked: Vec<(u8, u8)>,
     /// Those of them that are no successor.
@@ -156,38 +156,46 @@ pub struct Symbols {
 }
 
 impl Symbols {
-    pub fn of(table: &TableParts) -> Symbols {
-        let successors: BTreeMap<(u8, u8, u8), Option<u8>> = table
-            .characters
-            .iter()
-            .map(|c| ((c.size, c.family, c.code), c.successor))
-            .collect();
+    /// Those of the client hide ours.
+    pub fn of(ours: &[CharacterParts], client: &[CharacterParts]) -> Symbols {
+        let characters = ours.iter().chain(client);
+        let successors: BTreeMap<(u8, u8, u8), Option<u8>> =
+            characters.map(|c| (c.key(), c.successor)).collect();
         let is_usable = |&(family, code): &(u8, u8)| {
             let in_all = (0..ROWS as u8).all(|size| successors.contains_key(&(size, family, code)));
             let enlarged = successors.get(&(0, family, code)).copied().flatten();
             in_all && enlarged.is_none_or(|code| successors.contains_key(&(0, family, code)))
         };
+        let is_enlarged = |(family, code): &(u8, u8)| successors[&(0, *family, *code)].is_some();
         let known: BTreeSet<(u8, u8)> = successors
             .keys()
             .map(|(_, family, code)| (*family, *code))
             .collect();
-        let leads = |c: &CharacterParts| Some(((c.family, c.code), (c.family, c.successor?)));
-        let (linked, next): (BTreeSet<_>, BTreeSet<_>) =
-            table.characters.iter().filter_map(leads).unzip();
+        let (linked, next): (BTreeSet<_>, BTreeSet<_>) = successors
+            .iter()
+            .filter_map(|((_, family, code), next)| Some(((*family, *code), (*family, (*next)?))))
+            .unzip();
+        let usable: Vec<(u8, u8)> = known.iter().copied().filter(is_usable).collect();
         Symbols {
-            usable: known.iter().copied().filter(is_usable).collect(),
+            enlarged: usable.iter().copied().filter(is_enlarged).collect(),
+            usable,
             known: known.into_iter().collect(),
             heads: linked.difference(&next).copied().collect(),
             linked: linked.into_iter().collect(),
         }
     }
 
-    /// None if the table has no usable symbol.
+    /// None if there is no usable symbol.
     pub fn usable(&self, random: &mut Random) -> Option<(u8, u8)> {
         drawn(&self.usable, random)
     }
 
-    /// A symbol that the table has at one size at least; none if it has none.
+    /// None if there is no usable symbol that is enlarged.
+    pub fn enlarged(&self, random: &mut Random) -> Option<(u8, u8)> {
+        drawn(&self.enlarged, random)
+    }
+
+    /// A symbol that is there at one size at least; none if there is none.
     pub fn known(&self, random: &mut Random) -> Option<(u8, u8)> {
         drawn(&self.known, random)
     }

@@ -4,14 +4,15 @@ use crate::boxes::MathBox;
 use crate::layout::Layout;
 use crate::nodes::{Ink, Pen};
 use crate::reading::Delimiter;
+use crate::records::Character;
 use crate::style::Style;
-use crate::table::{Character, Table};
+use crate::tables::Tables;
 use std::iter::successors;
 
 /// The width of a delimiter of which no symbol was found.
 pub const NULL_DELIMITER: i64 = 78_643;
 
-/// A symbol of the table at the size it was looked at.
+/// A symbol of the tables at the size it was looked at.
 #[derive(Clone, Copy)]
 pub struct Found {
     size: u8,
@@ -21,17 +22,17 @@ pub struct Found {
 }
 
 impl Found {
-    fn look(table: &Table, size: u8, family: u8, code: u8) -> Option<Found> {
+    fn look(tables: &Tables, size: u8, family: u8, code: u8) -> Option<Found> {
         Some(Found {
             size,
             family,
             code,
-            character: table.character(size, family, code)?,
+            character: tables.character(size, family, code)?,
         })
     }
 
-    fn successor(&self, table: &Table) -> Option<Found> {
-        Found::look(table, self.size, self.family, self.character.successor?)
+    fn successor(&self, tables: &Tables) -> Option<Found> {
+        Found::look(tables, self.size, self.family, self.character.successor?)
     }
 
     fn total(&self) -> i64 {
@@ -52,7 +53,7 @@ impl<P: Pen> Layout<'_, P> {
     /// is none the tallest, the first of equals.
     pub fn search(&self, delimiter: &Delimiter, style: Style, least: i64) -> Option<Found> {
         let mut tallest: Option<Found> = None;
-        for found in candidates(self.table, delimiter, style) {
+        for found in candidates(self.tables, delimiter, style) {
             if found.total() >= least {
                 return Some(found);
             }
@@ -65,14 +66,14 @@ impl<P: Pen> Layout<'_, P> {
 
     /// Whether a search, however much it asks for, ends with a symbol.
     pub fn has_symbol(&self, delimiter: &Delimiter, style: Style) -> bool {
-        candidates(self.table, delimiter, style).next().is_some()
+        candidates(self.tables, delimiter, style).next().is_some()
     }
 }
 
 /// The small symbol in each size from the current one up, then the large one;
-/// each with its successors, as far as the table has them.
+/// each with its successors, as far as the tables have them.
 fn candidates<'a>(
-    table: &'a Table,
+    tables: &'a Tables,
     delimiter: &Delimiter,
     style: Style,
 ) -> impl Iterator<Item = Found> + 'a {
@@ -80,8 +81,8 @@ fn candidates<'a>(
     symbols.flat_map(move |(family, code)| {
         let sizes = (0..=style.size()).rev();
         sizes.flat_map(move |size| {
-            let first = Found::look(table, size, family, code);
-            successors(first, |found| found.successor(table))
+            let first = Found::look(tables, size, family, code);
+            successors(first, |found| found.successor(tables))
         })
     })
 }

@@ -23,7 +23,7 @@ impl<P: Pen> Layout<'_, P> {
             self.pen.push(Node::UNPLACED);
         }
         let inner = self.fenced_list(list, style)?;
-        let axis_height = self.table.parameters(style.size()).axis_height();
+        let axis_height = self.tables.parameters(style.size()).axis_height();
         let least = least_total(&inner, axis_height);
         let left = Side::centred(self.search(&sides.left, style, least), axis_height);
         let right = Side::centred(self.search(&sides.right, style, least), axis_height);

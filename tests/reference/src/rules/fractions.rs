@@ -5,9 +5,9 @@ use crate::answer::Refusal;
 use crate::boxes::{half, Extent, MathBox};
 use crate::layout::Layout;
 use crate::nodes::{Ink, Node, Pen};
+use crate::parameters::Parameters;
 use crate::reading::Field;
 use crate::style::Style;
-use crate::table::Parameters;
 
 /// How far the numerator goes up and the denominator goes down.
 struct Shifts {
@@ -23,7 +23,7 @@ impl<P: Pen> Layout<'_, P> {
         denominator: &Field,
         style: Style,
     ) -> Result<MathBox, Refusal> {
-        let font = self.table.parameters(style.size());
+        let font = self.tables.parameters(style.size());
         let thickness = if barred { font.rule_thickness() } else { 0 };
         let start = self.pen.count();
 

@@ -15,7 +15,7 @@ impl<P: Pen> Layout<'_, P> {
         scripts: &Scripts,
         style: Style,
     ) -> Result<MathBox, Refusal> {
-        let font = self.table.parameters(style.size());
+        let font = self.tables.parameters(style.size());
         let nucleus_box = nucleus.frame;
         let upper = self.field(&scripts.superscript, style.superscript())?;
         let lower = self.field(&scripts.subscript, style.subscript())?;

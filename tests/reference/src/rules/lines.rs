@@ -10,7 +10,7 @@ use crate::style::Style;
 
 impl<P: Pen> Layout<'_, P> {
     pub fn lined(&mut self, line: Line, nucleus: &Field, style: Style) -> Result<Nucleus, Refusal> {
-        let thickness = self.table.parameters(style.size()).rule_thickness();
+        let thickness = self.tables.parameters(style.size()).rule_thickness();
         let start = self.pen.count();
         let (mut frame, bottom) = match line {
             // Rule 9.

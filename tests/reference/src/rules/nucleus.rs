@@ -6,8 +6,8 @@ use crate::boxes::{half, MathBox};
 use crate::layout::Layout;
 use crate::nodes::Pen;
 use crate::reading::{Class, Field, Limits, Scripts, Symbol};
+use crate::records::Character;
 use crate::style::Style;
-use crate::table::Character;
 
 impl<P: Pen> Layout<'_, P> {
     pub fn atom(
@@ -68,7 +68,7 @@ impl<P: Pen> Layout<'_, P> {
     ) -> Result<Nucleus, Refusal> {
         let (symbol, character) = self.enlarged(symbol, style)?;
         let mut frame = self.glyph(&symbol, style, &character);
-        let axis_height = self.table.parameters(style.size()).axis_height();
+        let axis_height = self.tables.parameters(style.size()).axis_height();
         let drop = half(frame.height - frame.depth) - axis_height;
         frame.extent = self.place(&frame, 0, -drop);
         frame.height = (frame.height - drop).max(0);

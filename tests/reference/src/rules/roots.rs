@@ -54,7 +54,7 @@ impl<P: Pen> Layout<'_, P> {
         inner: &MathBox,
         style: Style,
     ) -> (Option<Found>, i64) {
-        let font = self.table.parameters(style.size());
+        let font = self.tables.parameters(style.size());
         let thickness = font.rule_thickness();
         let phi = if style.is_display() {
             font.x_height()

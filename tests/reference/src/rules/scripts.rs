@@ -5,9 +5,9 @@ use crate::answer::Refusal;
 use crate::boxes::MathBox;
 use crate::layout::Layout;
 use crate::nodes::Pen;
+use crate::parameters::Parameters;
 use crate::reading::{Field, Scripts};
 use crate::style::Style;
-use crate::table::Parameters;
 
 /// The blank after each script, half a point.
 const SCRIPT_SPACE: i64 = 32_768;
@@ -26,7 +26,7 @@ impl<P: Pen> Layout<'_, P> {
         scripts: &Scripts,
         style: Style,
     ) -> Result<MathBox, Refusal> {
-        let font = self.table.parameters(style.size());
+        let font = self.tables.parameters(style.size());
         let least = self.least_shifts(&nucleus, style);
         let end = nucleus.frame.width;
         let superscript = self.script(&scripts.superscript, style.superscript())?;
@@ -64,7 +64,7 @@ impl<P: Pen> Layout<'_, P> {
         if nucleus.is_plain {
             return Shifts { up: 0, down: 0 };
         }
-        let font = self.table.parameters(style.superscript().size());
+        let font = self.tables.parameters(style.superscript().size());
         Shifts {
             up: nucleus.frame.height - font.sup_drop(),
             down: nucleus.frame.depth + font.sub_drop(),

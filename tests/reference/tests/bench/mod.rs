@@ -91,7 +91,7 @@ pub fn character(
 pub fn table_with(further: &[CharacterParts]) -> Vec<u8> {
     let mut parts = bench_parts();
     parts.characters.extend(further);
-    parts.characters.sort_by_key(|c| (c.size, c.family, c.code));
+    parts.characters.sort_by_key(CharacterParts::key);
     parts.bytes()
 }
 
@@ -116,9 +116,13 @@ pub fn outcome(style: u8, formula: &[u8]) -> Outcome {
 }
 
 pub fn outcome_over(table: &[u8], style: u8, formula: &[u8]) -> Outcome {
-    let measured = measure(style, table, formula);
+    outcome_with(table, &[], style, formula)
+}
+
+pub fn outcome_with(table: &[u8], client: &[u8], style: u8, formula: &[u8]) -> Outcome {
+    let measured = measure(style, table, client, formula);
     let mut bytes = vec![0; NODE_BYTES * measured.count as usize];
-    let answer = set(style, table, formula, &mut bytes);
+    let answer = set(style, table, client, formula, &mut bytes);
     assert_eq!(answer, measured);
     assert_eq!(answer.number, 0);
     Outcome {
@@ -128,7 +132,7 @@ pub fn outcome_over(table: &[u8], style: u8, formula: &[u8]) -> Outcome {
 }
 
 pub fn refusal(style: u8, formula: &[u8]) -> (u8, u64) {
-    let answer = measure(style, &bench_table(), formula);
+    let answer = measure(style, &bench_table(), &[], formula);
     let Answer { number, place, .. } = answer;
     assert_eq!(
         answer,

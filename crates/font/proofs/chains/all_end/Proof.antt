@@ -1,53 +1,59 @@
 -- `all_end` tests the chain of every record: the invariant is `Passing` of that test.
 -- Assumes nothing.
-use mathlib.Core.Path.{refl, sym, ap}
+use mathlib.Core.Path.{refl, sym, ap, _∙_}
 use mathlib.Core.Bool.{Bool, _&&_}
 use mathlib.Core.List.{List}
-use Prim.Native.Nat.{ℕ, _+_, _*_, _-_, _≤_}
+use Prim.Native.Nat.{ℕ, _+_, _*_, _-_, _<_, _≤_}
 use native.Mathlib.Nat.{sub-zero}
 use native.Mathlib.Omega.{arith}
 use lib.ListN.{length, drop}
-use Rattle.font.specs.Records.{headerBytes, characterBytes, pieces, characterRecords, every}
-use Rattle.font.specs.Font.{fontOf}
-use Rattle.font.specs.FontLaws.{whole-records, few-records}
-use Rattle.font.specs.Chains.{chainEnds}
-use Rattle.font.proofs.WordLaws.{Passing, again, finished}
+use Rattle.font.specs.Records.{characterBytes, pieces, clientRecords, clientCount, every}
+use Rattle.font.specs.Font.{Font, fontWith}
+use Rattle.font.specs.Table.{seenEnds}
+use Rattle.font.proofs.WordLaws.{part-of, Passing, again, finished}
+use Rattle.font.proofs.HalvingLaws.{count, counted, few, recorded, record-at}
 use Rattle.font.proofs.chains.all_end.Statement.{statement}
 use Rattle.font.proofs.chains.all_end.Tie as tie
 
 -- each of some records, one after the other
-abbrev ending : List ℕ → ℕ → List ℕ → Bool
-ending t n s = every (chainEnds (fontOf t)) (pieces characterBytes n s)
+abbrev ending : Font → ℕ → List ℕ → Bool
+ending F n s = every (seenEnds F) (pieces characterBytes n s)
 
 abbrev Inv-loop : tie.InvT-loop
-Inv-loop table n good₀ i₀ good i =
-    Passing (ending table) (every (chainEnds (fontOf table)) (characterRecords table)) n table (headerBytes + characterBytes * i) i good
+Inv-loop table client s n good₀ i₀ good i =
+    Passing (ending (fontWith table client)) (every (seenEnds (fontWith table client)) (clientRecords s)) n s (characterBytes * i) i good
 
 abbrev μ-loop : tie.MeasureT-loop
-μ-loop table n good₀ i₀ good i = n - i
+μ-loop table client s n good₀ i₀ good i = n - i
 
--- in a turn of the loop the record lies in the table
+-- in a turn of the loop the record lies among the others
 room : (c : tie.In-loop Inv-loop μ-loop) →
-    let a = c .before .before .before .args in
-    headerBytes + characterBytes * c .before .loop .i + characterBytes ≤ length (a .table .now)
+    let a = c .before .before .before .before .before .args in
+    characterBytes * c .before .loop .i + characterBytes ≤ length (a .s .now)
 room c =
-    let start = c .before .before .before in
-    omega (arith, whole-records (start .args .table .now) (start .pre .0), start .pre .1)
+    let start = c .before .before .before .before .before in
+    omega (arith, counted (start .args .s .now) (start .pre .1), c .loop-test .taken)
 
 loop-holds : tie.Need-loop-holds Inv-loop μ-loop
-unfolding characterRecords
-loop-holds c = record { passed = omega arith; rest = rw (sub-zero (c .before .args .n), c .before .pre .1) }
+unfolding clientRecords clientCount
+loop-holds c = record { passed = omega arith; rest = rw sub-zero }
 
 mul-at : tie.Need-mul-at Inv-loop μ-loop
 mul-at c = omega (arith, room c)
 
-add-at : tie.Need-add-at Inv-loop μ-loop
-add-at c = omega (arith, room c)
-
 ends-requires : tie.Need-ends-requires Inv-loop μ-loop
 ends-requires c κs =
-    let start = c .before .before .before in
-    (start .pre .0, room c, omega (arith, few-records (start .args .table .now) (start .pre .0), start .pre .1, c .loop-test .taken))
+    let turn = c .before in
+    let i = turn .before .loop .i in
+    let start = turn .before .before .before .before .before in
+    let s = start .args .s .now in
+    let inside : i < count s = omega (arith, turn .loop-test .taken) in
+    let is = part-of (characterBytes * i) characterBytes s ∙ sym (record-at s i inside) in (
+      start .pre .0,
+      omega (arith, c .ends-arg .given .2),
+      omega (arith, few s (start .pre .1)),
+      rw is (start .pre .2 .each i (omega (arith, recorded s))),
+    )
 
 add-i : tie.Need-add-i Inv-loop μ-loop
 add-i c = omega arith
@@ -58,11 +64,13 @@ loop-less c = omega arith
 loop-again : tie.Need-loop-again Inv-loop μ-loop
 unfolding every pieces
 loop-again c =
-    let l = c .before .before .loop in
-    let t = c .before .before .before .before .args .table .now in
-    let rest = drop characterBytes (drop (headerBytes + characterBytes * l .i) t) in
-    again (l .inv) (ending t) characterBytes (c .ends .result) (omega arith) (omega arith)
-    (λ m left. ap (λ (ends : Bool). ends && ending t m rest) (sym (c .ends .ensures)))
+    let l = c .before .before .before .loop in
+    let a = c .before .before .before .before .before .before .before .args in
+    let F = fontWith (a .table .now) (a .client .now) in
+    let s = a .s .now in
+    let rest = drop characterBytes (drop (characterBytes * l .i) s) in
+    again (l .inv) (ending F) characterBytes (c .ends .result) (omega arith) (omega arith)
+    (λ m left. ap (λ (ends : Bool). ends && ending F m rest) (sym (c .ends .ensures ∙ ap (seenEnds F) (part-of (characterBytes * l .i) characterBytes s))))
 
 returns : tie.Need-returns Inv-loop μ-loop
 unfolding every pieces
@@ -71,14 +79,9 @@ returns c = sym (finished (c .before .loop .inv) (c .loop-test .left) (λ u. ref
 pub all-end-spec : {M : Type 1} → statement M
 all-end-spec =
     tie.close
-    (tie.spec
-    Inv-loop
-    μ-loop
-    loop-holds
-    mul-at
-    add-at
-    ends-requires
-    add-i
-    loop-less
-    loop-again
-    returns)
+    (tie.spec Inv-loop μ-loop loop-holds mul-at
+    (λ c. omega (arith, room c))
+    (λ c. omega (arith, room c))
+    (λ c. omega (arith, room c))
+    (λ c. omega (arith, room c))
+    ends-requires add-i loop-less loop-again returns)

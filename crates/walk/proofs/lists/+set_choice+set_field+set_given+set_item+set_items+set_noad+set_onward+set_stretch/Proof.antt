@@ -17,7 +17,7 @@ use borrow.Author.Needs.{needs}
 use borrow.Rule.Slice.PartMut.{putMid}
 use borrow.Fn.Kinds.{In}
 use borrow.Fn.PlainCycle.{Measures, is, falls, and}
-use Rattle.font.specs.Font.{fontOf}
+use Rattle.font.specs.Font.{fontWith}
 use Rattle.formula.specs.declared.FieldHead.{FieldHead}
 use Rattle.formula.specs.declared.FieldHead.the-variants.{Sublist}
 use Rattle.formula.specs.declared.Opening.{Opening}
@@ -107,28 +107,28 @@ use Rattle.walk.proofs.lists.+set_choice+set_field+set_given+set_item+s
 use Rattle.walk.proofs.lists.+set_choice+set_field+set_given+set_item+set_items+set_noad+set_onward+set_stretch.Tie.{close}
 
 abbrev μ-set-choice : Measures 4 set-choice-kinds.ps ℕ
-μ-set-choice κs a = 8 * length (a .1 .1 .1 .0 .now) + 2
+μ-set-choice κs a = 8 * length (a .1 .1 .1 .1 .0 .now) + 2
 
 abbrev μ-set-field : Measures 4 set-field-kinds.ps ℕ
-μ-set-field κs a = 8 * length (a .1 .1 .1 .1 .0 .now) + 1
+μ-set-field κs a = 8 * length (a .1 .1 .1 .1 .1 .0 .now) + 1
 
 abbrev μ-set-given : Measures 4 set-given-kinds.ps ℕ
-μ-set-given κs a = 8 * length (a .1 .1 .1 .1 .0 .now)
+μ-set-given κs a = 8 * length (a .1 .1 .1 .1 .1 .0 .now)
 
 abbrev μ-set-item : Measures 4 set-item-kinds.ps ℕ
-μ-set-item κs a = 8 * length (a .1 .1 .1 .0 .now) + 3
+μ-set-item κs a = 8 * length (a .1 .1 .1 .1 .0 .now) + 3
 
 abbrev μ-set-items : Measures 4 set-items-kinds.ps ℕ
-μ-set-items κs a = 8 * length (a .1 .1 .1 .0 .now) + 6
+μ-set-items κs a = 8 * length (a .1 .1 .1 .1 .0 .now) + 6
 
 abbrev μ-set-noad : Measures 4 set-noad-kinds.ps ℕ
-μ-set-noad κs a = 8 * length (a .1 .1 .1 .1 .0 .now) + 2
+μ-set-noad κs a = 8 * length (a .1 .1 .1 .1 .1 .0 .now) + 2
 
 abbrev μ-set-onward : Measures 4 set-onward-kinds.ps ℕ
-μ-set-onward κs a = 8 * length (a .1 .1 .1 .0 .now) + 5
+μ-set-onward κs a = 8 * length (a .1 .1 .1 .1 .0 .now) + 5
 
 abbrev μ-set-stretch : Measures 4 set-stretch-kinds.ps ℕ
-μ-set-stretch κs a = 8 * length (a .1 .1 .1 .0 .now) + 4
+μ-set-stretch κs a = 8 * length (a .1 .1 .1 .1 .0 .now) + 4
 
 abbrev set-choice-at : ℕ → In 4 set-choice-kinds.ps
 set-choice-at t = and 4 set-choice-kinds.ps (is 4 set-choice-kinds.ps μ-set-choice t) set-choice.Pre
@@ -217,7 +217,7 @@ abbrev Spanned : ℕ → Type 0
 Spanned t = set-choice-lts.After-list-place (set-choice-claims t) (set-choice-at t) set-choice.Post
 
 abbrev span-start : (t : ℕ) → Spanned t → set-choice-lts.Start (set-choice-claims t) (set-choice-at t) set-choice.Post
-span-start t c = c .before .before .before .before .before .before
+span-start t c = c .before .before .before .before .before .before .before
 
 chosen-of : (t : ℕ) (c : Spanned t) → Chosen (span-start t c .args .s .now)
 chosen-of t c =
@@ -232,7 +232,7 @@ abbrev spanned-of : (t : ℕ) → Chose t → Spanned t
 spanned-of t c = c .before .before .before .before .before .before
 
 abbrev choice-buffer : (t : ℕ) → Chose t → List ℕ
-choice-buffer t c = c .set-items .last .1 .1 .1 .1 .1 .0
+choice-buffer t c = c .set-items .last .1 .1 .1 .1 .1 .1 .0
 
 span-of : (t : ℕ) (c : Spanned t) → TakenSpan (span-start t c .args .line .style) (span-start t c .args .s .now) (c .before .taken-span .result)
 span-of t c = c .before .taken-span .ensures
@@ -265,12 +265,12 @@ chosen-set : (t : ℕ) (c : Chose t) {r : ItemsSet} → c .set-items .result ≡
     let spanned = spanned-of t c in
     let a = span-start t spanned .args in
     let inside = part (spanned .before .taken-span .result) (a .s .now) in
-    ItemsDone (fontOf (a .table .now)) (neighbourAs (c .before .before .before .beyond-choice .result)) (treeOf inside) (length inside) (a .line) (a .buf .now) r (choice-buffer t c)
+    ItemsDone (fontWith (a .table .now) (a .client .now)) (neighbourAs (c .before .before .before .beyond-choice .result)) (treeOf inside) (length inside) (a .line) (a .buf .now) r (choice-buffer t c)
 chosen-set t c is =
     let spanned = spanned-of t c in
     let a = span-start t spanned .args in
     let inside = part (spanned .before .taken-span .result) (a .s .now) in
-    subst (λ (r : ItemsSet). ItemsDone (fontOf (a .table .now)) (neighbourAs (c .before .before .before .beyond-choice .result)) (treeOf inside) (length inside) (a .line) (a .buf .now) r (choice-buffer t c))
+    subst (λ (r : ItemsSet). ItemsDone (fontWith (a .table .now) (a .client .now)) (neighbourAs (c .before .before .before .beyond-choice .result)) (treeOf inside) (length inside) (a .line) (a .buf .now) r (choice-buffer t c))
     is (c .set-items .ensures)
 
 set-choice-returns : (t : ℕ) → set-choice-lts.Need-returns (set-choice-claims t) (set-choice-at t) set-choice.Post
@@ -279,7 +279,7 @@ set-choice-returns t c =
     let spanned = spanned-of t set in
     let start = span-start t spanned in
     let a = start .args in
-    choice-done (fontOf (a .table .now)) (neighbourAs (a .beyond)) (a .line) (a .buf .now) (choice-buffer t set) (start .pre .1 .opens) (chosen-of t spanned) (span-of t spanned)
+    choice-done (fontWith (a .table .now) (a .client .now)) (neighbourAs (a .beyond)) (a .line) (a .buf .now) (choice-buffer t set) (start .pre .1 .opens) (chosen-of t spanned) (span-of t spanned)
     _ (spanned .list-place .ensures) (set .before .before .before .beyond-choice .ensures) (chosen-set t set (c .before .set .given .1))
 
 -- they lack a symbol
@@ -294,13 +294,13 @@ chosen-lacks : (t : ℕ) (c : Choosing t) →
     let spanned = spanned-of t set in
     let a = span-start t spanned .args in
     let place = spanned .before .taken-span .result .first + c .before .set2 .given .0 .0 in
-    ChoiceDone (fontOf (a .table .now)) (neighbourAs (a .beyond)) (a .s .now) (a .line) (a .buf .now) (stretch.Missing place) (choice-buffer t set) × (place ≤ length (a .s .now))
+    ChoiceDone (fontWith (a .table .now) (a .client .now)) (neighbourAs (a .beyond)) (a .s .now) (a .line) (a .buf .now) (stretch.Missing place) (choice-buffer t set) × (place ≤ length (a .s .now))
 chosen-lacks t c =
     let set = chose-of t c in
     let spanned = spanned-of t set in
     let start = span-start t spanned in
     let a = start .args in
-    choice-lacks (fontOf (a .table .now)) (neighbourAs (a .beyond)) (a .line) (a .buf .now) (choice-buffer t set) (start .pre .1 .opens) (chosen-of t spanned) (span-of t spanned)
+    choice-lacks (fontWith (a .table .now) (a .client .now)) (neighbourAs (a .beyond)) (a .line) (a .buf .now) (choice-buffer t set) (start .pre .1 .opens) (chosen-of t spanned) (span-of t spanned)
     (chosen-set t set (c .before .set2 .given .1))
 
 -- ---- set_field
@@ -308,10 +308,10 @@ chosen-lacks t c =
 set-field-returns : (t : ℕ) → set-field-lts.Need-returns (set-field-claims t) (set-field-at t) set-field.Post
 set-field-returns t c =
     let tested = c .before .before in
-    let start = tested .before .before .before .before .before in
+    let start = tested .before .before .before .before .before .before in
     let a = start .args in
     let is = empty-is _ (sym (tested .is-empty .ensures) ∙ c .before .if1 .taken) in
-    head-empty (fontOf (a .table .now)) _ _ (a .buf .now) (head-at (start .pre .1) is refl refl) refl (c .empty-part .ensures)
+    head-empty (fontWith (a .table .now) (a .client .now)) _ _ (a .buf .now) (head-at (start .pre .1) is refl refl) refl (c .empty-part .ensures)
 
 -- ---- set_given
 
@@ -320,7 +320,7 @@ abbrev Read : ℕ → Type 0
 Read t = set-given-lts.After-field-bytes (set-given-claims t) (set-given-at t) set-given.Post
 
 abbrev read-start : (t : ℕ) → Read t → set-given-lts.Start (set-given-claims t) (set-given-at t) set-given.Post
-read-start t c = c .before .before .before .before .before .before
+read-start t c = c .before .before .before .before .before .before .before
 
 head-of : (t : ℕ) (c : Read t) {h : FieldHead} → c .before .field-head .result ≡ h →
     let a = read-start t c .args in
@@ -344,7 +344,7 @@ abbrev sided-of : (t : ℕ) → Listing t → set-given-lts.After-sides-of (set-
 sided-of t c = c .before .before .before .before
 
 abbrev list-buffer : (t : ℕ) → Listing t → List ℕ
-list-buffer t c = c .set-items .last .1 .1 .1 .1 .1 .0
+list-buffer t c = c .set-items .last .1 .1 .1 .1 .1 .1 .0
 
 list-head : (t : ℕ) (c : Listed t) →
     let a = read-start t (read-of t c) .args in
@@ -362,18 +362,18 @@ list-lacks : (t : ℕ) (c : Lacking t) →
     let set = listing-of t c in
     let a = read-start t (read-of t (listed-of t set)) .args in
     let place = a .at + listed-of t set .before .head2 .given .0 .0 + c .before .l2 .given .0 .0 in
-    HeadDone (fontOf (a .table .now)) (a .style) (a .manner) (a .s .now) (a .at) (a .buf .now) (field.Missing place) (list-buffer t set)
+    HeadDone (fontWith (a .table .now) (a .client .now)) (a .style) (a .manner) (a .s .now) (a .at) (a .buf .now) (field.Missing place) (list-buffer t set)
     × (place ≤ length (a .s .now))
 list-lacks t c =
     let set = listing-of t c in
     let a = read-start t (read-of t (listed-of t set)) .args in
-    head-missing (fontOf (a .table .now)) (a .style) (a .manner) (a .buf .now) (list-buffer t set) (list-head t (listed-of t set)) _ (sided-of t set .sides-of .ensures) (set .before .before .start .ensures) _
+    head-missing (fontWith (a .table .now) (a .client .now)) (a .style) (a .manner) (a .buf .now) (list-buffer t set) (list-head t (listed-of t set)) _ (sided-of t set .sides-of .ensures) (set .before .before .start .ensures) _
     (set .set-items .ensures) (c .before .l2 .given .1)
 
 set-given-symbol-part-requires : (t : ℕ) → set-given-lts.Need-symbol-part-requires (set-given-claims t) (set-given-at t) set-given.Post
 set-given-symbol-part-requires t c κs =
     let read = c .before .before .before .before in
-    (read-start t read .pre .1 .table-good, omega (arith, head-of t read (c .before .before .head .given .1) .goes))
+    (read-start t read .pre .1 .tables-good, omega (arith, head-of t read (c .before .before .head .given .1) .goes))
 
 set-given-set-items-requires : (t : ℕ) → set-given-lts.Need-set-items-requires (set-given-claims t) (set-given-at t) set-given.Post
 set-given-set-items-requires t c κs =
@@ -389,19 +389,19 @@ set-given-closed-part-requires t c κs =
     let start = read-start t (read-of t (listed-of t set)) in
     let a = start .args in
     line-more (omega (arith, head .goes, head .inside, start .pre .1 .short))
-    (head-line (fontOf (a .table .now)) _ (a .manner) (a .buf .now) (list-buffer t set) head _ (sided-of t set .sides-of .ensures) (set .before .before .start .ensures) _ (set .set-items .ensures) (c .before .l .given .1))
+    (head-line (fontWith (a .table .now) (a .client .now)) _ (a .manner) (a .buf .now) (list-buffer t set) head _ (sided-of t set .sides-of .ensures) (set .before .before .start .ensures) _ (set .set-items .ensures) (c .before .l .given .1))
 
 set-given-returns : (t : ℕ) → set-given-lts.Need-returns (set-given-claims t) (set-given-at t) set-given.Post
 set-given-returns t c =
     let read = c .before .before .before in
     let a = read-start t read .args in
-    head-empty (fontOf (a .table .now)) _ _ (a .buf .now) (head-of t read (c .before .enum-told .given .1)) refl (c .empty-part .ensures)
+    head-empty (fontWith (a .table .now) (a .client .now)) _ _ (a .buf .now) (head-of t read (c .before .enum-told .given .1)) refl (c .empty-part .ensures)
 
 set-given-returns-2 : (t : ℕ) → set-given-lts.Need-returns-2 (set-given-claims t) (set-given-at t) set-given.Post
 set-given-returns-2 t c =
     let read = c .before .before .before in
     let a = read-start t read .args in
-    head-empty (fontOf (a .table .now)) _ _ (a .buf .now) (head-of t read (c .before .enum-told2 .given .1)) refl (c .empty-part2 .ensures)
+    head-empty (fontWith (a .table .now) (a .client .now)) _ _ (a .buf .now) (head-of t read (c .before .enum-told2 .given .1)) refl (c .empty-part2 .ensures)
 
 set-given-returns-3 : (t : ℕ) → set-given-lts.Need-returns-3 (set-given-claims t) (set-given-at t) set-given.Post
 set-given-returns-3 t c =
@@ -409,7 +409,7 @@ set-given-returns-3 t c =
     let arm = set .before .before .before in
     let read = arm .before .before in
     let a = read-start t read .args in
-    head-symbol (fontOf (a .table .now)) (a .style) (a .manner) (a .buf .now) (set .symbol-part .last .1 .1 .1 .1 .1 .1 .1 .0)
+    head-symbol (fontWith (a .table .now) (a .client .now)) (a .style) (a .manner) (a .buf .now) (set .symbol-part .last .1 .1 .1 .1 .1 .1 .1 .1 .0)
     (head-of t read (arm .head .given .1)) (set .symbol-part .result) (set .symbol-part .ensures)
 
 set-given-returns-4 : (t : ℕ) → set-given-lts.Need-returns-4 (set-given-claims t) (set-given-at t) set-given.Post
@@ -417,14 +417,14 @@ set-given-returns-4 t c =
     let set = c .before .before .before .before .before .before in
     let start = read-start t (read-of t (listed-of t set)) in
     let a = start .args in
-    head-whole (fontOf (a .table .now)) _ _ (a .buf .now) (list-buffer t set) (list-head t (listed-of t set)) _ (sided-of t set .sides-of .ensures) (set .before .before .start .ensures) _
+    head-whole (fontWith (a .table .now) (a .client .now)) _ _ (a .buf .now) (list-buffer t set) (list-head t (listed-of t set)) _ (sided-of t set .sides-of .ensures) (set .before .before .start .ensures) _
     (set .set-items .ensures) (start .pre .1 .parameters-are) (c .before .before .l .given .1) (c .closed-part .ensures)
 
 set-given-returns-6 : (t : ℕ) → set-given-lts.Need-returns-6 (set-given-claims t) (set-given-at t) set-given.Post
 set-given-returns-6 t c =
     let read = c .before .before .before in
     let a = read-start t read .args in
-    head-empty (fontOf (a .table .now)) _ _ (a .buf .now) (head-of t read (c .before .enum-told3 .given .1)) refl (c .empty-part3 .ensures)
+    head-empty (fontWith (a .table .now) (a .client .now)) _ _ (a .buf .now) (head-of t read (c .before .enum-told3 .given .1)) refl (c .empty-part3 .ensures)
 
 -- ---- set_item
 
@@ -432,7 +432,7 @@ abbrev Opened : ℕ → Type 0
 Opened t = set-item-lts.After-opening (set-item-claims t) (set-item-at t) set-item.Post
 
 abbrev opened-start : (t : ℕ) → Opened t → set-item-lts.Start (set-item-claims t) (set-item-at t) set-item.Post
-opened-start t c = c .before .before .before .before
+opened-start t c = c .before .before .before .before .before
 
 opens : (t : ℕ) (c : Opened t) {o : Opening} → c .opening .result ≡ o → openingOf (opened-start t c .args .s .now) ≡ o
 opens t c is = sym (c .opening .ensures) ∙ is
@@ -461,7 +461,7 @@ set-item-returns-3 : (t : ℕ) → set-item-lts.Need-returns-3 (set-item-claims 
 set-item-returns-3 t c =
     let opened = c .before .before .before .before in
     let a = opened-start t opened .args in
-    kern-done (fontOf (a .table .now)) (neighbourAs (a .beyond)) (a .s .now) (a .line) (c .kerned .result) (a .buf .now) (opens t opened (c .before .before .o2 .given .1))
+    kern-done (fontWith (a .table .now) (a .client .now)) (neighbourAs (a .beyond)) (a .s .now) (a .line) (c .kerned .result) (a .buf .now) (opens t opened (c .before .before .o2 .given .1))
     (c .kerned .ensures)
 
 set-item-returns-4 : (t : ℕ) → set-item-lts.Need-returns-4 (set-item-claims t) (set-item-at t) set-item.Post
@@ -469,23 +469,23 @@ set-item-returns-4 t c =
     let opened = c .before .before .before .before .before in
     let a = opened-start t opened .args in
     let set = c .styled .ensures in
-    style-done (fontOf (a .table .now)) (neighbourAs (a .beyond)) (a .s .now) (a .line) (c .styled .result) (a .buf .now) (opens t opened (c .before .before .before .o3 .given .1))
+    style-done (fontWith (a .table .now) (a .client .now)) (neighbourAs (a .beyond)) (a .s .now) (a .line) (c .styled .result) (a .buf .now) (opens t opened (c .before .before .before .o3 .given .1))
     (record { left-is = set .left-is; style-is = set .style-is ∙ c .before .restyled .ensures; size-is = set .size-is; run-is = set .run-is })
 
 -- ---- set_stretch: an item is set behind the line, lacks a symbol, or is a choice
 
 abbrev set-stretch-Inv-loop : set-stretch-lts.InvT-loop
-set-stretch-Inv-loop table p beyond s line buf₀ at₀ l₀ buf at l =
-    Along (fontOf table) (neighbourAs beyond) s line buf₀ at l buf
+set-stretch-Inv-loop table client p beyond s line buf₀ at₀ l₀ buf at l =
+    Along (fontWith table client) (neighbourAs beyond) s line buf₀ at l buf
 
 abbrev set-stretch-μ-loop : set-stretch-lts.MeasureT-loop
-set-stretch-μ-loop table p beyond s line buf₀ at₀ l₀ buf at l = length s - at
+set-stretch-μ-loop table client p beyond s line buf₀ at₀ l₀ buf at l = length s - at
 
 abbrev Turn : ℕ → Type 0
 Turn t = set-stretch-lts.In-loop (set-stretch-claims t) (set-stretch-at t) set-stretch.Post set-stretch-Inv-loop set-stretch-μ-loop
 
 abbrev turn-start : (t : ℕ) → Turn t → set-stretch-lts.Start (set-stretch-claims t) (set-stretch-at t) set-stretch.Post set-stretch-Inv-loop set-stretch-μ-loop
-turn-start t c = c .before .before .before .before .before
+turn-start t c = c .before .before .before .before .before .before
 
 -- once the item is set
 abbrev Turned : ℕ → Type 0
@@ -498,7 +498,7 @@ abbrev item-buffer : (t : ℕ) → Turned t → List ℕ
 item-buffer t c =
     let b = turn-of t c .before .loop .buf in
     let j = c .before .before .before .room .result in
-    putMid j (length b - j) b (c .set-item .last .1 .1 .1 .1 .1 .0)
+    putMid j (length b - j) b (c .set-item .last .1 .1 .1 .1 .1 .1 .0)
 
 abbrev Next : ℕ → Type 0
 Next t = set-stretch-lts.After-known-told (set-stretch-claims t) (set-stretch-at t) set-stretch.Post set-stretch-Inv-loop set-stretch-μ-loop
@@ -517,37 +517,37 @@ item-done : (t : ℕ) (c : Turned t) {r : ItemSet} → c .set-item .result ≡ r
     let a = turn-start t (turn-of t c) .args in
     let o = turn-of t c .before .loop in
     let j = c .before .before .before .room .result in
-    ItemDone (fontOf (a .table .now)) (neighbourAs (a .beyond)) (take (length (a .s .now) - o .at) (drop (o .at) (a .s .now))) (o .l) (take (length (o .buf) - j) (drop j (o .buf))) r (c .set-item .last .1 .1 .1 .1 .1 .0)
+    ItemDone (fontWith (a .table .now) (a .client .now)) (neighbourAs (a .beyond)) (take (length (a .s .now) - o .at) (drop (o .at) (a .s .now))) (o .l) (take (length (o .buf) - j) (drop j (o .buf))) r (c .set-item .last .1 .1 .1 .1 .1 .1 .0)
 item-done t c is =
     let a = turn-start t (turn-of t c) .args in
     let o = turn-of t c .before .loop in
     let j = c .before .before .before .room .result in
-    subst (λ (r : ItemSet). ItemDone (fontOf (a .table .now)) (neighbourAs (a .beyond)) (take (length (a .s .now) - o .at) (drop (o .at) (a .s .now))) (o .l) (take (length (o .buf) - j) (drop j (o .buf))) r (c .set-item .last .1 .1 .1 .1 .1 .0))
+    subst (λ (r : ItemSet). ItemDone (fontWith (a .table .now) (a .client .now)) (neighbourAs (a .beyond)) (take (length (a .s .now) - o .at) (drop (o .at) (a .s .now))) (o .l) (take (length (o .buf) - j) (drop j (o .buf))) r (c .set-item .last .1 .1 .1 .1 .1 .1 .0))
     is (c .set-item .ensures)
 
 turn-next : (t : ℕ) (c : Next t) →
     let set = next-turned t c in
     let a = turn-start t (turn-of t set) .args in
     (0 < c .before .step .given .0 .0)
-    × Along (fontOf (a .table .now)) (neighbourAs (a .beyond)) (a .s .now) (a .line) (a .buf .now) (turn-of t set .before .loop .at + c .before .step .given .0 .0) (c .before .step .given .0 .1 .0)
+    × Along (fontWith (a .table .now) (a .client .now)) (neighbourAs (a .beyond)) (a .s .now) (a .line) (a .buf .now) (turn-of t set .before .loop .at + c .before .step .given .0 .0) (c .before .step .given .0 .1 .0)
     (item-buffer t set)
 turn-next t c =
     let set = next-turned t c in
     let turn = turn-of t set in
     let room = set .before .before .before .room in
-    along-next _ _ (turn .before .loop .inv) (room .ensures) (set .set-item .last .1 .1 .1 .1 .1 .0) (turn .loop-test .taken)
+    along-next _ _ (turn .before .loop .inv) (room .ensures) (set .set-item .last .1 .1 .1 .1 .1 .1 .0) (turn .loop-test .taken)
     (item-done t set (c .before .step .given .1))
 
 turn-stop : (t : ℕ) (c : Stop t) →
     let set = stop-turned t c in
     let a = turn-start t (turn-of t set) .args in
-    StretchDone (fontOf (a .table .now)) (neighbourAs (a .beyond)) (a .s .now) (a .line) (a .buf .now)
+    StretchDone (fontWith (a .table .now) (a .client .now)) (neighbourAs (a .beyond)) (a .s .now) (a .line) (a .buf .now)
     (stretch.Missing (turn-of t set .before .loop .at + c .before .step2 .given .0 .0)) (item-buffer t set)
 turn-stop t c =
     let set = stop-turned t c in
     let turn = turn-of t set in
     let room = set .before .before .before .room in
-    along-stop _ _ (turn .before .loop .inv) (room .ensures) (set .set-item .last .1 .1 .1 .1 .1 .0) (turn .loop-test .taken)
+    along-stop _ _ (turn .before .loop .inv) (room .ensures) (set .set-item .last .1 .1 .1 .1 .1 .1 .0) (turn .loop-test .taken)
     (item-done t set (c .before .step2 .given .1))
 
 -- a choice, which is left alone
@@ -561,10 +561,10 @@ turn-halt : (t : ℕ) (c : Halt t) →
     let set = halt-turned t c in
     let a = turn-start t (turn-of t set) .args in
     let o = turn-of t set .before .loop in
-    StretchDone (fontOf (a .table .now)) (neighbourAs (a .beyond)) (a .s .now) (a .line) (a .buf .now) (stretch.UpTo (o .at) (o .l)) (item-buffer t set)
+    StretchDone (fontWith (a .table .now) (a .client .now)) (neighbourAs (a .beyond)) (a .s .now) (a .line) (a .buf .now) (stretch.UpTo (o .at) (o .l)) (item-buffer t set)
 turn-halt t c =
     let set = halt-turned t c in
-    along-halt _ _ (turn-of t set .before .loop .inv) (set .before .before .before .room .ensures) (set .set-item .last .1 .1 .1 .1 .1 .0) (item-done t set (c .enum-told .given .1))
+    along-halt _ _ (turn-of t set .before .loop .inv) (set .before .before .before .room .ensures) (set .set-item .last .1 .1 .1 .1 .1 .1 .0) (item-done t set (c .enum-told .given .1))
 
 set-stretch-set-item-requires : (t : ℕ) → set-stretch-lts.Need-set-item-requires (set-stretch-claims t) (set-stretch-at t) set-stretch.Post set-stretch-Inv-loop set-stretch-μ-loop
 set-stretch-set-item-requires t c κs =
@@ -580,17 +580,17 @@ abbrev Onwards : ℕ → Type 0
 Onwards t = set-onward-lts.After-set-choice (set-onward-claims t) (set-onward-at t) set-onward.Post
 
 abbrev onward-start : (t : ℕ) → Onwards t → set-onward-lts.Start (set-onward-claims t) (set-onward-at t) set-onward.Post
-onward-start t c = c .before .before .before .before .before
+onward-start t c = c .before .before .before .before .before .before
 
 abbrev taken-buffer : (t : ℕ) → Onwards t → List ℕ
-taken-buffer t c = c .set-choice .last .1 .1 .1 .1 .1 .0
+taken-buffer t c = c .set-choice .last .1 .1 .1 .1 .1 .1 .0
 
 choice-came : (t : ℕ) (c : Onwards t) {r : StretchSet} → c .set-choice .result ≡ r →
     let a = onward-start t c .args in
-    ChoiceDone (fontOf (a .table .now)) (neighbourAs (a .beyond)) (a .s .now) (a .line) (a .buf .now) r (taken-buffer t c)
+    ChoiceDone (fontWith (a .table .now) (a .client .now)) (neighbourAs (a .beyond)) (a .s .now) (a .line) (a .buf .now) r (taken-buffer t c)
 choice-came t c is =
     let a = onward-start t c .args in
-    subst (λ (r : StretchSet). ChoiceDone (fontOf (a .table .now)) (neighbourAs (a .beyond)) (a .s .now) (a .line) (a .buf .now) r (taken-buffer t c)) is (c .set-choice .ensures)
+    subst (λ (r : StretchSet). ChoiceDone (fontWith (a .table .now) (a .client .now)) (neighbourAs (a .beyond)) (a .s .now) (a .line) (a .buf .now) r (taken-buffer t c)) is (c .set-choice .ensures)
 
 -- a list that opens with a choice is not empty
 some-there : (t : ℕ) (c : Onwards t) → 0 < length (onward-start t c .args .s .now)
@@ -601,7 +601,7 @@ set-onward-returns-3 t c =
     let set = c .before .before .before .before .before in
     let start = onward-start t set in
     let a = start .args in
-    (item-lacks (fontOf (a .table .now)) (neighbourAs (a .beyond)) (a .s .now) (a .line) (a .buf .now) (taken-buffer t set) (start .pre .1 .items .list .readable) (some-there t set) (choice-came t set (c .before .taken2 .given .1)), tt)
+    (item-lacks (fontWith (a .table .now) (a .client .now)) (neighbourAs (a .beyond)) (a .s .now) (a .line) (a .buf .now) (taken-buffer t set) (start .pre .1 .items .list .readable) (some-there t set) (choice-came t set (c .before .taken2 .given .1)), tt)
 
 -- the choice is set
 abbrev Past : ℕ → Type 0
@@ -614,7 +614,7 @@ past : (t : ℕ) (c : Past t) →
     let set = onwards-of t c in
     let a = onward-start t set .args in
     let n = c .before .taken .given .0 .0 in
-    (0 < n) × Along (fontOf (a .table .now)) (neighbourAs (a .beyond)) (a .s .now) (a .line) (a .buf .now) n (c .before .taken .given .0 .1 .0) (taken-buffer t set)
+    (0 < n) × Along (fontWith (a .table .now) (a .client .now)) (neighbourAs (a .beyond)) (a .s .now) (a .line) (a .buf .now) n (c .before .taken .given .0 .1 .0) (taken-buffer t set)
 past t c =
     let set = onwards-of t c in
     let start = onward-start t set in
@@ -622,7 +622,7 @@ past t c =
     item-along _ _ (a .s .now) (a .line) (a .buf .now) (taken-buffer t set) (start .pre .1 .items .list .readable) (some-there t set) (choice-came t set (c .before .taken .given .1))
 
 set-onward-set-choice-requires : (t : ℕ) → set-onward-lts.Need-set-choice-requires (set-onward-claims t) (set-onward-at t) set-onward.Post
-set-onward-set-choice-requires t c κs = let start = c .before .before .before .before in (omega (arith, start .pre .0), start .pre .1)
+set-onward-set-choice-requires t c κs = let start = c .before .before .before .before .before in (omega (arith, start .pre .0), start .pre .1)
 
 set-onward-set-stretch-requires : (t : ℕ) → set-onward-lts.Need-set-stretch-requires (set-onward-claims t) (set-onward-at t) set-onward.Post
 set-onward-set-stretch-requires t c κs =
@@ -642,18 +642,18 @@ abbrev further-buffer : (t : ℕ) → Further t → List ℕ
 further-buffer t c =
     let b = taken-buffer t (onwards-of t (past-of t c)) in
     let j = c .before .before .before .room .result in
-    putMid j (length b - j) b (c .set-stretch .last .1 .1 .1 .1 .1 .0)
+    putMid j (length b - j) b (c .set-stretch .last .1 .1 .1 .1 .1 .1 .0)
 
 further-came : (t : ℕ) (c : Further t) {r : StretchSet} → c .set-stretch .result ≡ r →
     let at = past-of t c in
     let a = onward-start t (onwards-of t at) .args in
     let n = at .before .taken .given .0 .0 in
-    StretchDone (fontOf (a .table .now)) (neighbourAs (a .beyond)) (a .s .now) (a .line) (a .buf .now) (shifted n r) (further-buffer t c)
+    StretchDone (fontWith (a .table .now) (a .client .now)) (neighbourAs (a .beyond)) (a .s .now) (a .line) (a .buf .now) (shifted n r) (further-buffer t c)
 further-came t c is =
     let at = past-of t c in
     let a = onward-start t (onwards-of t at) .args in
     let n = at .before .taken .given .0 .0 in
-    subst (λ (r : StretchSet). StretchDone (fontOf (a .table .now)) (neighbourAs (a .beyond)) (a .s .now) (a .line) (a .buf .now) (shifted n r) (further-buffer t c)) is
+    subst (λ (r : StretchSet). StretchDone (fontWith (a .table .now) (a .client .now)) (neighbourAs (a .beyond)) (a .s .now) (a .line) (a .buf .now) (shifted n r) (further-buffer t c)) is
     (along-stretch _ _ (past t at .1) (c .before .before .before .room .ensures) _ (c .set-stretch .result) (c .set-stretch .ensures))
 
 abbrev Ahead : ℕ → Type 0
@@ -672,25 +672,25 @@ further-of-short t c = c .before .before .before .before .before
 
 -- the loop's invariant: whatever had been set before the loop, more of it has been by now
 abbrev set-items-Inv-loop : set-items-lts.InvT-loop
-set-items-Inv-loop table p beyond s line buf₀ at₀ l₀ buf at l =
-    ((b : List ℕ) → Along (fontOf table) (neighbourAs beyond) s line b at₀ l₀ buf₀ → Along (fontOf table) (neighbourAs beyond) s line b at l buf)
+set-items-Inv-loop table client p beyond s line buf₀ at₀ l₀ buf at l =
+    ((b : List ℕ) → Along (fontWith table client) (neighbourAs beyond) s line b at₀ l₀ buf₀ → Along (fontWith table client) (neighbourAs beyond) s line b at l buf)
     × StopsAt s at
 
 abbrev set-items-μ-loop : set-items-lts.MeasureT-loop
-set-items-μ-loop table p beyond s line buf₀ at₀ l₀ buf at l = length s - at
+set-items-μ-loop table client p beyond s line buf₀ at₀ l₀ buf at l = length s - at
 
 abbrev Begun : ℕ → Type 0
 Begun t = set-items-lts.After-set-stretch (set-items-claims t) (set-items-at t) set-items.Post set-items-Inv-loop set-items-μ-loop
 
 abbrev begun-start : (t : ℕ) → Begun t → set-items-lts.Start (set-items-claims t) (set-items-at t) set-items.Post set-items-Inv-loop set-items-μ-loop
-begun-start t c = c .before .before .before .before .before
+begun-start t c = c .before .before .before .before .before .before
 
 begun-came : (t : ℕ) (c : Begun t) {r : StretchSet} → c .set-stretch .result ≡ r →
     let a = begun-start t c .args in
-    StretchDone (fontOf (a .table .now)) (neighbourAs (a .beyond)) (a .s .now) (a .line) (a .buf .now) r (c .set-stretch .last .1 .1 .1 .1 .1 .0)
+    StretchDone (fontWith (a .table .now) (a .client .now)) (neighbourAs (a .beyond)) (a .s .now) (a .line) (a .buf .now) r (c .set-stretch .last .1 .1 .1 .1 .1 .1 .0)
 begun-came t c is =
     let a = begun-start t c .args in
-    subst (λ (r : StretchSet). StretchDone (fontOf (a .table .now)) (neighbourAs (a .beyond)) (a .s .now) (a .line) (a .buf .now) r (c .set-stretch .last .1 .1 .1 .1 .1 .0)) is (c .set-stretch .ensures)
+    subst (λ (r : StretchSet). StretchDone (fontWith (a .table .now) (a .client .now)) (neighbourAs (a .beyond)) (a .s .now) (a .line) (a .buf .now) r (c .set-stretch .last .1 .1 .1 .1 .1 .1 .0)) is (c .set-stretch .ensures)
 
 -- the first stretch is set, and the loop begins
 abbrev Looping : ℕ → Type 0
@@ -702,7 +702,7 @@ begun-of t c = c .before .before .before .before .before
 begun : (t : ℕ) (c : Looping t) →
     let a = begun-start t (begun-of t c) .args in
     let n = c .before .first .given .0 .0 in
-    Along (fontOf (a .table .now)) (neighbourAs (a .beyond)) (a .s .now) (a .line) (a .buf .now) n (c .before .first .given .0 .1 .0) (begun-of t c .set-stretch .last .1 .1 .1 .1 .1 .0)
+    Along (fontWith (a .table .now) (a .client .now)) (neighbourAs (a .beyond)) (a .s .now) (a .line) (a .buf .now) n (c .before .first .given .0 .1 .0) (begun-of t c .set-stretch .last .1 .1 .1 .1 .1 .1 .0)
     × StopsAt (a .s .now) n
 begun t c = begun-came t (begun-of t c) (c .before .first .given .1)
 
@@ -714,7 +714,7 @@ loop-start t c = begun-start t (begun-of t (c .before))
 
 along-at : (t : ℕ) (c : AtLoop t) →
     let a = loop-start t c .args in
-    Along (fontOf (a .table .now)) (neighbourAs (a .beyond)) (a .s .now) (a .line) (a .buf .now) (c .loop .at) (c .loop .l) (c .loop .buf)
+    Along (fontWith (a .table .now) (a .client .now)) (neighbourAs (a .beyond)) (a .s .now) (a .line) (a .buf .now) (c .loop .at) (c .loop .l) (c .loop .buf)
 along-at t c = c .loop .inv .0 _ (begun t (c .before) .0)
 
 -- a choice and a stretch
@@ -728,7 +728,7 @@ abbrev onward-buffer : (t : ℕ) → Gone t → List ℕ
 onward-buffer t c =
     let b = round-of t c .before .loop .buf in
     let j = c .before .before .before .room .result in
-    putMid j (length b - j) b (c .set-onward .last .1 .1 .1 .1 .1 .0)
+    putMid j (length b - j) b (c .set-onward .last .1 .1 .1 .1 .1 .1 .0)
 
 set-items-set-onward-requires : (t : ℕ) → set-items-lts.Need-set-onward-requires (set-items-claims t) (set-items-at t) set-items.Post set-items-Inv-loop set-items-μ-loop
 set-items-set-onward-requires t c κs =
@@ -742,12 +742,12 @@ set-items-set-onward-requires t c κs =
 onward-came : (t : ℕ) (c : Gone t) {r : StretchSet} → c .set-onward .result ≡ r →
     let o = round-of t c .before in
     let a = loop-start t o .args in
-    (b : List ℕ) → Along (fontOf (a .table .now)) (neighbourAs (a .beyond)) (a .s .now) (a .line) b (o .loop .at) (o .loop .l) (o .loop .buf) →
-    StretchDone (fontOf (a .table .now)) (neighbourAs (a .beyond)) (a .s .now) (a .line) b (shifted (o .loop .at) r) (onward-buffer t c) × Onward r
+    (b : List ℕ) → Along (fontWith (a .table .now) (a .client .now)) (neighbourAs (a .beyond)) (a .s .now) (a .line) b (o .loop .at) (o .loop .l) (o .loop .buf) →
+    StretchDone (fontWith (a .table .now) (a .client .now)) (neighbourAs (a .beyond)) (a .s .now) (a .line) b (shifted (o .loop .at) r) (onward-buffer t c) × Onward r
 onward-came t c is b so =
     let o = round-of t c .before in
     let a = loop-start t o .args in
-    subst (λ (r : StretchSet). StretchDone (fontOf (a .table .now)) (neighbourAs (a .beyond)) (a .s .now) (a .line) b (shifted (o .loop .at) r) (onward-buffer t c) × Onward r) is
+    subst (λ (r : StretchSet). StretchDone (fontWith (a .table .now) (a .client .now)) (neighbourAs (a .beyond)) (a .s .now) (a .line) b (shifted (o .loop .at) r) (onward-buffer t c) × Onward r) is
     (along-stretch _ _ so (c .before .before .before .room .ensures) _ (c .set-onward .result) (c .set-onward .ensures .0), c .set-onward .ensures .1)
 
 abbrev Rounded : ℕ → Type 0
@@ -760,8 +760,8 @@ rounded : (t : ℕ) (c : Rounded t) →
     let o = round-of t (gone-of t c) .before in
     let a = loop-start t o .args in
     let n = c .before .step .given .0 .0 in
-    (b : List ℕ) → Along (fontOf (a .table .now)) (neighbourAs (a .beyond)) (a .s .now) (a .line) b (o .loop .at) (o .loop .l) (o .loop .buf) →
-    (Along (fontOf (a .table .now)) (neighbourAs (a .beyond)) (a .s .now) (a .line) b (o .loop .at + n) (c .before .step .given .0 .1 .0) (onward-buffer t (gone-of t c))
+    (b : List ℕ) → Along (fontWith (a .table .now) (a .client .now)) (neighbourAs (a .beyond)) (a .s .now) (a .line) b (o .loop .at) (o .loop .l) (o .loop .buf) →
+    (Along (fontWith (a .table .now) (a .client .now)) (neighbourAs (a .beyond)) (a .s .now) (a .line) b (o .loop .at + n) (c .before .step .given .0 .1 .0) (onward-buffer t (gone-of t c))
     × StopsAt (a .s .now) (o .loop .at + n)) × (0 < n)
 rounded t c = onward-came t (gone-of t c) (c .before .step .given .1)
 
@@ -786,7 +786,7 @@ gone-of-failed t c = c .before .before .before .before .before
 failed : (t : ℕ) (c : Failed t) →
     let o = round-of t (gone-of-failed t c) .before in
     let a = loop-start t o .args in
-    ItemsDone (fontOf (a .table .now)) (neighbourAs (a .beyond)) (treeOf (a .s .now)) (length (a .s .now)) (a .line) (a .buf .now)
+    ItemsDone (fontWith (a .table .now) (a .client .now)) (neighbourAs (a .beyond)) (treeOf (a .s .now)) (length (a .s .now)) (a .line) (a .buf .now)
     (items.Missing (o .loop .at + c .before .step2 .given .0 .0)) (onward-buffer t (gone-of-failed t c))
 failed t c = onward-came t (gone-of-failed t c) (c .before .step2 .given .1) _ (along-at t (round-of t (gone-of-failed t c) .before)) .0
 
@@ -815,10 +815,10 @@ abbrev counted-of : (t : ℕ) → First t → Counted t
 counted-of t c = styled-of t c .before .before
 
 abbrev start-of : (t : ℕ) → First t → Start t
-start-of t c = counted-of t c .before .before .before .before .before .before
+start-of t c = counted-of t c .before .before .before .before .before .before .before
 
 abbrev first-back : (t : ℕ) → First t → List ℕ
-first-back t c = c .set-field .last .1 .1 .1 .1 .1 .1 .0
+first-back t c = c .set-field .last .1 .1 .1 .1 .1 .1 .1 .0
 
 abbrev first-buffer : (t : ℕ) → First t → List ℕ
 first-buffer t c =
@@ -830,13 +830,13 @@ abbrev OneAt : (t : ℕ) → First t → parts.Part → Type 0
 OneAt t c x =
     let a = start-of t c .args in
     let own = counted-of t c .own-counts .result in
-    One (fontOf (a .table .now)) (a .line .style) (a .kind) (a .s .now) (own .before) (own .behind) (a .buf .now) x (first-buffer t c)
+    One (fontWith (a .table .now) (a .client .now)) (a .line .style) (a .kind) (a .s .now) (own .before) (own .behind) (a .buf .now) x (first-buffer t c)
 
 -- its own nodes are as many as the definition says
 own-is : (t : ℕ) (c : First t) →
     let a = start-of t c .args in
     let own = counted-of t c .own-counts .result in
-    let F = fontOf (a .table .now) in
+    let F = fontWith (a .table .now) (a .client .now) in
     let defined = ownCounts (F .parameter) (a .line .style) (a .kind) (hasSigns F (a .line .style) (a .kind)) in
     (own .before ≡ defined .before) × (own .behind ≡ defined .behind)
 own-is t c =
@@ -852,11 +852,11 @@ own-is t c =
 first-done : (t : ℕ) (c : First t) {r : FieldSet} → c .set-field .result ≡ r →
     let a = start-of t c .args in
     let j = styled-of t c .before .room .result in
-    HeadDone (fontOf (a .table .now)) (firstStyle (a .kind) (a .line .style)) (firstManner (a .kind) (a .line .style)) (a .s .now) (openingBytes (a .kind)) (take (length (a .buf .now) - j) (drop j (a .buf .now))) r (first-back t c)
+    HeadDone (fontWith (a .table .now) (a .client .now)) (firstStyle (a .kind) (a .line .style)) (firstManner (a .kind) (a .line .style)) (a .s .now) (openingBytes (a .kind)) (take (length (a .buf .now) - j) (drop j (a .buf .now))) r (first-back t c)
 first-done t c is =
     let a = start-of t c .args in
     let j = styled-of t c .before .room .result in
-    head-as (fontOf (a .table .now)) (a .s .now) (take (length (a .buf .now) - j) (drop j (a .buf .now))) (first-back t c) (styled-of t c .first-style .ensures) (c .before .before .before .first-manner .ensures) (c .before .before .opening-bytes .ensures) is
+    head-as (fontWith (a .table .now) (a .client .now)) (a .s .now) (take (length (a .buf .now) - j) (drop j (a .buf .now))) (first-back t c) (styled-of t c .first-style .ensures) (c .before .before .before .first-manner .ensures) (c .before .before .opening-bytes .ensures) is
     (c .set-field .ensures)
 
 one : (t : ℕ) (c : First t) {x : parts.Part} → c .set-field .result ≡ field.Whole x → OneAt t c x
@@ -864,7 +864,7 @@ one t c is =
     let start = start-of t c in
     let a = start .args in
     let own = own-is t c in
-    set-one (fontOf (a .table .now)) (a .line .style) (a .kind) (a .s .now) (a .buf .now) (first-back t c) (noad-of t start) (own .0) (own .1) (styled-of t c .before .room .ensures) (first-done t c is)
+    set-one (fontWith (a .table .now) (a .client .now)) (a .line .style) (a .kind) (a .s .now) (a .buf .now) (first-back t c) (noad-of t start) (own .0) (own .1) (styled-of t c .before .room .ensures) (first-done t c is)
 
 -- it lacks a symbol
 abbrev X2 : ℕ → Type 0
@@ -877,14 +877,14 @@ lacks-first : (t : ℕ) (c : X2 t) →
     let first = first-of-x2 t c in
     let a = start-of t first .args in
     Kept (end (a .s .now) (a .kind)) (a .buf .now) (first-buffer t first)
-    × (lacksX (fontOf (a .table .now)) (a .line .style) (a .kind) (a .s .now) ≡ some (c .before .x2 .given .0 .0))
+    × (lacksX (fontWith (a .table .now) (a .client .now)) (a .line .style) (a .kind) (a .s .now) ≡ some (c .before .x2 .given .0 .0))
     × (c .before .x2 .given .0 .0 ≤ end (a .s .now) (a .kind))
 lacks-first t c =
     let first = first-of-x2 t c in
     let start = start-of t first in
     let a = start .args in
     let own = own-is t first in
-    lacks-one (fontOf (a .table .now)) (a .line .style) (a .kind) (a .s .now) (a .buf .now) (first-back t first) (noad-of t start) (own .0) (own .1) (styled-of t first .before .room .ensures) (first-done t first (c .before .x2 .given .1))
+    lacks-one (fontWith (a .table .now) (a .client .now)) (a .line .style) (a .kind) (a .s .now) (a .buf .now) (first-back t first) (noad-of t start) (own .0) (own .1) (styled-of t first .before .room .ensures) (first-done t first (c .before .x2 .given .1))
 
 -- it is whole
 abbrev X : ℕ → Type 0
@@ -924,7 +924,7 @@ abbrev first-of : (t : ℕ) → Second t → First t
 first-of t c = first-of-x t (x-of t c)
 
 abbrev second-back : (t : ℕ) → Second t → List ℕ
-second-back t c = c .set-field2 .last .1 .1 .1 .1 .1 .1 .0
+second-back t c = c .set-field2 .last .1 .1 .1 .1 .1 .1 .1 .0
 
 abbrev second-buffer : (t : ℕ) → Second t → List ℕ
 second-buffer t c =
@@ -936,24 +936,24 @@ abbrev TwoAt : (t : ℕ) → Second t → parts.Part → Type 0
 TwoAt t c y =
     let a = start-of t (first-of t c) .args in
     let own = counted-of t (first-of t c) .own-counts .result in
-    Two (fontOf (a .table .now)) (a .line .style) (a .kind) (a .s .now) (own .before) (own .behind) (a .buf .now) (part-x t (x-of t c)) y (second-buffer t c)
+    Two (fontWith (a .table .now) (a .client .now)) (a .line .style) (a .kind) (a .s .now) (own .before) (own .behind) (a .buf .now) (part-x t (x-of t c)) y (second-buffer t c)
 
 second-done : (t : ℕ) (c : Second t) {r : FieldSet} → c .set-field2 .result ≡ r →
     let a = start-of t (first-of t c) .args in
     let v = first-buffer t (first-of t c) in
     let j = placed-of t c .room2 .result in
-    HeadDone (fontOf (a .table .now)) (secondStyle (a .kind) (a .line .style)) Plain (a .s .now) (second (a .s .now) (a .kind)) (take (length v - j) (drop j v)) r (second-back t c)
+    HeadDone (fontWith (a .table .now) (a .client .now)) (secondStyle (a .kind) (a .line .style)) Plain (a .s .now) (second (a .s .now) (a .kind)) (take (length v - j) (drop j v)) r (second-back t c)
 second-done t c is =
     let a = start-of t (first-of t c) .args in
     let v = first-buffer t (first-of t c) in
     let j = placed-of t c .room2 .result in
-    head-as (fontOf (a .table .now)) (a .s .now) (take (length v - j) (drop j v)) (second-back t c) (c .before .before .second-style .ensures) refl (one-at t (x-of t c) .wx .end-is) is
+    head-as (fontWith (a .table .now) (a .client .now)) (a .s .now) (take (length v - j) (drop j v)) (second-back t c) (c .before .before .second-style .ensures) refl (one-at t (x-of t c) .wx .end-is) is
     (c .set-field2 .ensures)
 
 two : (t : ℕ) (c : Second t) {y : parts.Part} → c .set-field2 .result ≡ field.Whole y → TwoAt t c y
 two t c is =
     let a = start-of t (first-of t c) .args in
-    set-two (fontOf (a .table .now)) (a .line .style) (a .kind) (a .s .now) (one-at t (x-of t c)) (second-back t c) (placed-of t c .room2 .ensures) (second-done t c is)
+    set-two (fontWith (a .table .now) (a .client .now)) (a .line .style) (a .kind) (a .s .now) (one-at t (x-of t c)) (second-back t c) (placed-of t c .room2 .ensures) (second-done t c is)
 
 -- it lacks a symbol
 abbrev Y2 : ℕ → Type 0
@@ -966,12 +966,12 @@ lacks-second : (t : ℕ) (c : Y2 t) →
     let set = second-of-y2 t c in
     let a = start-of t (first-of t set) .args in
     Kept (end (a .s .now) (a .kind)) (a .buf .now) (second-buffer t set)
-    × (lacksY (fontOf (a .table .now)) (a .line .style) (a .kind) (a .s .now) ≡ some (c .before .y2 .given .0 .0))
+    × (lacksY (fontWith (a .table .now) (a .client .now)) (a .line .style) (a .kind) (a .s .now) ≡ some (c .before .y2 .given .0 .0))
     × (c .before .y2 .given .0 .0 ≤ end (a .s .now) (a .kind))
 lacks-second t c =
     let set = second-of-y2 t c in
     let a = start-of t (first-of t set) .args in
-    lacks-two (fontOf (a .table .now)) (a .line .style) (a .kind) (a .s .now) (one-at t (x-of t set)) (second-back t set) (placed-of t set .room2 .ensures) (second-done t set (c .before .y2 .given .1))
+    lacks-two (fontWith (a .table .now) (a .client .now)) (a .line .style) (a .kind) (a .s .now) (one-at t (x-of t set)) (second-back t set) (placed-of t set .room2 .ensures) (second-done t set (c .before .y2 .given .1))
 
 -- it is whole
 abbrev Y : ℕ → Type 0
@@ -1010,19 +1010,19 @@ ThirdAt t c z b =
     let set = second-of-y t (y-of t c) in
     let a = start-of t (first-of t set) .args in
     let own = counted-of t (first-of t set) .own-counts .result in
-    ThirdDone (fontOf (a .table .now)) (a .line .style) (a .kind) (a .s .now) (own .before) (own .behind) (a .buf .now) (part-x t (x-of t set)) (part-y t (y-of t c)) z b
+    ThirdDone (fontWith (a .table .now) (a .client .now)) (a .line .style) (a .kind) (a .s .now) (own .before) (own .behind) (a .buf .now) (part-x t (x-of t set)) (part-y t (y-of t c)) z b
 
 third-done : (t : ℕ) (c : Joined t) → ThirdAt t c (c .if1 .z) (c .if1 .buf)
 third-done t c =
     let set = second-of-y t (y-of t c) in
     let a = start-of t (first-of t set) .args in
-    let F = fontOf (a .table .now) in
+    let F = fontWith (a .table .now) (a .client .now) in
     let v = second-buffer t set in
     let k = c .before .before .room3 .result in
     let o = two-at t (y-of t c) in
     ⊎-elim
     (λ w.
-    let r = w .3 .last .1 .1 .1 .1 .1 .1 .0 in
+    let r = w .3 .last .1 .1 .1 .1 .1 .1 .1 .0 in
     subst (ThirdAt t c (c .if1 .z)) (sym (w .6))
     (subst (λ (z : FieldSet). ThirdAt t c z (putMid k (length v - k) v r)) (sym (w .7))
     (set-three F (a .line .style) (a .kind) (a .s .now) o (w .3 .result) r (sym (c .before .has-third .ensures) ∙ w .0 .taken) (c .before .before .room3 .ensures)
@@ -1061,12 +1061,12 @@ set-noad-set-field-requires : (t : ℕ) → set-noad-lts.Need-set-field-requires
 set-noad-set-field-requires t c κs =
     let opened = c .before in
     let counted = opened .before .before .before .before in
-    let start = counted .before .before .before .before .before .before in
+    let start = counted .before .before .before .before .before .before .before in
     let n = noad-of t start in
     let items = start .pre .1 .items .list in (
       omega (arith, start .pre .0),
       record {
-        table-good = items .table-good;
+        tables-good = items .tables-good;
         parameters-are = items .parameters-are;
         good = rw (opened .opening-bytes .ensures) (n .x);
         inside = rw (opened .opening-bytes .ensures) (omega (arith, n .first-in, n .second-in, n .third-in, n .end-in));
@@ -1089,7 +1089,7 @@ set-noad-set-field-requires-2 t c κs =
     let items = start .pre .1 .items .list in (
       omega (arith, start .pre .0),
       record {
-        table-good = items .table-good;
+        tables-good = items .tables-good;
         parameters-are = items .parameters-are;
         good = rw (o .wx .end-is) (o .noad .y);
         inside = rw (o .wx .end-is) (omega (arith, o .noad .second-in, o .noad .third-in, o .noad .end-in));
@@ -1115,7 +1115,7 @@ set-noad-set-field-requires-3 t c κs =
     let has = sym (c .before .before .before .has-third .ensures) ∙ c .before .before .if1 .taken in (
       omega (arith, start .pre .0),
       record {
-        table-good = items .table-good;
+        tables-good = items .tables-good;
         parameters-are = items .parameters-are;
         good = rw (o .wy .end-is) (third-good _ _ _ has (o .noad .z));
         inside = rw (o .wy .end-is) (omega (arith, o .noad .third-in, o .noad .end-in));
@@ -1142,7 +1142,7 @@ set-noad-signs-in-requires : (t : ℕ) → set-noad-lts.Need-signs-in-requires (
 set-noad-signs-in-requires t c κs =
     let z = c .before .before in
     let list = start-of-z t z .pre .1 .items .list in
-    (list .table-good, list .parameters-are, three t z .wx .small .shape)
+    (list .tables-good, list .parameters-are, three t z .wx .small .shape)
 
 set-noad-finished-requires : (t : ℕ) → set-noad-lts.Need-finished-requires (set-noad-claims t) (set-noad-at t) set-noad.Post
 set-noad-finished-requires t c κs =
@@ -1172,8 +1172,8 @@ set-noad-returns-4 t c =
 pub +set-choice+set-field+set-given+set-item+set-items+set-noad+set-onward+set-stretch-spec : {M : Type 1} → statement M
 +set-choice+set-field+set-given+set-item+set-items+set-noad+set-onward+set-stretch-spec =
     close μ-set-choice μ-set-field μ-set-given μ-set-item μ-set-items μ-set-noad μ-set-onward μ-set-stretch (λ t. set-choice-lts.spec (set-choice-claims t) (set-choice-at t) set-choice.Post
-    (λ c κs. let start = c .before .before .before .before in (start .pre .1 .items .list .readable, start .pre .1 .opens))
-    (λ c κs. c .before .before .before .before .before .pre .1 .opens)
+    (λ c κs. let start = c .before .before .before .before .before in (start .pre .1 .items .list .readable, start .pre .1 .opens))
+    (λ c κs. c .before .before .before .before .before .before .pre .1 .opens)
     (λ c. omega (arith, span-in t c .0))
     (λ c. omega (arith, span-in t c .0, span-in t c .1))
     (λ c. omega (arith, span-in t c .0, span-in t c .1))
@@ -1188,27 +1188,27 @@ pub +set-choice+set-field+set-given+set-item+set-items+set-noad+set-onward+set-s
     (λ c. search needs)
     (λ c. search needs)
     (λ c. omega (arith, chosen-lacks t c .1, span-start t (spanned-of t (chose-of t c)) .pre .1 .items .list .short))
-    (λ c. c .before .before .before .before .before .set-items .kept .1 .1 .1 .1 .1 .0)
+    (λ c. c .before .before .before .before .before .set-items .kept .1 .1 .1 .1 .1 .1 .0)
     (set-choice-returns t)
-    (λ c. chose-of t c .set-items .kept .1 .1 .1 .1 .1 .0)
+    (λ c. chose-of t c .set-items .kept .1 .1 .1 .1 .1 .1 .0)
     (λ c. chosen-lacks t c .0))
     (λ t. set-field-lts.spec (set-field-claims t) (set-field-at t) set-field.Post
     (λ c. search needs)
     (λ c. search needs)
     (λ c. search needs)
     (λ c κs. search needs)
-    (λ c. omega (arith, c .before .before .before .before .before .before .pre .1 .inside, c .before .before .before .before .before .before .pre .1 .short))
+    (λ c. omega (arith, c .before .before .before .before .before .before .before .pre .1 .inside, c .before .before .before .before .before .before .before .pre .1 .short))
     (λ c κs. search needs)
     (set-field-returns t)
-    (λ c κs. let start = c .before .before .before .before .before .before .before in (omega (arith, start .pre .0), start .pre .1))
-    (λ c. c .before .before .set-given .kept .1 .1 .1 .1 .1 .1 .0)
+    (λ c κs. let start = c .before .before .before .before .before .before .before .before in (omega (arith, start .pre .0), start .pre .1))
+    (λ c. c .before .before .set-given .kept .1 .1 .1 .1 .1 .1 .1 .0)
     (λ c. c .before .before .set-given .ensures))
     (λ t. set-given-lts.spec (set-given-claims t) (set-given-at t) set-given.Post
     (λ c. search needs)
     (λ c. search needs)
     (λ c. search needs)
     (λ c κs. search needs)
-    (λ c κs. omega (arith, head-short (c .before .before .before .before .before .pre .1) (c .field-head .ensures)))
+    (λ c κs. omega (arith, head-short (c .before .before .before .before .before .before .pre .1) (c .field-head .ensures)))
     (λ c. omega (arith, head-short (read-start t c .pre .1) (c .before .field-head .ensures), c .field-bytes .ensures))
     (λ c. search needs)
     (λ c κs. search needs)
@@ -1232,11 +1232,11 @@ pub +set-choice+set-field+set-given+set-item+set-items+set-noad+set-onward+set-s
     (λ c κs. search needs)
     (set-given-returns t)
     (set-given-returns-2 t)
-    (λ c. c .before .before .symbol-part .kept .1 .1 .1 .1 .1 .1 .1 .0)
+    (λ c. c .before .before .symbol-part .kept .1 .1 .1 .1 .1 .1 .1 .1 .0)
     (set-given-returns-3 t)
-    (λ c. c .before .before .before .before .before .before .set-items .kept .1 .1 .1 .1 .1 .0)
+    (λ c. c .before .before .before .before .before .before .set-items .kept .1 .1 .1 .1 .1 .1 .0)
     (set-given-returns-4 t)
-    (λ c. listing-of t c .set-items .kept .1 .1 .1 .1 .1 .0)
+    (λ c. listing-of t c .set-items .kept .1 .1 .1 .1 .1 .1 .0)
     (λ c. list-lacks t c .0)
     (set-given-returns-6 t))
     (λ t. set-item-lts.spec (set-item-claims t) (set-item-at t) set-item.Post
@@ -1251,16 +1251,16 @@ pub +set-choice+set-field+set-given+set-item+set-items+set-noad+set-onward+set-s
     (λ c κs. search needs)
     (λ c. search needs)
     (set-item-returns t)
-    (λ c. c .before .before .set-noad .kept .1 .1 .1 .1 .1 .1 .0)
+    (λ c. c .before .before .set-noad .kept .1 .1 .1 .1 .1 .1 .1 .0)
     (λ c. c .before .before .set-noad .ensures)
     (set-item-returns-3 t)
     (set-item-returns-4 t)
     (λ c. (opens t (c .before .before) (c .enum-told2 .given .1), refl)))
     (λ t. set-items-lts.spec (set-items-claims t) (set-items-at t) set-items.Post set-items-Inv-loop set-items-μ-loop
-    (λ c κs. let start = c .before .before .before .before in (omega (arith, start .pre .0), start .pre .1))
+    (λ c κs. let start = c .before .before .before .before .before in (omega (arith, start .pre .0), start .pre .1))
     (λ c. search needs)
     (λ c. search needs)
-    (λ c. c .before .before .before .before .before .set-stretch .kept .1 .1 .1 .1 .1 .0)
+    (λ c. c .before .before .before .before .before .set-stretch .kept .1 .1 .1 .1 .1 .1 .0)
     (λ c. begun-came t (c .before .before .before .before .before) (c .before .first2 .given .1))
     (λ c. (λ b so. so, begun t c .1))
     (λ c. omega (arith, along-at t (c .before .before .before) .added .more))
@@ -1283,7 +1283,7 @@ pub +set-choice+set-field+set-given+set-item+set-items+set-noad+set-onward+set-s
     (λ c. along-at t (c .before) .added .kept .same)
     (λ c. along-done _ _ (along-at t (c .before)) (c .loop-test .left)))
     (λ t. set-noad-lts.spec (set-noad-claims t) (set-noad-at t) set-noad.Post
-    (λ c κs. c .before .before .before .before .pre .1 .items .list .table-good)
+    (λ c κs. c .before .before .before .before .before .pre .1 .items .list .tables-good)
     (λ c κs. search needs)
     (λ c κs. search needs)
     (λ c κs. search needs)
@@ -1351,10 +1351,10 @@ pub +set-choice+set-field+set-given+set-item+set-items+set-noad+set-onward+set-s
     (λ c. (further-came t (further-of t c) (c .before .rest .given .1), omega (arith, past t (past-of t (further-of t c)) .0)))
     (λ c. further-came t (further-of-short t c) (c .before .rest2 .given .1) .2 .same)
     (λ c. (further-came t (further-of-short t c) (c .before .rest2 .given .1), tt))
-    (λ c. c .before .before .before .before .before .set-choice .kept .1 .1 .1 .1 .1 .0)
+    (λ c. c .before .before .before .before .before .set-choice .kept .1 .1 .1 .1 .1 .1 .0)
     (set-onward-returns-3 t))
     λ t. set-stretch-lts.spec (set-stretch-claims t) (set-stretch-at t) set-stretch.Post set-stretch-Inv-loop set-stretch-μ-loop
-    (λ c. along-start _ _ _ _ _ (c .before .before .before .pre .1 .list .readable))
+    (λ c. along-start _ _ _ _ _ (c .before .before .before .before .pre .1 .list .readable))
     (λ c. omega (arith, c .before .before .before .loop .inv .added .more))
     (λ c κs. search needs)
     (λ c. omega (arith, c .before .before .before .loop-test .taken))

@@ -3,7 +3,7 @@
 use mathlib.Core.Path.{_≡_, sym, ap, _∙_}
 use mathlib.Core.Option.{none, some}
 use borrow.Author.Needs.{needs}
-use Rattle.font.specs.Font.{fontOf}
+use Rattle.font.specs.Font.{fontWith}
 use Rattle.boxes.specs.Styles.{fontSize}
 use Rattle.setting.specs.Setting.{symbolIn, isEnlarged}
 use Rattle.walk.specs.Values.{symbolAs, soughtAs}
@@ -40,26 +40,26 @@ returns c =
     let put = c .before .before .before in
     let known = put .before .before .before .before in
     let looked = known .before .before in
-    let start = looked .before .before .before .before .before in
+    let start = looked .before .before .before .before .before .before in
     let a = start .args in
     let size = looked .before .before .font-size .ensures .0 in
     let large = looked .before .is-enlarged .ensures in
     let symbol = known .sought .given .0 .0 in
-    let found : symbolIn (fontOf (a .table .now)) (fontSize (a .style)) (isEnlarged (a .manner)) (a .family) (a .code) ≡ some (symbolAs symbol) =
+    let found : symbolIn (fontWith (a .table .now) (a .client .now)) (fontSize (a .style)) (isEnlarged (a .manner)) (a .family) (a .code) ≡ some (symbolAs symbol) =
     rw (← size, ← large) (sym (looked .symbol-in .ensures) ∙ ap soughtAs (known .sought .given .1)) in
-    symbol-whole (fontOf (a .table .now)) (a .style) (a .manner) (a .at) (a .end) (a .buf .now) (a .family) (a .code) (start .pre .1) symbol _ _ found
+    symbol-whole (fontWith (a .table .now) (a .client .now)) (a .style) (a .manner) (a .at) (a .end) (a .buf .now) (a .family) (a .code) (start .pre .1) symbol _ _ found
     (c .point .ensures) (rw (← size) (put .put-glyph .ensures))
 
 returns-2 : tie.Need-returns-2
 returns-2 c =
     let looked = c .before .before in
-    let start = looked .before .before .before .before .before in
+    let start = looked .before .before .before .before .before .before in
     let a = start .args in
     let size = looked .before .before .font-size .ensures .0 in
     let large = looked .before .is-enlarged .ensures in
-    let lacks : symbolIn (fontOf (a .table .now)) (fontSize (a .style)) (isEnlarged (a .manner)) (a .family) (a .code) ≡ none =
+    let lacks : symbolIn (fontWith (a .table .now) (a .client .now)) (fontSize (a .style)) (isEnlarged (a .manner)) (a .family) (a .code) ≡ none =
     rw (← size, ← large) (sym (looked .symbol-in .ensures) ∙ ap soughtAs (c .enum-told .given .1)) in
-    symbol-missing (fontOf (a .table .now)) (a .style) (a .manner) (a .at) (a .end) (a .buf .now) (a .family) (a .code) (start .pre .1) lacks
+    symbol-missing (fontWith (a .table .now) (a .client .now)) (a .style) (a .manner) (a .at) (a .end) (a .buf .now) (a .family) (a .code) (start .pre .1) lacks
 
 pub symbol-part-spec : {M : Type 1} → statement M
 symbol-part-spec =

@@ -2,8 +2,7 @@
 -- Assumes nothing.
 use mathlib.Core.Path.{_≡_, ap₂, _∙_}
 use borrow.Author.Needs.{needs}
-use Rattle.font.specs.FontLaws.{good-records}
-use Rattle.font.specs.Font.{fontOf}
+use Rattle.font.specs.Font.{fontWith}
 use Rattle.boxes.specs.Parameters.{Parameters}
 use Rattle.boxes.specs.Boxes.{Size, sizeOf}
 use Rattle.boxes.specs.Values.{shapeAs}
@@ -16,9 +15,9 @@ returns c =
     let left = c .before in
     let size = left .before in
     let extent = size .before in
-    let start = extent .before .before .before in
+    let start = extent .before .before .before .before in
     let a = start .args in
-    let F = fontOf (a .table .now) in
+    let F = fontWith (a .table .now) (a .client .now) in
     let needed : extent .fence-extent .result .0 ≡ fenceExtent (F .parameter) (a .style) (sizeOf (shapeAs (a .list))) =
     extent .fence-extent .ensures .0
     ∙ ap₂ (λ (P : Parameters) (z : Size). fenceExtent P (a .style) z) (start .pre .1) (extent .before .size-of .ensures .0) in
@@ -29,9 +28,9 @@ fence-signs-spec =
     tie.close
     (tie.spec
     (λ c κs. search needs)
-    (λ c κs. c .size-of .ensures .1 (c .before .before .pre .2))
+    (λ c κs. c .size-of .ensures .1 (c .before .before .before .pre .2))
     (λ c κs. search needs)
     (λ c. search needs)
-    (λ c κs. good-records _ (c .before .before .before .before .pre .0))
-    (λ c κs. good-records _ (c .before .before .before .before .before .pre .0))
+    (λ c κs. c .before .before .before .before .before .pre .0)
+    (λ c κs. c .before .before .before .before .before .before .pre .0)
     returns)

@@ -2,7 +2,6 @@
 -- Assumes nothing.
 use mathlib.Core.Path.{refl}
 use borrow.Author.Needs.{needs}
-use Rattle.font.specs.FontLaws.{good-records}
 use Rattle.setting.specs.Setting.{hasSigns}
 use Rattle.walk.proofs.signs.has_signs.Statement.{statement}
 use Rattle.walk.proofs.signs.has_signs.Tie as tie
@@ -53,12 +52,12 @@ has-signs-spec =
     (λ c. search needs)
     (λ c κs. search needs)
     (λ c. search needs)
-    (λ c κs. good-records _ (c .before .before .before .before .before .before .before .before .pre))
+    (λ c κs. c .before .before .before .before .before .before .before .before .before .pre)
     (λ c. search needs)
     (λ c κs. search needs)
     (λ c. search needs)
-    (λ c κs. good-records _ (c .before .before .before .before .before .before .before .before .pre))
-    (λ c κs. good-records _ (c .before .before .before .before .before .before .before .before .before .pre))
+    (λ c κs. c .before .before .before .before .before .before .before .before .before .pre)
+    (λ c κs. c .before .before .before .before .before .before .before .before .before .before .pre)
     returns-2
     returns-3
     returns-4

@@ -4,8 +4,7 @@ use mathlib.Core.Path.{_≡_, ap₂, _∙_}
 use Prim.Native.Nat.{ℕ}
 use lib.IntN.{ℤ}
 use borrow.Author.Needs.{needs}
-use Rattle.font.specs.FontLaws.{good-records}
-use Rattle.font.specs.Font.{fontOf}
+use Rattle.font.specs.Font.{fontWith}
 use Rattle.boxes.specs.Parameters.{Parameters}
 use Rattle.boxes.specs.Boxes.{Size, sizeOf}
 use Rattle.boxes.specs.Values.{shapeAs}
@@ -17,9 +16,9 @@ use Rattle.walk.proofs.signs.root_sign.Tie as tie
 returns : tie.Need-returns
 returns c =
     let extent = c .before .before in
-    let start = extent .before .before .before in
+    let start = extent .before .before .before .before in
     let a = start .args in
-    let F = fontOf (a .table .now) in
+    let F = fontWith (a .table .now) (a .client .now) in
     let needed : extent .sign-extent .result .0 ≡ signExtent (F .parameter) (a .style) (sizeOf (shapeAs (a .nucleus))) =
     extent .sign-extent .ensures .0
     ∙ ap₂ (λ (P : Parameters) (z : Size). signExtent P (a .style) z) (start .pre .1) (extent .before .size-of .ensures .0) in
@@ -30,8 +29,8 @@ root-sign-spec =
     tie.close
     (tie.spec
     (λ c κs. search needs)
-    (λ c κs. c .size-of .ensures .1 (c .before .before .pre .2))
+    (λ c κs. c .size-of .ensures .1 (c .before .before .before .pre .2))
     (λ c κs. search needs)
     (λ c. search needs)
-    (λ c κs. good-records _ (c .before .before .before .before .pre .0))
+    (λ c κs. c .before .before .before .before .before .pre .0)
     returns)

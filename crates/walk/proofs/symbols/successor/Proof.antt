@@ -2,7 +2,6 @@
 -- Assumes nothing.
 use mathlib.Core.Path.{ap, _∙_}
 use borrow.Author.Needs.{needs}
-use Rattle.font.specs.FontLaws.{good-records}
 use Rattle.setting.specs.Setting.{found, successor}
 use Rattle.walk.proofs.symbols.successor.Statement.{statement}
 use Rattle.walk.proofs.symbols.successor.Tie as tie
@@ -14,7 +13,7 @@ enum-known-next : tie.Need-enum-known-next
 enum-known-next c = search needs
 
 symbol-requires : tie.Need-symbol-requires
-symbol-requires c κs = good-records _ (c .before .before .before .before .before .pre)
+symbol-requires c κs = c .before .before .before .before .before .before .pre
 
 symbol-of-requires : tie.Need-symbol-of-requires
 symbol-of-requires c κs = search needs

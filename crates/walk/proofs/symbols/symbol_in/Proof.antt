@@ -2,14 +2,13 @@
 -- Assumes nothing.
 use mathlib.Core.Path.{sym, ap, _∙_}
 use borrow.Author.Needs.{needs}
-use Rattle.font.specs.FontLaws.{good-records}
 use Rattle.font.specs.Values.{foundAs}
 use Rattle.setting.specs.Setting.{found, enlarged, symbolIn}
 use Rattle.walk.proofs.symbols.symbol_in.Statement.{statement}
 use Rattle.walk.proofs.symbols.symbol_in.Tie as tie
 
 symbol-requires : tie.Need-symbol-requires
-symbol-requires c κs = good-records _ (c .before .pre)
+symbol-requires c κs = c .before .before .pre
 
 enum-known-found : tie.Need-enum-known-found
 enum-known-found c = search needs

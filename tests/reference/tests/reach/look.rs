@@ -1,108 +1,21 @@
-//! What the generated formulas hold, looked at on those that are accepted.
+//! Goes through the bytes of a formula that is accepted.
 
-use reference::generate::{case, Case, Random};
-use reference::measure;
-use std::collections::BTreeSet;
+use super::clients::{symbols, Symbols};
+use super::Seen;
+use reference::generate::Case;
 
-const CASES: usize = 20_000;
 const TABLE_HEAD: usize = 426;
-const RECORD_BYTES: usize = 23;
 const DEEPEST: usize = 16;
 const BIN: u8 = 2;
 const PUNCT: u8 = 6;
 
-fn seen_in_cases(seed: u64) -> Seen {
-    let mut seen = Seen::default();
-    let mut random = Random::new(seed);
-    for _ in 0..CASES {
-        let case = case(&mut random);
-        if measure(case.style, &case.table, &case.formula).number == 0 {
-            seen.look_at(&case);
-        }
-    }
-    seen
-}
-
-#[test]
-fn all_forms_are_set() {
-    let seen = seen_in_cases(11);
-    let often = seen.taken.iter().chain(&seen.nested).chain([
-        &seen.first_binary,
-        &seen.last_binary,
-        &seen.style_within,
-        &seen.absent_aside,
-    ]);
-    assert!(often.min() > Some(&(CASES / 100)), "{seen:?}");
-    let deepest = seen.deepest.min(seen.deepest_grown);
-    assert!(deepest > CASES / 1000, "{seen:?}");
-}
-
-#[test]
-fn fences_of_all_forms_are_set() {
-    let seen = seen_in_cases(13).fences;
-    let often = seen.styles.iter().chain(seen.blanks.as_flattened()).chain([
-        &seen.absent_sides,
-        &seen.first_binary,
-        &seen.last_binary,
-        &seen.without_atoms,
-    ]);
-    let often = often
-        .chain(seen.scripts.as_flattened())
-        .chain(seen.last_punct.as_flattened());
-    assert!(often.min() > Some(&(CASES / 100)), "{seen:?}");
-}
-
-/// How often each came.
-#[derive(Debug, Default)]
-struct Seen {
-    /// A list taken for D, T, S, SS that is not empty.
-    taken: [usize; 4],
-    /// The same in a list that is taken itself.
-    nested: [usize; 4],
-    /// A taken list at the greatest depth.
-    deepest: usize,
-    /// A list at the greatest depth with nothing but fences and roots around,
-    /// each the first field of the next.
-    deepest_grown: usize,
-    /// A Bin with which a taken list begins.
-    first_binary: usize,
-    /// A Bin with which a taken list ends, something behind it.
-    last_binary: usize,
-    /// A style in a taken list, something behind it.
-    style_within: usize,
-    /// A symbol at no size of the table, in a list that is not taken.
-    absent_aside: usize,
-    fences: SeenFences,
-}
-
-/// The same of fences.
-#[derive(Debug, Default)]
-struct SeenFences {
-    /// By the style in which the list starts.
-    styles: [usize; 8],
-    /// By whether the left side is blank, and whether the right one is.
-    blanks: [[usize; 2]; 2],
-    /// A blank side with a symbol that the table lacks.
-    absent_sides: usize,
-    /// By whether there is a superscript, and whether there is a subscript.
-    scripts: [[usize; 2]; 2],
-    /// A list whose first atom is a Bin.
-    first_binary: usize,
-    /// A list whose last atom is one.
-    last_binary: usize,
-    /// A list that ends with a Punct, by whether it starts in a script style,
-    /// and whether the Punct is in one.
-    last_punct: [[usize; 2]; 2],
-    without_atoms: usize,
-}
-
 impl Seen {
-    fn look_at(&mut self, case: &Case) {
-        let records = case.table[TABLE_HEAD..].chunks(RECORD_BYTES);
+    pub fn look_at(&mut self, case: &Case) {
         let mut look = Look {
             seen: self,
             bytes: &case.formula,
-            symbols: records.map(|r| (r[2], r[3], r[4])).collect(),
+            ours: symbols(&case.table[TABLE_HEAD..]),
+            client: symbols(&case.client),
         };
         let whole = Part {
             at: 0,
@@ -117,11 +30,11 @@ impl Seen {
     }
 }
 
-struct Look<'a> {
-    seen: &'a mut Seen,
-    bytes: &'a [u8],
-    /// Size, family and code of each.
-    symbols: BTreeSet<(u8, u8, u8)>,
+pub struct Look<'a> {
+    pub seen: &'a mut Seen,
+    pub bytes: &'a [u8],
+    pub ours: Symbols,
+    pub client: Symbols,
 }
 
 /// Some items of a list, which may stand in a choice.
@@ -249,8 +162,21 @@ impl Look<'_> {
         let others = styles[1..].iter().map(|style| self.field(part, *style));
         let fields: Vec<Field> = std::iter::once(first).chain(others).collect();
         part.grown = grown;
-        if part.is_set && self.bytes[item..].starts_with(b"FE") {
-            self.fence(item, style, &fields);
+        if !part.is_set {
+            return;
+        }
+        match &self.bytes[item..item + 2] {
+            b"FE" => {
+                self.fence(item, style, &fields);
+                for at in [2, 6] {
+                    self.sought(item + at, style, |seen| &mut seen.sides);
+                }
+            }
+            b"RD" => self.sought(item + 2, style, |seen| &mut seen.signs),
+            b"AT" if style < 2 && self.bytes[item..].starts_with(&[b'A', b'T', 1]) => {
+                self.operator(item + 4);
+            }
+            _ => {}
         }
     }
 
@@ -279,10 +205,10 @@ impl Look<'_> {
 
     /// Whether the side whose four bytes start there is blank.
     fn is_blank(&self, at: usize, style: u8) -> bool {
-        let size = style.saturating_sub(2) / 2;
+        let size = size_of(style);
         let has = |pair: &[u8]| {
             let mut sizes = 0..=size;
-            pair != [0; 2] && sizes.any(|size| self.symbols.contains(&(size, pair[0], pair[1])))
+            pair != [0; 2] && sizes.any(|size| self.has(&(size, pair[0], pair[1])))
         };
         !self.bytes[at..at + 4].chunks(2).any(has)
     }
@@ -295,8 +221,13 @@ impl Look<'_> {
             }
             1 => {
                 let (family, code) = (self.bytes[part.at + 1], self.bytes[part.at + 2]);
-                let is_there = (0..3).any(|size| self.symbols.contains(&(size, family, code)));
+                let is_there = (0..3).any(|size| self.has(&(size, family, code)));
                 self.seen.absent_aside += usize::from(!part.is_set && !is_there);
+                let key = (size_of(style), family, code);
+                if part.is_set && self.client.contains_key(&key) {
+                    let hides = self.hides(&key);
+                    self.seen.clients.fields[usize::from(key.0)][hides] += 1;
+                }
                 part.at += 3;
                 Field::Symbol
             }
@@ -324,6 +255,11 @@ impl Look<'_> {
             is_set: part.is_set,
         }
     }
+}
+
+/// Text, script or scriptscript.
+pub fn size_of(style: u8) -> u8 {
+    style.saturating_sub(2) / 2
 }
 
 enum Field {
