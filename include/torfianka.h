@@ -4,7 +4,8 @@
  * A style, a font table, a client's symbols over it and a formula go in. Out
  * come the formula's width, height and depth, the number of its nodes and, when
  * setting, the nodes. All lengths are whole scaled points, 65,536 to the point.
- * Every input has an answer, and nothing is kept between calls.
+ * Every input has an answer. The library keeps nothing between calls; the
+ * caller lends words for an index of each table, and may keep them.
  *
  * Link with target/staticlib/libcapi.a, which `rt staticlib capi` writes.
  */
@@ -18,7 +19,7 @@
 extern "C" {
 #endif
 
-/* What a call returns; 1 to 8 are refusals, listed in the order tested. */
+/* What a call returns; 1 to 8 and 19 are refusals, listed in the order tested. */
 enum torfianka_number {
     TORFIANKA_ACCEPTED = 0,
     TORFIANKA_BAD_STYLE = 1,   /* the style is above 7 */
@@ -26,6 +27,8 @@ enum torfianka_number {
     TORFIANKA_BAD_CLIENT = 8,  /* the client's table breaks a rule, has over 512
                                   records, or makes a chain of successors over
                                   both tables of more than sixteen steps */
+    TORFIANKA_SHORT_INDEX = 19, /* fewer than 240 words are lent for either
+                                  index */
     TORFIANKA_UNREADABLE = 3,  /* the formula has over 4,096 bytes (place 0), or
                                   an item can't be read (its first byte; the
                                   innermost such item) */
@@ -70,6 +73,19 @@ enum torfianka_word {
 enum { TORFIANKA_NODE_BYTES = 18 };
 
 /*
+ * The index of a table has 240 words: for each size, then for each of its
+ * sixteen families, four words in which bit c % 64 of word c / 64 tells whether
+ * code c is there, and then the number of records before those of this size and
+ * family. A record's position is that number and the ones below its bit.
+ *
+ * A caller need not build one. Whatever the lent words hold, a call that is not
+ * refused with 1, 2, 8 or 19 leaves each index right for its table and the words
+ * past 240 as they are; those refusals, and 255, change no word. Words kept
+ * with their tables from call to call are right already.
+ */
+enum { TORFIANKA_INDEX_WORDS = 240 };
+
+/*
  * Finds the formula's sizes and the number of its nodes.
  *
  *   style        0 to 7: D, D', T, T', S, S', SS, SS' (' is cramped)
@@ -79,6 +95,9 @@ enum { TORFIANKA_NODE_BYTES = 18 };
  *                up there first and then in the font table; parameters are the
  *                font table's. Length 0 is no client.
  *   formula      the formula's formula_len bytes
+ *   index        index_len words for the font table's index, at least 240
+ *   client_index client_index_len words for the client's, at least 240 even
+ *                where there is no client
  *   answer       answer_len words, of which the first five receive place,
  *                width, height, depth and count; of a refusal its place and
  *                zeros. Words past the fifth are left as they are. With fewer
@@ -94,6 +113,8 @@ uint8_t torfianka_measure(uint8_t style,
                           const uint8_t *table, size_t table_len,
                           const uint8_t *client, size_t client_len,
                           const uint8_t *formula, size_t formula_len,
+                          uint64_t *index, size_t index_len,
+                          uint64_t *client_index, size_t client_index_len,
                           int64_t *answer, size_t answer_len);
 
 /*
@@ -111,7 +132,47 @@ uint8_t torfianka_set(uint8_t style,
                       const uint8_t *client, size_t client_len,
                       const uint8_t *formula, size_t formula_len,
                       uint8_t *nodes, size_t nodes_len,
+                      uint64_t *index, size_t index_len,
+                      uint64_t *client_index, size_t client_index_len,
                       int64_t *answer, size_t answer_len);
+
+/*
+ * Tables and the words for their indexes, for callers who keep them together.
+ * The words may hold anything at first, and the tables may be exchanged for
+ * others at any time:
+ *
+ *   struct torfianka_font font = {table, table_len, client, client_len, {0}, {0}};
+ */
+struct torfianka_font {
+    const uint8_t *table;
+    size_t table_len;
+    const uint8_t *client; /* null with length 0 where there is none */
+    size_t client_len;
+    uint64_t index[TORFIANKA_INDEX_WORDS];
+    uint64_t client_index[TORFIANKA_INDEX_WORDS];
+};
+
+/* torfianka_measure over a font, with all five words of an answer. */
+static inline uint8_t torfianka_measure_in(struct torfianka_font *font, uint8_t style,
+                                           const uint8_t *formula, size_t formula_len,
+                                           int64_t *answer)
+{
+    return torfianka_measure(style, font->table, font->table_len, font->client,
+                             font->client_len, formula, formula_len, font->index,
+                             TORFIANKA_INDEX_WORDS, font->client_index,
+                             TORFIANKA_INDEX_WORDS, answer, TORFIANKA_ANSWER_WORDS);
+}
+
+/* torfianka_set over a font, with all five words of an answer. */
+static inline uint8_t torfianka_set_in(struct torfianka_font *font, uint8_t style,
+                                       const uint8_t *formula, size_t formula_len,
+                                       uint8_t *nodes, size_t nodes_len, int64_t *answer)
+{
+    return torfianka_set(style, font->table, font->table_len, font->client,
+                         font->client_len, formula, formula_len, nodes, nodes_len,
+                         font->index, TORFIANKA_INDEX_WORDS, font->client_index,
+                         TORFIANKA_INDEX_WORDS, answer, TORFIANKA_ANSWER_WORDS);
+}
 
 #ifdef __cplusplus
 }

@@ -42,6 +42,7 @@ fn stack_bytes(call: Call, depth: usize) -> usize {
     let (table, client) = (BENCH.table, BENCH.client);
     let formula = nested(&BENCH.alphabet, LONGEST, depth);
     let mut nodes = vec![0; room(&BENCH, std::slice::from_ref(&formula))];
+    let [mut index, mut client_index] = [[0_u64; sys::INDEX_WORDS]; 2];
     let mut answer = [0; sys::ANSWER_WORDS];
 
     let lent = [
@@ -54,7 +55,14 @@ fn stack_bytes(call: Call, depth: usize) -> usize {
         formula.len(),
     ];
     let buffer = [nodes.as_mut_ptr() as usize, nodes.len()];
-    let words = [answer.as_mut_ptr() as usize, answer.len()];
+    let words = [
+        index.as_mut_ptr() as usize,
+        index.len(),
+        client_index.as_mut_ptr() as usize,
+        client_index.len(),
+        answer.as_mut_ptr() as usize,
+        answer.len(),
+    ];
     let (function, arguments) = match call {
         Call::Measure => (
             sys::torfianka_measure as *const (),

@@ -24,7 +24,7 @@ pub const BENCH: Font = Font {
         equals: (2, b'='),
     },
 };
-const CM: Font = Font {
+pub const CM: Font = Font {
     name: "cm.tab",
     table: include_bytes!("../../data/cm.tab"),
     client: &[],

@@ -1,7 +1,7 @@
 //! Formulas to set in a font, by either setter.
 
 use crate::tables::Font;
-use reference::NODE_BYTES;
+use reference::{Lent, INDEX_WORDS, NODE_BYTES};
 use std::hint::black_box;
 
 pub const DISPLAY: u8 = 0;
@@ -33,38 +33,63 @@ impl Setter {
             .into_iter()
             .find(|setter| setter.name() == name)
     }
+}
 
-    /// The number of the formula's nodes, none if it is refused.
-    fn call(self, call: Call, font: &Font, formula: &[u8], nodes: &mut [u8]) -> Option<usize> {
-        match self {
-            Setter::Library => by_library(call, font, formula, nodes),
-            Setter::Reference => by_reference(call, font, formula, nodes),
+/// A font as each setter keeps it, with indexes of its own.
+struct Kept {
+    library: torfianka::Font<'static>,
+    reference: (&'static Font, [[u64; INDEX_WORDS]; 2]),
+}
+
+impl Kept {
+    fn new(font: &'static Font) -> Kept {
+        Kept {
+            library: torfianka::Font::with_client(font.table, font.client),
+            reference: (font, [[0; INDEX_WORDS]; 2]),
         }
     }
-}
 
-fn by_library(call: Call, font: &Font, formula: &[u8], nodes: &mut [u8]) -> Option<usize> {
-    let font = torfianka::Font::with_client(font.table, font.client);
-    let answer = match call {
-        Call::Measure => torfianka::measure(DISPLAY, &font, formula),
-        Call::Set => torfianka::set(DISPLAY, &font, formula, nodes),
-    };
-    answer.ok().map(|measured| measured.count)
-}
+    /// The number of the formula's nodes, none if it is refused.
+    fn call(
+        &mut self,
+        setter: Setter,
+        call: Call,
+        formula: &[u8],
+        nodes: &mut [u8],
+    ) -> Option<usize> {
+        match setter {
+            Setter::Library => self.by_library(call, formula, nodes),
+            Setter::Reference => self.by_reference(call, formula, nodes),
+        }
+    }
 
-fn by_reference(call: Call, font: &Font, formula: &[u8], nodes: &mut [u8]) -> Option<usize> {
-    let Font { table, client, .. } = font;
-    let answer = match call {
-        Call::Measure => reference::measure(DISPLAY, table, client, formula),
-        Call::Set => reference::set(DISPLAY, table, client, formula, nodes),
-    };
-    (answer.number == 0).then_some(answer.count as usize)
+    fn by_library(&mut self, call: Call, formula: &[u8], nodes: &mut [u8]) -> Option<usize> {
+        let font = &mut self.library;
+        let answer = match call {
+            Call::Measure => torfianka::measure(DISPLAY, font, formula),
+            Call::Set => torfianka::set(DISPLAY, font, formula, nodes),
+        };
+        answer.ok().map(|measured| measured.count)
+    }
+
+    fn by_reference(&mut self, call: Call, formula: &[u8], nodes: &mut [u8]) -> Option<usize> {
+        let (Font { table, client, .. }, [index, client_index]) = &mut self.reference;
+        let lent = Lent {
+            index,
+            client_index,
+        };
+        let answer = match call {
+            Call::Measure => reference::measure_lent(DISPLAY, table, client, formula, lent),
+            Call::Set => reference::set_lent(DISPLAY, table, client, formula, nodes, lent),
+        };
+        (answer.number == 0).then_some(answer.count as usize)
+    }
 }
 
 pub struct Work {
     pub name: String,
     call: Call,
-    font: &'static Font,
+    font: Kept,
     formulas: Vec<Vec<u8>>,
     nodes: Vec<u8>,
 }
@@ -79,7 +104,7 @@ impl Work {
         Work {
             name: name.into(),
             call,
-            font,
+            font: Kept::new(font),
             nodes: vec![0; room(font, &formulas)],
             formulas,
         }
@@ -92,10 +117,10 @@ impl Work {
 
     /// Every turn calls the setter once for each formula.
     pub fn run(&mut self, setter: Setter, turns: usize) {
-        let (font, nodes) = (black_box(self.font), &mut self.nodes);
+        let (font, nodes) = (black_box(&mut self.font), &mut self.nodes);
         for _ in 0..turns {
             for formula in &self.formulas {
-                black_box(setter.call(self.call, font, black_box(formula), nodes));
+                black_box(font.call(setter, self.call, black_box(formula), nodes));
             }
         }
     }
@@ -103,10 +128,11 @@ impl Work {
 
 /// The bytes of each formula's nodes at most, after a look that both setters
 /// accept it.
-pub fn room(font: &Font, formulas: &[Vec<u8>]) -> usize {
+pub fn room(font: &'static Font, formulas: &[Vec<u8>]) -> usize {
+    let mut font = Kept::new(font);
     let counts = formulas.iter().map(|formula| {
         let [library, reference] =
-            Setter::BOTH.map(|setter| setter.call(Call::Measure, font, formula, &mut []));
+            Setter::BOTH.map(|setter| font.call(setter, Call::Measure, formula, &mut []));
         assert_eq!(library, reference, "both setters count the same nodes");
         library.expect("the formulas are accepted")
     });

@@ -96,16 +96,13 @@ static void print_answer(const int64_t *answer, const uint8_t *nodes)
 }
 
 /* Measures for the room, then sets; the nodes are the caller's to free. */
-static uint8_t set(uint8_t style, struct bytes table, struct bytes client, struct bytes formula,
+static uint8_t set(struct torfianka_font *font, uint8_t style, struct bytes formula,
                    uint8_t **nodes, int64_t *answer)
 {
-    torfianka_measure(style, table.start, table.length, client.start, client.length,
-                      formula.start, formula.length, answer, TORFIANKA_ANSWER_WORDS);
+    torfianka_measure_in(font, style, formula.start, formula.length, answer);
     size_t room = (size_t)answer[TORFIANKA_COUNT] * TORFIANKA_NODE_BYTES;
     *nodes = allocated(room);
-    return torfianka_set(style, table.start, table.length, client.start, client.length,
-                         formula.start, formula.length, *nodes, room, answer,
-                         TORFIANKA_ANSWER_WORDS);
+    return torfianka_set_in(font, style, formula.start, formula.length, *nodes, room, answer);
 }
 
 int main(int argc, char **argv)
@@ -123,9 +120,11 @@ int main(int argc, char **argv)
     size_t taken = record.length > 0;
     struct bytes formula = {record.start + taken, record.length - taken};
 
+    struct torfianka_font font = {table.start, table.length, client.start, client.length,
+                                  {0}, {0}};
     uint8_t *nodes;
     int64_t answer[TORFIANKA_ANSWER_WORDS];
-    uint8_t number = set(style, table, client, formula, &nodes, answer);
+    uint8_t number = set(&font, style, formula, &nodes, answer);
     if (number == TORFIANKA_ACCEPTED)
         print_answer(answer, nodes);
     else

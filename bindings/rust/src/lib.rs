@@ -6,15 +6,15 @@
 //! ```
 //! use torfianka::{measure, nodes, set, Font, Node, NODE_BYTES};
 //!
-//! let font = Font::new(include_bytes!("../../../data/bench.tab"));
+//! let mut font = Font::new(include_bytes!("../../../data/bench.tab"));
 //! let formula = b"UN\x01\x01a\x00\x00"; // an underlined a
 //! let text_style = 2;
 //!
-//! let measured = measure(text_style, &font, formula)?;
+//! let measured = measure(text_style, &mut font, formula)?;
 //! assert_eq!((measured.width, measured.height, measured.depth), (500, 430, 200));
 //!
 //! let mut buffer = vec![0; NODE_BYTES * measured.count];
-//! set(text_style, &font, formula, &mut buffer)?;
+//! set(text_style, &mut font, formula, &mut buffer)?;
 //! let set: Vec<Node> = nodes(&buffer).collect();
 //! assert_eq!(set[0], Node::Glyph { x: 0, y: 0, size: 0, family: 1, code: b'a' });
 //! assert_eq!(set[1], Node::Rule { x: 0, y: -160, width: 500, thickness: 40 });
@@ -29,23 +29,35 @@ pub use node::{nodes, Node, NODE_BYTES};
 use std::error::Error;
 use std::fmt;
 
-/// The tables that symbols are looked up in.
-#[derive(Clone, Copy, Debug)]
+/// The tables that symbols are looked up in, and an index of each.
+///
+/// The first call with good tables builds the indexes; keep the font, so that
+/// later calls find them built.
+#[derive(Clone, Debug)]
 pub struct Font<'a> {
     table: &'a [u8],
     client: &'a [u8],
+    index: Index,
+    client_index: Index,
 }
+
+type Index = [u64; sys::INDEX_WORDS];
 
 impl<'a> Font<'a> {
     /// A font table alone.
     pub fn new(table: &'a [u8]) -> Font<'a> {
-        Font { table, client: &[] }
+        Font::with_client(table, &[])
     }
 
     /// A font table and a client's, whose symbols go before the others. It has
     /// character records alone; an empty one is none.
     pub fn with_client(table: &'a [u8], client: &'a [u8]) -> Font<'a> {
-        Font { table, client }
+        Font {
+            table,
+            client,
+            index: [0; sys::INDEX_WORDS],
+            client_index: [0; sys::INDEX_WORDS],
+        }
     }
 }
 
@@ -59,7 +71,8 @@ pub struct Measured {
     pub count: usize,
 }
 
-/// Why a formula was not accepted, in the order tested.
+/// Why a formula was not accepted, in the order tested. Number 19, too few words
+/// for an index, never comes here: a [`Font`] has enough.
 ///
 /// | number | given when | place |
 /// |---|---|---|
@@ -89,8 +102,13 @@ impl Error for Refusal {}
 /// Finds the sizes of a formula and the number of its nodes.
 ///
 /// `style` is 0 to 7 for D, D', T, T', S, S', SS, SS'.
-pub fn measure(style: u8, font: &Font, formula: &[u8]) -> Result<Measured, Refusal> {
-    let Font { table, client } = *font;
+pub fn measure(style: u8, font: &mut Font, formula: &[u8]) -> Result<Measured, Refusal> {
+    let Font {
+        table,
+        client,
+        index,
+        client_index,
+    } = font;
     let mut answer = Words::default();
     // SAFETY: every pointer is a slice's, with that slice's length; the ones
     // written through are borrowed alone.
@@ -103,6 +121,10 @@ pub fn measure(style: u8, font: &Font, formula: &[u8]) -> Result<Measured, Refus
             client.len(),
             formula.as_ptr(),
             formula.len(),
+            index.as_mut_ptr(),
+            index.len(),
+            client_index.as_mut_ptr(),
+            client_index.len(),
             answer.as_mut_ptr(),
             answer.len(),
         )
@@ -113,8 +135,18 @@ pub fn measure(style: u8, font: &Font, formula: &[u8]) -> Result<Measured, Refus
 /// Measures, and writes the nodes to the front of `nodes`.
 ///
 /// The bytes past the nodes, and on a refusal all of them, stay as they are.
-pub fn set(style: u8, font: &Font, formula: &[u8], nodes: &mut [u8]) -> Result<Measured, Refusal> {
-    let Font { table, client } = *font;
+pub fn set(
+    style: u8,
+    font: &mut Font,
+    formula: &[u8],
+    nodes: &mut [u8],
+) -> Result<Measured, Refusal> {
+    let Font {
+        table,
+        client,
+        index,
+        client_index,
+    } = font;
     let mut answer = Words::default();
     // SAFETY: as in `measure`.
     let number = unsafe {
@@ -128,6 +160,10 @@ pub fn set(style: u8, font: &Font, formula: &[u8], nodes: &mut [u8]) -> Result<M
             formula.len(),
             nodes.as_mut_ptr(),
             nodes.len(),
+            index.as_mut_ptr(),
+            index.len(),
+            client_index.as_mut_ptr(),
+            client_index.len(),
             answer.as_mut_ptr(),
             answer.len(),
         )

@@ -6,6 +6,9 @@ pub const ANSWER_WORDS: usize = 5;
 /// What a call with fewer than [`ANSWER_WORDS`] returns.
 pub const SHORT_ANSWER: u8 = 255;
 
+/// The words of an index.
+pub const INDEX_WORDS: usize = 240;
+
 extern "C" {
     pub fn torfianka_measure(
         style: u8,
@@ -15,6 +18,10 @@ extern "C" {
         client_len: usize,
         formula: *const u8,
         formula_len: usize,
+        index: *mut u64,
+        index_len: usize,
+        client_index: *mut u64,
+        client_index_len: usize,
         answer: *mut i64,
         answer_len: usize,
     ) -> u8;
@@ -29,6 +36,10 @@ extern "C" {
         formula_len: usize,
         nodes: *mut u8,
         nodes_len: usize,
+        index: *mut u64,
+        index_len: usize,
+        client_index: *mut u64,
+        client_index_len: usize,
         answer: *mut i64,
         answer_len: usize,
     ) -> u8;

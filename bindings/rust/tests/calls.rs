@@ -22,15 +22,15 @@ fn an_empty_formula_has_no_nodes() {
         depth: 0,
         count: 0,
     };
-    assert_eq!(measure(TEXT, &font(), &[]), Ok(nothing));
-    assert_eq!(set(TEXT, &font(), &[], &mut []), Ok(nothing));
+    assert_eq!(measure(TEXT, &mut font(), &[]), Ok(nothing));
+    assert_eq!(set(TEXT, &mut font(), &[], &mut []), Ok(nothing));
 }
 
 #[test]
 fn an_underlined_letter_has_the_bytes_of_the_papers() {
     let mut buffer = [FILLING; 2 * NODE_BYTES + 1];
-    let measured = set(TEXT, &font(), UNDERLINED, &mut buffer);
-    assert_eq!(measured, measure(TEXT, &font(), UNDERLINED));
+    let measured = set(TEXT, &mut font(), UNDERLINED, &mut buffer);
+    assert_eq!(measured, measure(TEXT, &mut font(), UNDERLINED));
     assert_eq!(
         buffer,
         *b"GL\0\0\0\0\0\0\0\0\0\x01a\0\0\0\0\0\
@@ -42,7 +42,7 @@ fn an_underlined_letter_has_the_bytes_of_the_papers() {
 fn a_sum_takes_its_successor_and_limits_in_display_style() {
     let formula = b"AT\x01\x00\x01\x03\x50\x00\x01\x01a";
     let mut buffer = [0; 2 * NODE_BYTES];
-    let measured = set(DISPLAY, &font(), formula, &mut buffer).unwrap();
+    let measured = set(DISPLAY, &mut font(), formula, &mut buffer).unwrap();
     let sizes = (measured.width, measured.height, measured.depth);
     assert_eq!(sizes, (1400, 950, 1150));
     let lines: Vec<String> = nodes(&buffer).map(|node| node.to_string()).collect();
@@ -51,31 +51,49 @@ fn a_sum_takes_its_successor_and_limits_in_display_style() {
 
 #[test]
 fn a_clients_symbol_goes_before_ours() {
-    let width = |client| measure(TEXT, &Font::with_client(TABLE, client), UNDERLINED);
+    let width = |client| measure(TEXT, &mut Font::with_client(TABLE, client), UNDERLINED);
     assert_eq!(width(WIDE_A).unwrap().width, 700);
-    assert_eq!(width(&[]), measure(TEXT, &font(), UNDERLINED));
+    assert_eq!(width(&[]), measure(TEXT, &mut font(), UNDERLINED));
     let cut = width(&WIDE_A[1..]).unwrap_err();
     assert_eq!((cut.number, cut.place), (8, 0));
+}
+
+#[test]
+fn a_font_serves_many_calls() {
+    let mut font = Font::with_client(TABLE, WIDE_A);
+    let twice = [UNDERLINED, UNDERLINED].concat();
+    let absent = b"UN\x01\x01b\x00\x00";
+    for _ in 0..2 {
+        assert_eq!(measure(TEXT, &mut font, UNDERLINED).unwrap().width, 700);
+        assert_eq!(measure(8, &mut font, UNDERLINED).unwrap_err().number, 1);
+        assert_eq!(measure(TEXT, &mut font, absent).unwrap_err().number, 5);
+        let mut buffer = [0; 4 * NODE_BYTES];
+        let measured = set(TEXT, &mut font, &twice, &mut buffer).unwrap();
+        assert_eq!((measured.width, measured.count), (1400, 4));
+    }
+    let mut copy = font.clone();
+    let [first, second] = [&mut font, &mut copy].map(|font| measure(TEXT, font, &twice));
+    assert_eq!(first, second);
 }
 
 #[test]
 fn refusals_have_number_and_place() {
     let refused = |number, place| Err(Refusal { number, place });
     let absent = b"UN\x01\x01b\x00\x00";
-    assert_eq!(measure(8, &font(), UNDERLINED), refused(1, 0));
+    assert_eq!(measure(8, &mut font(), UNDERLINED), refused(1, 0));
     assert_eq!(
-        measure(TEXT, &Font::new(&TABLE[1..]), UNDERLINED),
+        measure(TEXT, &mut Font::new(&TABLE[1..]), UNDERLINED),
         refused(2, 0)
     );
-    assert_eq!(measure(TEXT, &font(), &UNDERLINED[..6]), refused(3, 0));
-    assert_eq!(measure(TEXT, &font(), absent), refused(5, 2));
+    assert_eq!(measure(TEXT, &mut font(), &UNDERLINED[..6]), refused(3, 0));
+    assert_eq!(measure(TEXT, &mut font(), absent), refused(5, 2));
     assert_eq!(refused(5, 2).unwrap_err().to_string(), "refused 5 at 2");
 }
 
 #[test]
 fn a_short_buffer_stays_as_it_is() {
     let mut buffer = [FILLING; 2 * NODE_BYTES - 1];
-    let answer = set(TEXT, &font(), UNDERLINED, &mut buffer);
+    let answer = set(TEXT, &mut font(), UNDERLINED, &mut buffer);
     assert_eq!(answer.unwrap_err().number, 7);
     assert_eq!(buffer, [FILLING; 2 * NODE_BYTES - 1]);
 }

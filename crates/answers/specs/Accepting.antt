@@ -1,7 +1,8 @@
 -- What an acceptance says, and what it takes.
 --     Accepted           setting accepts a formula with room enough; its style, and the tree that it reads to
 --     accepted-reads     whatever setting accepts has a style and a tree
---     Passed             of a tree between two sides: both tables are good, no symbol is missing, and all of it fits
+--     Passed             of a tree between two sides: both tables are good, words enough are lent, no symbol is missing, and all of it
+--                        fits
 --     passed, boxed-of   the tree of an accepted formula passes, without sides; bytes whose tree passes are boxed, between the same sides
 -- Assumes nothing.
 use mathlib.Core.Path.{_≡_, refl, sym, ap, _∙_}
@@ -20,36 +21,34 @@ use Rattle.boxes.specs.Styles.{styleOf}
 use Rattle.setting.specs.Setting.{Box, Sides, noSides, setList}
 use Rattle.setting.specs.Missing.{missingItems}
 use Rattle.setting.specs.Fitting.{listFits}
-use Rattle.answers.specs.Answers.{Result, boxed, acceptedNumber, ifFits, ifPresent, ifRead, ifClient, ifGood, ifStyle, resultBetween, setBy, setting, settingBetween}
+use Rattle.answers.specs.Lent.{Lent, enough}
+use Rattle.answers.specs.Answers.{Result, boxed, acceptedNumber, ifFits, ifPresent, ifRead, ifEnough, ifClient, ifGood, ifStyle, resultBetween, setBy, setting, settingBetween}
 use Rattle.answers.specs.AnswersLaws.{tested-is, read-is, box-is}
 
-pub record Accepted (style : ℕ) (table client formula : List ℕ) (s : Style) (tree : Items) : Type 0 where
+pub record Accepted (style : ℕ) (table client : List ℕ) (lent : Lent) (formula : List ℕ) (s : Style) (tree : Items) : Type 0 where
   pub style-is : styleOf style ≡ some s
   pub reads : readFormula formula ≡ good tree
   pub room : ℕ
-  pub is-accepted : setting style table client formula room .number ≡ acceptedNumber
+  pub is-accepted : setting style table client lent formula room .number ≡ acceptedNumber
 
-pub record Passed (sides : Sides) (table client : List ℕ) (s : Style) (tree : Items) : Type 0 where
+pub record Passed (sides : Sides) (table client : List ℕ) (lent : Lent) (s : Style) (tree : Items) : Type 0 where
   pub table-good : goodTable table ≡ true
   pub client-good : goodClient table client ≡ true
+  pub words-enough : enough lent ≡ true
   pub none-missing : missingItems (fontWith table client) s tree ≡ none
   pub fits : listFits (fontWith table client) sides s tree ≡ true
 
 -- ---- each test that is not passed makes a number other than 0
 
 module _ (room : ℕ) where
-  client-passed : (F : Font) (s : Style) (r : Read) (c : Bool) →
-      setBy room (ifClient c F noSides s r) .number ≡ acceptedNumber → c ≡ true
-  unfolding ifClient setBy
-  client-passed F s r true e = refl
-  client-passed F s r false e = absurd (omega arith)
-
-  -- of ours and the client's
-  tables-passed : (F : Font) (s : Style) (r : Read) (t c : Bool) →
-      setBy room (ifGood t c F noSides s r) .number ≡ acceptedNumber → (t ≡ true) × (c ≡ true)
-  unfolding ifGood setBy
-  tables-passed F s r true c e = (refl, client-passed F s r c e)
-  tables-passed F s r false c e = absurd (omega arith)
+  -- of ours, the client's and the words for their indexes
+  tables-passed : (F : Font) (s : Style) (r : Read) (t c w : Bool) →
+      setBy room (ifGood t c w F noSides s r) .number ≡ acceptedNumber → (t ≡ true) × (c ≡ true) × (w ≡ true)
+  unfolding ifGood ifClient ifEnough setBy
+  tables-passed F s r true true true e = (refl, refl, refl)
+  tables-passed F s r true true false e = absurd (omega arith)
+  tables-passed F s r true false w e = absurd (omega arith)
+  tables-passed F s r false c w e = absurd (omega arith)
 
   reading-passed : (F : Font) (s : Style) (r : Read) →
       setBy room (ifRead F noSides s r) .number ≡ acceptedNumber → (tree : Items) × (r ≡ good tree)
@@ -71,47 +70,47 @@ module _ (room : ℕ) where
 
 -- ---- a style and a tree
 
-pub accepted-reads : (style : ℕ) (table client formula : List ℕ) (room : ℕ) →
-    setting style table client formula room .number ≡ acceptedNumber →
-    (s : Style) × (tree : Items) × Accepted style table client formula s tree
-unfolding settingBetween resultBetween ifStyle setBy ifGood ifClient
-accepted-reads style table client formula room e = go (styleOf style) refl e
+pub accepted-reads : (style : ℕ) (table client : List ℕ) (lent : Lent) (formula : List ℕ) (room : ℕ) →
+    setting style table client lent formula room .number ≡ acceptedNumber →
+    (s : Style) × (tree : Items) × Accepted style table client lent formula s tree
+unfolding settingBetween resultBetween ifStyle setBy ifGood ifClient ifEnough
+accepted-reads style table client lent formula room e = go (styleOf style) refl e
   where
     F : Font
     F = fontWith table client
 
-    go : (o : Option Style) → styleOf style ≡ o → setBy room (ifStyle noSides table client formula o) .number ≡ acceptedNumber →
-        (s : Style) × (tree : Items) × Accepted style table client formula s tree
+    go : (o : Option Style) → styleOf style ≡ o → setBy room (ifStyle noSides table client lent formula o) .number ≡ acceptedNumber →
+        (s : Style) × (tree : Items) × Accepted style table client lent formula s tree
     go none is q = absurd (omega arith)
     go (some s) is q =
-        let t = tables-passed room F s (readFormula formula) (goodTable table) (goodClient table client) q in
-        let read-on : setBy room (ifRead F noSides s (readFormula formula)) .number ≡ acceptedNumber = rw (t .0, t .1) at q in
+        let t = tables-passed room F s (readFormula formula) (goodTable table) (goodClient table client) (enough lent) q in
+        let read-on : setBy room (ifRead F noSides s (readFormula formula)) .number ≡ acceptedNumber = rw (t .0, t .1, t .2) at q in
         let r = reading-passed room F s (readFormula formula) read-on in
         (s, r .0, record { style-is = is; reads = r .1; room = room; is-accepted = e })
 
 -- ---- from the answer to the tree, and back
 
-module _ (sides : Sides) (style : ℕ) (table client formula : List ℕ) (s : Style) (tree : Items) where
-  pub boxed-of : styleOf style ≡ some s → readFormula formula ≡ good tree → Passed sides table client s tree →
-      resultBetween sides style table client formula ≡ boxed (setList (fontWith table client) sides s tree)
+module _ (sides : Sides) (style : ℕ) (table client : List ℕ) (lent : Lent) (formula : List ℕ) (s : Style) (tree : Items) where
+  pub boxed-of : styleOf style ≡ some s → readFormula formula ≡ good tree → Passed sides table client lent s tree →
+      resultBetween sides style table client lent formula ≡ boxed (setList (fontWith table client) sides s tree)
   unfolding ifRead
   boxed-of style-is reads h =
-      read-is sides style table client formula s style-is (h .table-good) (h .client-good) (good tree) reads
+      read-is sides style table client lent formula s style-is (h .table-good) (h .client-good) (h .words-enough) (good tree) reads
       ∙ box-is sides (fontWith table client) s tree (h .none-missing) (h .fits)
 
-pub passed : {style : ℕ} {table client formula : List ℕ} {s : Style} {tree : Items} →
-    Accepted style table client formula s tree → Passed noSides table client s tree
-unfolding settingBetween ifGood ifClient ifRead ifPresent
-passed {style} {table} {client} {formula} {s} {tree} h =
+pub passed : {style : ℕ} {table client : List ℕ} {lent : Lent} {formula : List ℕ} {s : Style} {tree : Items} →
+    Accepted style table client lent formula s tree → Passed noSides table client lent s tree
+unfolding settingBetween ifGood ifClient ifEnough ifRead ifPresent
+passed {style} {table} {client} {lent} {formula} {s} {tree} h =
     let F = fontWith table client in
     let room = h .room in
-    let is = tested-is noSides style table client formula s (h .style-is) (goodTable table) (goodClient table client) (good tree) refl refl (h .reads) in
-    let tested : setBy room (ifGood (goodTable table) (goodClient table client) F noSides s (good tree)) .number ≡ acceptedNumber =
+    let is = tested-is noSides style table client lent formula s (h .style-is) (goodTable table) (goodClient table client) (enough lent) (good tree) refl refl refl (h .reads) in
+    let tested : setBy room (ifGood (goodTable table) (goodClient table client) (enough lent) F noSides s (good tree)) .number ≡ acceptedNumber =
     ap (λ (r : Result). setBy room r .number) (sym is) ∙ h .is-accepted
     in
-    let good-tables = tables-passed room F s (good tree) (goodTable table) (goodClient table client) tested in
+    let good-tables = tables-passed room F s (good tree) (goodTable table) (goodClient table client) (enough lent) tested in
     let tested-symbols : setBy room (ifPresent F noSides s tree (missingItems F s tree)) .number ≡ acceptedNumber =
-    rw (good-tables .0, good-tables .1) at tested
+    rw (good-tables .0, good-tables .1, good-tables .2) at tested
     in
     let none-missing = symbols-passed room F s tree (missingItems F s tree) tested-symbols in
     let tested-fit : setBy room (ifFits (listFits F noSides s tree) (setList F noSides s tree)) .number ≡ acceptedNumber =
@@ -120,6 +119,7 @@ passed {style} {table} {client} {formula} {s} {tree} h =
     record {
       table-good = good-tables .0;
       client-good = good-tables .1;
+      words-enough = good-tables .2;
       none-missing = none-missing;
       fits = fit-passed room (setList F noSides s tree) (listFits F noSides s tree) tested-fit;
     }

@@ -21,7 +21,8 @@ use Rattle.nodes.specs.Nodes.{bytesInNode}
 use Rattle.setting.specs.Setting.{Box, Sides, noSides, setList}
 use Rattle.setting.specs.Missing.{missingItems}
 use Rattle.setting.specs.Fitting.{listFits}
-use Rattle.answers.specs.Answers.{Result, boxed, refused, ifFits, ifPresent, ifRead, ifClient, ifGood, ifStyle, resultBetween, Answered, accepted, refusal, measuredBy, measured, measuredBetween, hasRoom, setBy, setting, settingBetween, acceptedNumber, noRoomNumber}
+use Rattle.answers.specs.Lent.{Lent, enough}
+use Rattle.answers.specs.Answers.{Result, boxed, refused, ifFits, ifPresent, ifRead, ifEnough, ifClient, ifGood, ifStyle, resultBetween, Answered, accepted, refusal, measuredBy, measured, measuredBetween, hasRoom, setBy, setting, settingBetween, acceptedNumber, noRoomNumber}
 
 -- ---- a refusal before the test of room has neither the number of an acceptance nor that of this test
 
@@ -46,25 +47,22 @@ module _ (sides : Sides) where
   read-before F s (fault Unreadable place) = omega arith
   read-before F s (fault TooDeep place) = omega arith
 
-  client-before : (t : Bool) (F : Font) (s : Style) (r : Read) → RefusedBefore (ifClient t F sides s r)
-  unfolding ifClient
-  client-before true F s r = read-before F s r
-  client-before false F s r = omega arith
+  good-before : (t c w : Bool) (F : Font) (s : Style) (r : Read) → RefusedBefore (ifGood t c w F sides s r)
+  unfolding ifGood ifClient ifEnough
+  good-before true true true F s r = read-before F s r
+  good-before true true false F s r = omega arith
+  good-before true false w F s r = omega arith
+  good-before false c w F s r = omega arith
 
-  good-before : (t c : Bool) (F : Font) (s : Style) (r : Read) → RefusedBefore (ifGood t c F sides s r)
-  unfolding ifGood
-  good-before true c F s r = client-before c F s r
-  good-before false c F s r = omega arith
-
-  style-before : (table client formula : List ℕ) (s : Option Style) → RefusedBefore (ifStyle sides table client formula s)
+  style-before : (table client : List ℕ) (lent : Lent) (formula : List ℕ) (s : Option Style) → RefusedBefore (ifStyle sides table client lent formula s)
   unfolding ifStyle
-  style-before table client formula none = omega arith
-  style-before table client formula (some s) =
-      good-before (goodTable table) (goodClient table client) (fontWith table client) s (readFormula formula)
+  style-before table client lent formula none = omega arith
+  style-before table client lent formula (some s) =
+      good-before (goodTable table) (goodClient table client) (enough lent) (fontWith table client) s (readFormula formula)
 
-  result-before : (style : ℕ) (table client formula : List ℕ) → RefusedBefore (resultBetween sides style table client formula)
+  result-before : (style : ℕ) (table client : List ℕ) (lent : Lent) (formula : List ℕ) → RefusedBefore (resultBetween sides style table client lent formula)
   unfolding resultBetween
-  result-before style table client formula = style-before table client formula (styleOf style)
+  result-before style table client lent formula = style-before table client lent formula (styleOf style)
 
 -- ---- measuring and setting
 
@@ -104,12 +102,12 @@ by-result (refused number place) room h =
       same = λ k. refl;
     }
 
-agree-between : (sides : Sides) (style : ℕ) (table client formula : List ℕ) (room : ℕ) →
-    Agrees (measuredBetween sides style table client formula) (settingBetween sides style table client formula room) room
+agree-between : (sides : Sides) (style : ℕ) (table client : List ℕ) (lent : Lent) (formula : List ℕ) (room : ℕ) →
+    Agrees (measuredBetween sides style table client lent formula) (settingBetween sides style table client lent formula room) room
 unfolding measuredBetween settingBetween
-agree-between sides style table client formula room =
-    by-result (resultBetween sides style table client formula) room (result-before sides style table client formula)
+agree-between sides style table client lent formula room =
+    by-result (resultBetween sides style table client lent formula) room (result-before sides style table client lent formula)
 
-measuring-and-setting-agree : (style : ℕ) (table client formula : List ℕ) (room : ℕ) →
-    Agrees (measured style table client formula) (setting style table client formula room) room
+measuring-and-setting-agree : (style : ℕ) (table client : List ℕ) (lent : Lent) (formula : List ℕ) (room : ℕ) →
+    Agrees (measured style table client lent formula) (setting style table client lent formula room) room
 measuring-and-setting-agree = agree-between noSides

@@ -1,5 +1,5 @@
 -- What measuring and setting answer, for any bytes (document 01, "Answer numbers, in the order they are tested"), and the
--- node buffer after setting. A formula has no neighbours. The list of a fence, taken by itself, has two (change request 4), so that the
+-- node buffer after setting. The words that are lent are in `Lent`. A formula has no neighbours. The list of a fence, taken by itself, has two (change request 4), so that the
 -- answers are defined of a list between two sides (`resultBetween`), and those of a formula are the ones without (`resultOf`).
 -- Assumes nothing.
 use mathlib.Core.Bool.{Bool, true, false}
@@ -21,6 +21,7 @@ use Rattle.nodes.specs.Nodes.{bytesOf, bytesInNode}
 use Rattle.setting.specs.Setting.{Box, Sides, noSides, setList}
 use Rattle.setting.specs.Missing.{missingItems}
 use Rattle.setting.specs.Fitting.{listFits}
+use Rattle.answers.specs.Lent.{Lent, enough}
 
 -- ---- the answer numbers
 
@@ -51,6 +52,10 @@ noRoomNumber = 7
 abbrev pub clientNumber : ℕ
 clientNumber = 8
 
+-- tested right after the client's table
+abbrev pub indexNumber : ℕ
+indexNumber = 19
+
 -- ---- what is found: the box, or the number and place of the refusal
 
 pub data Result : Type 0 where
@@ -72,27 +77,32 @@ unfoldable pub ifRead : Font → Sides → Style → Read → Result
 ifRead F sides s (good l) = ifPresent F sides s l (missingItems F s l)
 ifRead F sides s (fault why place) = refused (faultNumber why) place
 
+-- 19
+unfoldable pub ifEnough : Bool → Font → Sides → Style → Read → Result
+ifEnough true F sides s r = ifRead F sides s r
+ifEnough false F sides s r = refused indexNumber 0
+
 -- 8
-unfoldable pub ifClient : Bool → Font → Sides → Style → Read → Result
-ifClient true F sides s r = ifRead F sides s r
-ifClient false F sides s r = refused clientNumber 0
+unfoldable pub ifClient : Bool → Bool → Font → Sides → Style → Read → Result
+ifClient true words F sides s r = ifEnough words F sides s r
+ifClient false words F sides s r = refused clientNumber 0
 
 -- 2
-unfoldable pub ifGood : Bool → Bool → Font → Sides → Style → Read → Result
-ifGood true client F sides s r = ifClient client F sides s r
-ifGood false client F sides s r = refused tableNumber 0
+unfoldable pub ifGood : Bool → Bool → Bool → Font → Sides → Style → Read → Result
+ifGood true client words F sides s r = ifClient client words F sides s r
+ifGood false client words F sides s r = refused tableNumber 0
 
 -- 1
-unfoldable pub ifStyle : Sides → List ℕ → List ℕ → List ℕ → Option Style → Result
-ifStyle sides table client formula none = refused styleNumber 0
-ifStyle sides table client formula (some s) =
-    ifGood (goodTable table) (goodClient table client) (fontWith table client) sides s (readFormula formula)
+unfoldable pub ifStyle : Sides → List ℕ → List ℕ → Lent → List ℕ → Option Style → Result
+ifStyle sides table client lent formula none = refused styleNumber 0
+ifStyle sides table client lent formula (some s) =
+    ifGood (goodTable table) (goodClient table client) (enough lent) (fontWith table client) sides s (readFormula formula)
 
-unfoldable pub resultBetween : Sides → ℕ → List ℕ → List ℕ → List ℕ → Result
-resultBetween sides style table client formula = ifStyle sides table client formula (styleOf style)
+unfoldable pub resultBetween : Sides → ℕ → List ℕ → List ℕ → Lent → List ℕ → Result
+resultBetween sides style table client lent formula = ifStyle sides table client lent formula (styleOf style)
 
-abbrev pub resultOf : ℕ → List ℕ → List ℕ → List ℕ → Result
-resultOf style table client formula = resultBetween noSides style table client formula
+abbrev pub resultOf : ℕ → List ℕ → List ℕ → Lent → List ℕ → Result
+resultOf style table client lent formula = resultBetween noSides style table client lent formula
 
 -- ---- the answers
 
@@ -113,11 +123,11 @@ unfoldable pub measuredBy : Result → Answered
 measuredBy (boxed b) = accepted b
 measuredBy (refused number place) = refusal number place
 
-unfoldable pub measuredBetween : Sides → ℕ → List ℕ → List ℕ → List ℕ → Answered
-measuredBetween sides style table client formula = measuredBy (resultBetween sides style table client formula)
+unfoldable pub measuredBetween : Sides → ℕ → List ℕ → List ℕ → Lent → List ℕ → Answered
+measuredBetween sides style table client lent formula = measuredBy (resultBetween sides style table client lent formula)
 
-abbrev pub measured : ℕ → List ℕ → List ℕ → List ℕ → Answered
-measured style table client formula = measuredBetween noSides style table client formula
+abbrev pub measured : ℕ → List ℕ → List ℕ → Lent → List ℕ → Answered
+measured style table client lent formula = measuredBetween noSides style table client lent formula
 
 -- 7: whether a buffer of this many bytes has room for the nodes of a box
 unfoldable pub hasRoom : ℕ → Box → Bool
@@ -127,11 +137,11 @@ unfoldable pub setBy : ℕ → Result → Answered
 setBy room (boxed b) = elim (hasRoom room b) [ true ↦ accepted b | false ↦ refusal noRoomNumber 0 ]
 setBy room (refused number place) = refusal number place
 
-unfoldable pub settingBetween : Sides → ℕ → List ℕ → List ℕ → List ℕ → ℕ → Answered
-settingBetween sides style table client formula room = setBy room (resultBetween sides style table client formula)
+unfoldable pub settingBetween : Sides → ℕ → List ℕ → List ℕ → Lent → List ℕ → ℕ → Answered
+settingBetween sides style table client lent formula room = setBy room (resultBetween sides style table client lent formula)
 
-abbrev pub setting : ℕ → List ℕ → List ℕ → List ℕ → ℕ → Answered
-setting style table client formula room = settingBetween noSides style table client formula room
+abbrev pub setting : ℕ → List ℕ → List ℕ → Lent → List ℕ → ℕ → Answered
+setting style table client lent formula room = settingBetween noSides style table client lent formula room
 
 -- an acceptance writes the nodes at the buffer's front, a refusal nothing
 unfoldable pub bufferBy : List ℕ → Result → List ℕ
@@ -142,8 +152,8 @@ bufferBy buffer (boxed b) =
     ]
 bufferBy buffer (refused number place) = buffer
 
-unfoldable pub bufferBetween : Sides → ℕ → List ℕ → List ℕ → List ℕ → List ℕ → List ℕ
-bufferBetween sides style table client formula buffer = bufferBy buffer (resultBetween sides style table client formula)
+unfoldable pub bufferBetween : Sides → ℕ → List ℕ → List ℕ → Lent → List ℕ → List ℕ → List ℕ
+bufferBetween sides style table client lent formula buffer = bufferBy buffer (resultBetween sides style table client lent formula)
 
-abbrev pub bufferAfter : ℕ → List ℕ → List ℕ → List ℕ → List ℕ → List ℕ
-bufferAfter style table client formula buffer = bufferBetween noSides style table client formula buffer
+abbrev pub bufferAfter : ℕ → List ℕ → List ℕ → Lent → List ℕ → List ℕ → List ℕ
+bufferAfter style table client lent formula buffer = bufferBetween noSides style table client lent formula buffer

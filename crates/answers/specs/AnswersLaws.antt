@@ -1,5 +1,5 @@
 -- The answers of a list between two sides, a law for each way that it goes. A formula is a list without sides.
---     no-style, bad-table, bad-client, read-is         the tests before the setting
+--     no-style, bad-table, bad-client, few-words, read-is     the tests before the setting
 --     missing-refused, box-is, large-refused           what is found of a tree
 --     measured-boxed, set-boxed, buffer-boxed          what measuring and setting make of a box, where there is room
 --     no-room-is                                       what setting makes of it where there is none
@@ -22,38 +22,44 @@ use Rattle.nodes.specs.Nodes.{bytesOf, bytesInNode}
 use Rattle.setting.specs.Setting.{Box, Sides, setList}
 use Rattle.setting.specs.Missing.{missingItems}
 use Rattle.setting.specs.Fitting.{listFits}
-use Rattle.answers.specs.Answers.{boxed, refused, styleNumber, tableNumber, clientNumber, missingNumber, tooLargeNumber, noRoomNumber, ifFits, ifPresent, ifRead, ifClient, ifGood, ifStyle, resultBetween, accepted, refusal, measuredBy, measuredBetween, hasRoom, setBy, settingBetween, bufferBy, bufferBetween}
+use Rattle.answers.specs.Lent.{Lent, enough}
+use Rattle.answers.specs.Answers.{boxed, refused, styleNumber, tableNumber, clientNumber, indexNumber, missingNumber, tooLargeNumber, noRoomNumber, ifFits, ifPresent, ifRead, ifEnough, ifClient, ifGood, ifStyle, resultBetween, accepted, refusal, measuredBy, measuredBetween, hasRoom, setBy, settingBetween, bufferBy, bufferBetween}
 
 -- ---- the tests before the setting
 
-module _ (sides : Sides) (style : ℕ) (table client formula : List ℕ) where
-  pub no-style : styleOf style ≡ none → resultBetween sides style table client formula ≡ refused styleNumber 0
+module _ (sides : Sides) (style : ℕ) (table client : List ℕ) (lent : Lent) (formula : List ℕ) where
+  pub no-style : styleOf style ≡ none → resultBetween sides style table client lent formula ≡ refused styleNumber 0
   unfolding resultBetween ifStyle
-  no-style e = ap (ifStyle sides table client formula) e
+  no-style e = ap (ifStyle sides table client lent formula) e
 
   module _ (s : Style) (is : styleOf style ≡ some s) where
-    pub tested-is : (t c : Bool) (r : Read) → goodTable table ≡ t → goodClient table client ≡ c → readFormula formula ≡ r →
-        resultBetween sides style table client formula ≡ ifGood t c (fontWith table client) sides s r
+    pub tested-is : (t c w : Bool) (r : Read) → goodTable table ≡ t → goodClient table client ≡ c → enough lent ≡ w → readFormula formula ≡ r →
+        resultBetween sides style table client lent formula ≡ ifGood t c w (fontWith table client) sides s r
     unfolding resultBetween ifStyle
-    tested-is t c r ours theirs reads =
+    tested-is t c w r ours theirs words reads =
         let F = fontWith table client in
-        ap (ifStyle sides table client formula) is
-        ∙ ap₂ (λ (t c : Bool). ifGood t c F sides s (readFormula formula)) ours theirs
-        ∙ ap (ifGood t c F sides s) reads
+        ap (ifStyle sides table client lent formula) is
+        ∙ ap₂ (λ (t c : Bool). ifGood t c (enough lent) F sides s (readFormula formula)) ours theirs
+        ∙ ap₂ (λ (w : Bool) (r : Read). ifGood t c w F sides s r) words reads
 
-    pub bad-table : goodTable table ≡ false → resultBetween sides style table client formula ≡ refused tableNumber 0
+    pub bad-table : goodTable table ≡ false → resultBetween sides style table client lent formula ≡ refused tableNumber 0
     unfolding ifGood
-    bad-table bad = tested-is false _ _ bad refl refl
+    bad-table bad = tested-is false _ _ _ bad refl refl refl
 
     module _ (good : goodTable table ≡ true) where
-      pub bad-client : goodClient table client ≡ false → resultBetween sides style table client formula ≡ refused clientNumber 0
+      pub bad-client : goodClient table client ≡ false → resultBetween sides style table client lent formula ≡ refused clientNumber 0
       unfolding ifGood ifClient
-      bad-client bad = tested-is true false _ good bad refl
+      bad-client bad = tested-is true false _ _ good bad refl refl
 
-      pub read-is : goodClient table client ≡ true → (r : Read) → readFormula formula ≡ r →
-          resultBetween sides style table client formula ≡ ifRead (fontWith table client) sides s r
-      unfolding ifGood ifClient
-      read-is fine r reads = tested-is true true r good fine reads
+      module _ (fine : goodClient table client ≡ true) where
+        pub few-words : enough lent ≡ false → resultBetween sides style table client lent formula ≡ refused indexNumber 0
+        unfolding ifGood ifClient ifEnough
+        few-words few = tested-is true true false _ good fine few refl
+
+        pub read-is : enough lent ≡ true → (r : Read) → readFormula formula ≡ r →
+            resultBetween sides style table client lent formula ≡ ifRead (fontWith table client) sides s r
+        unfolding ifGood ifClient ifEnough
+        read-is words r reads = tested-is true true true r good fine words reads
 
 -- ---- what is found of a tree
 
@@ -78,33 +84,33 @@ module _ (sides : Sides) (F : Font) (s : Style) (l : Items) where
 
 -- ---- what is made of a box, by the count that measuring gives
 
-module _ (sides : Sides) (style : ℕ) (table client formula : List ℕ) (b : Box) (is : resultBetween sides style table client formula ≡ boxed b) where
-  pub measured-boxed : measuredBetween sides style table client formula ≡ accepted b
+module _ (sides : Sides) (style : ℕ) (table client : List ℕ) (lent : Lent) (formula : List ℕ) (b : Box) (is : resultBetween sides style table client lent formula ≡ boxed b) where
+  pub measured-boxed : measuredBetween sides style table client lent formula ≡ accepted b
   unfolding measuredBetween measuredBy
   measured-boxed = ap measuredBy is
 
-  room-is : (bytes : ℕ) → bytesInNode * measuredBetween sides style table client formula .count ≤ bytes → hasRoom bytes b ≡ true
+  room-is : (bytes : ℕ) → bytesInNode * measuredBetween sides style table client lent formula .count ≤ bytes → hasRoom bytes b ≡ true
   unfolding hasRoom
   room-is bytes h = le-leb (bytesInNode * length (b .nodes)) bytes (rw measured-boxed at h)
 
-  pub set-boxed : (room : ℕ) → bytesInNode * measuredBetween sides style table client formula .count ≤ room →
-      settingBetween sides style table client formula room ≡ measuredBetween sides style table client formula
+  pub set-boxed : (room : ℕ) → bytesInNode * measuredBetween sides style table client lent formula .count ≤ room →
+      settingBetween sides style table client lent formula room ≡ measuredBetween sides style table client lent formula
   unfolding settingBetween setBy
   set-boxed room h = ap (setBy room) is ∙ rw (room-is room h, setBy) (sym measured-boxed)
 
   pub buffer-boxed : (buffer : List ℕ) →
-      let bytes = bytesInNode * measuredBetween sides style table client formula .count in
-      bytes ≤ length buffer → bufferBetween sides style table client formula buffer ≡ bytesOf (b .nodes) ++ drop bytes buffer
+      let bytes = bytesInNode * measuredBetween sides style table client lent formula .count in
+      bytes ≤ length buffer → bufferBetween sides style table client lent formula buffer ≡ bytesOf (b .nodes) ++ drop bytes buffer
   unfolding bufferBetween bufferBy
   buffer-boxed buffer h =
       ap (bufferBy buffer) is ∙ rw (room-is (length buffer) h, bufferBy) (rw measured-boxed refl)
 
-  lacks-room : (bytes : ℕ) → bytes < bytesInNode * measuredBetween sides style table client formula .count → hasRoom bytes b ≡ false
+  lacks-room : (bytes : ℕ) → bytes < bytesInNode * measuredBetween sides style table client lent formula .count → hasRoom bytes b ≡ false
   unfolding hasRoom
   lacks-room bytes h = lt-leb (bytesInNode * length (b .nodes)) bytes (rw measured-boxed at h)
 
-  pub no-room-is : (buffer : List ℕ) → length buffer < bytesInNode * measuredBetween sides style table client formula .count →
-      (settingBetween sides style table client formula (length buffer) ≡ refusal noRoomNumber 0) × (bufferBetween sides style table client formula buffer ≡ buffer)
+  pub no-room-is : (buffer : List ℕ) → length buffer < bytesInNode * measuredBetween sides style table client lent formula .count →
+      (settingBetween sides style table client lent formula (length buffer) ≡ refusal noRoomNumber 0) × (bufferBetween sides style table client lent formula buffer ≡ buffer)
   unfolding settingBetween setBy bufferBetween bufferBy
   no-room-is buffer h =
       let lacks = lacks-room (length buffer) h in
@@ -112,13 +118,13 @@ module _ (sides : Sides) (style : ℕ) (table client formula : List ℕ) (b : Bo
 
 -- ---- what is made of a refusal
 
-module _ (sides : Sides) (style : ℕ) (table client formula : List ℕ) (number place : ℕ)
-    (is : resultBetween sides style table client formula ≡ refused number place) where
-  pub measured-refused : measuredBetween sides style table client formula ≡ refusal number place
+module _ (sides : Sides) (style : ℕ) (table client : List ℕ) (lent : Lent) (formula : List ℕ) (number place : ℕ)
+    (is : resultBetween sides style table client lent formula ≡ refused number place) where
+  pub measured-refused : measuredBetween sides style table client lent formula ≡ refusal number place
   unfolding measuredBetween measuredBy
   measured-refused = ap measuredBy is
 
   pub refused-is : (buffer : List ℕ) →
-      (settingBetween sides style table client formula (length buffer) ≡ refusal number place) × (bufferBetween sides style table client formula buffer ≡ buffer)
+      (settingBetween sides style table client lent formula (length buffer) ≡ refusal number place) × (bufferBetween sides style table client lent formula buffer ≡ buffer)
   unfolding settingBetween setBy bufferBetween bufferBy
   refused-is buffer = (ap (setBy (length buffer)) is, ap (bufferBy buffer) is)

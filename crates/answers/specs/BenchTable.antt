@@ -1,10 +1,12 @@
 -- The bytes of the bench table (document 01, "The bench table and what it gives"): the same parameters and the same six
 -- characters at each of the three sizes. Of change request 6, two client's tables over it, of symbols of text size: one that hides the a
--- and the successor of the sum, and one in which that successor goes back to the sum.
+-- and the successor of the sum, and one in which that successor goes back to the sum. Of request 9, as few words as are enough.
 -- Assumes nothing.
 use mathlib.Core.List.{List, [], _∷_, _++_}
 use Prim.Native.Nat.{ℕ}
 use Rattle.words.specs.Words.{fourBytes}
+use Rattle.font.specs.Index.{indexWords}
+use Rattle.answers.specs.Lent.{Lent, lends}
 
 wordsBytes : List ℕ → List ℕ
 wordsBytes [] = []
@@ -47,3 +49,6 @@ clientTable = character 0 1 97 0 0 (600 ∷ 450 ∷ 0 ∷ 0 ∷ []) ++ character
 unfoldable pub turningTable : List ℕ
 unfolding wordsBytes fourBytes character
 turningTable = character 0 3 88 1 80 (1500 ∷ 0 ∷ 1600 ∷ 0 ∷ [])
+
+abbrev pub justEnough : Lent
+justEnough = lends indexWords indexWords

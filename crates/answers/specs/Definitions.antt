@@ -4,6 +4,7 @@ use Rattle.scaled.specs.Length.{pick, maxℤ, minℤ, half, atQuad}
 use Rattle.words.specs.Words.{littleEndian, signedWord, wordOf, fourBytes}
 use Rattle.font.specs.Records.{pieces, characterCount, parameterRecords, characterRecords, clientCount, clientRecords, words, marked, parameterWords, metricWords, every, goodParameters, goodCharacter, before, rising, goodLength, goodRecords, goodClientLength, goodClientRecords}
 use Rattle.font.specs.Font.{successorOf, metricsOf, isOf, lookup, fontOf, fontWith}
+use Rattle.font.specs.Index.{has, bits, tally, earlier, each, indexOf}
 use Rattle.font.specs.Chains.{next, goesOn, chainEnds}
 use Rattle.font.specs.Table.{goodTable, seenEnds, goodClient}
 use Rattle.formula.specs.Tree.{itemsBytes, itemBytes, fieldBytes}
@@ -25,8 +26,9 @@ use Rattle.nodes.specs.Bounds.{nodesFit}
 use Rattle.setting.specs.Setting.{found, successor, enlarged, symbolIn, symbolPart, signsIn, hasSigns, ownNodes, itemNodes, itemBox, styleAfter, styleBehind, nextClass, classAt, placed, setItems, setItem, setField, setList}
 use Rattle.setting.specs.Missing.{later, absentAt, missingItems, missingItem, missingField}
 use Rattle.setting.specs.Fitting.{boxFits, itemsFit, itemFits, fieldFits, listFits}
-use Rattle.answers.specs.Answers.{ifFits, ifPresent, ifRead, ifClient, ifGood, ifStyle, resultBetween, measuredBy, measuredBetween, hasRoom, setBy, settingBetween, bufferBy, bufferBetween}
+use Rattle.answers.specs.Lent.{enough, builds, builtIf}
+use Rattle.answers.specs.Answers.{ifFits, ifPresent, ifRead, ifEnough, ifClient, ifGood, ifStyle, resultBetween, measuredBy, measuredBetween, hasRoom, setBy, settingBetween, bufferBy, bufferBetween}
 
 unfoldable pub definitions : Unit {0}
-unfolding pick maxℤ minℤ half atQuad littleEndian signedWord wordOf fourBytes pieces characterCount parameterRecords characterRecords clientCount clientRecords words marked parameterWords metricWords every goodParameters goodCharacter before rising goodLength goodRecords goodClientLength goodClientRecords successorOf metricsOf isOf lookup fontOf fontWith next goesOn chainEnds goodTable seenEnds goodClient itemsBytes itemBytes fieldBytes markIn markOf atomOf atomOpening fractionOf fractionOpening kernWithin kernOpening styleOpening rootOf behindDelimiter rootOpening fenceRead fenceOpening opens openingOf symbolHead listHead fieldHead listGot fieldBy onlyList heldIn fieldAt firstAt thirdAt noadAt listAt choiceAt openedBy itemBy beforeReading restBy listBy readBy read readFormula styleOf chainBy chain inSizes ofPair candidates extent firstEnough taller tallest taken signFor hasAny hasSign root fenceOf changedClass row chart spaceBefore limited drops greatest subscriptCandidates leastUp superscriptCandidates pairCandidates gapDown ψOf lifted spread pairShifts reach scripted fractionShifts parted shiftsWithoutBar cleared shiftsWithBar fraction nucleusOf arrange moved signedBytes nodeBytes bytesOf found successor enlarged symbolIn symbolPart signsIn hasSigns ownNodes itemNodes itemBox styleAfter styleBehind nextClass classAt placed setItems setItem setField setList later absentAt missingItems missingItem missingField nodesFit boxFits itemsFit itemFits fieldFits listFits ifFits ifPresent ifRead ifClient ifGood ifStyle resultBetween measuredBy measuredBetween hasRoom setBy settingBetween bufferBy bufferBetween
+unfolding pick maxℤ minℤ half atQuad littleEndian signedWord wordOf fourBytes pieces characterCount parameterRecords characterRecords clientCount clientRecords words marked parameterWords metricWords every goodParameters goodCharacter before rising goodLength goodRecords goodClientLength goodClientRecords successorOf metricsOf isOf lookup fontOf fontWith has bits tally earlier each indexOf next goesOn chainEnds goodTable seenEnds goodClient itemsBytes itemBytes fieldBytes markIn markOf atomOf atomOpening fractionOf fractionOpening kernWithin kernOpening styleOpening rootOf behindDelimiter rootOpening fenceRead fenceOpening opens openingOf symbolHead listHead fieldHead listGot fieldBy onlyList heldIn fieldAt firstAt thirdAt noadAt listAt choiceAt openedBy itemBy beforeReading restBy listBy readBy read readFormula styleOf chainBy chain inSizes ofPair candidates extent firstEnough taller tallest taken signFor hasAny hasSign root fenceOf changedClass row chart spaceBefore limited drops greatest subscriptCandidates leastUp superscriptCandidates pairCandidates gapDown ψOf lifted spread pairShifts reach scripted fractionShifts parted shiftsWithoutBar cleared shiftsWithBar fraction nucleusOf arrange moved signedBytes nodeBytes bytesOf found successor enlarged symbolIn symbolPart signsIn hasSigns ownNodes itemNodes itemBox styleAfter styleBehind nextClass classAt placed setItems setItem setField setList later absentAt missingItems missingItem missingField nodesFit boxFits itemsFit itemFits fieldFits listFits enough builds builtIf ifFits ifPresent ifRead ifEnough ifClient ifGood ifStyle resultBetween measuredBy measuredBetween hasRoom setBy settingBetween bufferBy bufferBetween
 definitions = tt

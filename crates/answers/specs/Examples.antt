@@ -5,16 +5,19 @@
 -- request 4, `fences-hold`: the sum on either side of a Punct, with the space before the unseen Close, and a superscript; a Bin between the
 -- unseen atoms, which is an Ord, with a blank for the absent delimiter on its left. Of request 6, `client-set`: P12's operator, behind an a,
 -- takes its successor from the client's table, and the a in it, of script size, from ours; `client-refused`: refusal 8, where it stands
--- among the others.
+-- among the others. Of request 9, `words-refused`: the same of refusal 19; `client-index`: the front of the words for the client's index.
 -- Assumes nothing.
 use mathlib.Core.Path.{_≡_, refl}
 use mathlib.Core.List.{List, [], _∷_, _++_, map}
 use Prim.Native.Nat.{ℕ}
 use lib.IntN.{ℤ, pos, negℤ}
+use lib.ListN.{take}
+use Rattle.font.specs.Index.{indexWords, each}
 use Rattle.nodes.specs.Nodes.{Node, glyph, rule}
 use Rattle.setting.specs.Setting.{Box}
+use Rattle.answers.specs.Lent.{lends, clientIndexAfter}
 use Rattle.answers.specs.Answers.{Result, boxed, refused, resultOf, Answered, measured, setting, bufferAfter}
-use Rattle.answers.specs.BenchTable.{benchTable, clientTable, turningTable}
+use Rattle.answers.specs.BenchTable.{justEnough, benchTable, clientTable, turningTable}
 use Rattle.answers.specs.Definitions.{definitions}
 
 -- ---- formulas as bytes
@@ -137,7 +140,7 @@ examples =
     ∷ []
 
 computed : Example → Result
-computed e = resultOf (e .style) benchTable [] (e .formula)
+computed e = resultOf (e .style) benchTable [] justEnough (e .formula)
 
 stated : Example → Result
 stated e = boxed (e .box)
@@ -156,7 +159,7 @@ choice d t sc ss = 67 ∷ 52 ∷ (d ++ t ++ sc ++ ss)
 
 -- a, then D from here if the style is T, then P12's operator, 165 behind a
 display-from-here :
-    resultOf T benchTable []
+    resultOf T benchTable [] justEnough
     (alone ord a ++ choice (sublist 0 []) (sublist 3 (83 ∷ 84 ∷ D ∷ [])) (sublist 0 []) (sublist 0 []) ++ atom op (symbol 3 80) empty a)
     ≡ boxed record {
       size = record { width = pos 2065; height = pos 950; depth = pos 1150 };
@@ -229,7 +232,7 @@ fences-hold = refl
 -- ---- a client's table
 
 client-set :
-    resultOf D benchTable clientTable (alone ord a ++ atom op (symbol 3 80) empty a)
+    resultOf D benchTable clientTable justEnough (alone ord a ++ atom op (symbol 3 80) empty a)
     ≡ boxed record {
       size = record { width = pos 2265; height = pos 1050; depth = pos 1250 };
       nodes =
@@ -240,10 +243,40 @@ client-set = refl
 
 -- for a chain over both tables that does not end, and for a table that is cut off; before 3 and behind 2
 client-refused :
-    resultOf T benchTable turningTable (65 ∷ []) ∷ resultOf T benchTable (67 ∷ []) [] ∷ resultOf T [] (67 ∷ []) [] ∷ []
+    resultOf T benchTable turningTable justEnough (65 ∷ [])
+    ∷ resultOf T benchTable (67 ∷ []) justEnough []
+    ∷ resultOf T [] (67 ∷ []) justEnough []
+    ∷ []
     ≡ refused 8 0 ∷ refused 8 0 ∷ refused 2 0 ∷ []
 unfolding definitions benchTable turningTable
 client-refused = refl
+
+-- ---- words for the indexes
+
+-- fewer than 240 of either; before 3 and behind 8
+words-refused :
+    resultOf T benchTable [] (lends 240 240) (65 ∷ [])
+    ∷ resultOf T benchTable [] (lends 239 240) (65 ∷ [])
+    ∷ resultOf T benchTable [] (lends 240 239) (65 ∷ [])
+    ∷ resultOf T benchTable (67 ∷ []) (lends 0 0) []
+    ∷ []
+    ≡ refused 3 0 ∷ refused 19 0 ∷ refused 19 0 ∷ refused 8 0 ∷ []
+unfolding definitions benchTable
+words-refused = refl
+
+abbrev zeros : List ℕ
+zeros = each indexWords (λ k. 0 ∷ [])
+
+-- the codes 97 of family 1 and 88 of family 3, in text size, and how many records stand before each family
+client-index :
+    take 25 (clientIndexAfter T benchTable clientTable zeros zeros)
+    ≡ (0 ∷ 0 ∷ 0 ∷ 0 ∷ 0 ∷ [])
+    ++ (0 ∷ 0x200000000 ∷ 0 ∷ 0 ∷ 0 ∷ [])
+    ++ (0 ∷ 0 ∷ 0 ∷ 0 ∷ 1 ∷ [])
+    ++ (0 ∷ 0x1000000 ∷ 0 ∷ 0 ∷ 1 ∷ [])
+    ++ (0 ∷ 0 ∷ 0 ∷ 0 ∷ 2 ∷ [])
+unfolding definitions benchTable clientTable
+client-index = refl
 
 -- ---- the underlined a, in T, with a buffer that has two bytes more than its nodes need
 
@@ -264,16 +297,16 @@ underlinedAnswer =
       count = 2;
     }
 
-underlined-measured : measured T benchTable [] underlined ≡ underlinedAnswer
+underlined-measured : measured T benchTable [] justEnough underlined ≡ underlinedAnswer
 unfolding definitions benchTable underlined underlinedAnswer
 underlined-measured = refl
 
-underlined-set : setting T benchTable [] underlined 38 ≡ underlinedAnswer
+underlined-set : setting T benchTable [] justEnough underlined 38 ≡ underlinedAnswer
 unfolding definitions benchTable underlined underlinedAnswer
 underlined-set = refl
 
 underlined-buffer :
-    bufferAfter T benchTable [] underlined buffer
+    bufferAfter T benchTable [] justEnough underlined buffer
     ≡ 0x47 ∷ 0x4c ∷ 0x00 ∷ 0x00 ∷ 0x00 ∷ 0x00 ∷ 0x00 ∷ 0x00 ∷ 0x00
     ∷ 0x00 ∷ 0x00 ∷ 0x01 ∷ 0x61 ∷ 0x00 ∷ 0x00 ∷ 0x00 ∷ 0x00 ∷ 0x00
     ∷ 0x52 ∷ 0x55 ∷ 0x00 ∷ 0x00 ∷ 0x00 ∷ 0x00 ∷ 0x60 ∷ 0xff ∷ 0xff

@@ -34,7 +34,7 @@ use Rattle.nodes.specs.Nodes.{glyph, rule}
 use Rattle.setting.specs.Setting.{Sides, noSides, fenceSides, sidesOf}
 use Rattle.setting.specs.Paths.{inFirst, inSecond, among, within, Step, whole, into, fill}
 use Rattle.answers.specs.Answers.{measured, measuredBetween}
-use Rattle.answers.specs.BenchTable.{benchTable}
+use Rattle.answers.specs.BenchTable.{justEnough, benchTable}
 use Rattle.answers.specs.Definitions.{definitions}
 use Rattle.answers.specs.Accepting.{Accepted}
 use Rattle.answers.specs.FieldBytes.{fieldPart}
@@ -64,12 +64,12 @@ aAlone = cons (noad ord a empty empty) nil
 abbrev superscript : Step
 superscript = record { spot = among aAlone nil; kind = ord; arm = inSecond a empty }
 
-is-accepted : Accepted T benchTable [] formula (plain Text) (fill (plain Text) (into whole superscript) aAlone)
+is-accepted : Accepted T benchTable [] justEnough formula (plain Text) (fill (plain Text) (into whole superscript) aAlone)
 unfolding definitions benchTable
 is-accepted = record { style-is = refl; reads = refl; room = 54; is-accepted = refl }
 
-pub superscript-as-alone : FieldAsAlone T benchTable [] formula (plain Text) whole superscript aAlone
-superscript-as-alone = demand-3 T benchTable [] formula (plain Text) whole superscript aAlone is-accepted
+pub superscript-as-alone : FieldAsAlone T benchTable [] justEnough formula (plain Text) whole superscript aAlone
+superscript-as-alone = demand-3 T benchTable [] justEnough formula (plain Text) whole superscript aAlone is-accepted
 
 pub superscript-bytes : fieldPart (plain Text) (into whole superscript) aAlone formula ≡ atomBytes
 unfolding definitions
@@ -80,7 +80,7 @@ unfolding definitions
 superscript-style = refl
 
 pub superscript-frame :
-    around benchTable [] (plain Text) whole superscript (measured 4 benchTable [] atomBytes .size)
+    around benchTable [] (plain Text) whole superscript (measured 4 benchTable [] justEnough atomBytes .size)
     ≡ record {
       before = glyph (pos 0) (pos 0) 0 1 97 ∷ glyph (pos 500) (pos 0) 0 1 97 ∷ [];
       distance = record { across = pos 1000; up = pos 370 };
@@ -93,9 +93,9 @@ superscript-frame = refl
 
 -- a list field of a formula that the bench table accepts in T
 by-place : (formula : List ℕ) {l : Items} {place : ℕ} {v : Style} {sides : Sides} {field : List ℕ} →
-    Accepted T benchTable [] formula (plain Text) l → ListFieldAt (plain Text) formula place v sides field →
-    ListFieldAsAlone T benchTable [] formula (plain Text) place v sides field
-by-place formula h f = demand-3-at T benchTable [] formula (h .room) (h .is-accepted) (plain Text) (h .style-is) _ _ _ _ f
+    Accepted T benchTable [] justEnough formula (plain Text) l → ListFieldAt (plain Text) formula place v sides field →
+    ListFieldAsAlone T benchTable [] justEnough formula (plain Text) place v sides field
+by-place formula h f = demand-3-at T benchTable [] justEnough formula (h .room) (h .is-accepted) (plain Text) (h .style-is) _ _ _ _ f
 
 superscript-at : ListFieldAt (plain Text) formula 16 (plain Script) noSides atomBytes
 unfolding definitions
@@ -113,7 +113,7 @@ superscript-at =
       is-list = listField 9 0 (atomBytes ++ (0 ∷ []));
     })
 
-pub superscript-by-place : ListFieldAsAlone T benchTable [] formula (plain Text) 16 (plain Script) noSides atomBytes
+pub superscript-by-place : ListFieldAsAlone T benchTable [] justEnough formula (plain Text) 16 (plain Script) noSides atomBytes
 superscript-by-place = by-place formula is-accepted superscript-at
 
 -- a list in the first field of the first item
@@ -177,12 +177,12 @@ inChoice =
       arm = inSecond a empty;
     }
 
-chosen-accepted : Accepted T benchTable [] chosen (plain Text) (fill (plain Text) (into whole inChoice) aAlone)
+chosen-accepted : Accepted T benchTable [] justEnough chosen (plain Text) (fill (plain Text) (into whole inChoice) aAlone)
 unfolding definitions benchTable
 chosen-accepted = record { style-is = refl; reads = refl; room = 36; is-accepted = refl }
 
 pub chosen-frame :
-    around benchTable [] (plain Text) whole inChoice (measured 4 benchTable [] atomBytes .size)
+    around benchTable [] (plain Text) whole inChoice (measured 4 benchTable [] justEnough atomBytes .size)
     ≡ record {
       before = glyph (pos 0) (pos 0) 0 1 97 ∷ [];
       distance = record { across = pos 500; up = pos 420 };
@@ -210,7 +210,7 @@ chosen-at =
     past-first : ItemAt (plain Text) chosen 17 (plain Display)
     past-first = pastChoice 0 refl (listField 3 0 (drop 8 chosen)) (pastStyle 0 0 refl refl first) first
 
-pub chosen-by-place : ListFieldAsAlone T benchTable [] chosen (plain Text) 29 (plain Script) noSides atomBytes
+pub chosen-by-place : ListFieldAsAlone T benchTable [] justEnough chosen (plain Text) 29 (plain Script) noSides atomBytes
 chosen-by-place = by-place chosen chosen-accepted chosen-at
 
 -- ---- in a root
@@ -225,12 +225,12 @@ root = Scripted (Root (delimiter 3 80 3 80))
 abbrev nucleus : Step
 nucleus = record { spot = among nil nil; kind = root; arm = inFirst empty empty }
 
-rooted-accepted : Accepted T benchTable [] rooted (plain Text) (fill (plain Text) (into whole nucleus) aAlone)
+rooted-accepted : Accepted T benchTable [] justEnough rooted (plain Text) (fill (plain Text) (into whole nucleus) aAlone)
 unfolding definitions benchTable
 rooted-accepted = record { style-is = refl; reads = refl; room = 54; is-accepted = refl }
 
 pub nucleus-frame :
-    around benchTable [] (plain Text) whole nucleus (measured 3 benchTable [] atomBytes .size)
+    around benchTable [] (plain Text) whole nucleus (measured 3 benchTable [] justEnough atomBytes .size)
     ≡ record {
       before = glyph (pos 0) (pos 740) 0 3 80 ∷ rule (pos 1000) (pos 740) (pos 500) (pos 0) ∷ [];
       distance = record { across = pos 1000; up = pos 0 };
@@ -243,7 +243,7 @@ nucleus-at : ListFieldAt (plain Text) rooted 6 (cramp Text) noSides atomBytes
 unfolding definitions
 nucleus-at = own (in-first (plain Text) rooted root 9 0 (atomBytes ++ (0 ∷ 0 ∷ [])) refl refl)
 
-pub nucleus-by-place : ListFieldAsAlone T benchTable [] rooted (plain Text) 6 (cramp Text) noSides atomBytes
+pub nucleus-by-place : ListFieldAsAlone T benchTable [] justEnough rooted (plain Text) 6 (cramp Text) noSides atomBytes
 nucleus-by-place = by-place rooted rooted-accepted nucleus-at
 
 -- ---- in a fence
@@ -268,19 +268,19 @@ fence = Scripted (Fence sum sum)
 abbrev inside : Step
 inside = record { spot = among nil nil; kind = fence; arm = inFirst empty empty }
 
-enclosed-accepted : Accepted T benchTable [] enclosed (plain Text) (fill (plain Text) (into whole inside) punctAlone)
+enclosed-accepted : Accepted T benchTable [] justEnough enclosed (plain Text) (fill (plain Text) (into whole inside) punctAlone)
 unfolding definitions benchTable
 enclosed-accepted = record { style-is = refl; reads = refl; room = 54; is-accepted = refl }
 
 -- alone, between its sides and as a formula
 pub inside-width :
-    measuredBetween fenceSides T benchTable [] punctBytes .size .width ∷ measured T benchTable [] punctBytes .size .width ∷ []
+    measuredBetween fenceSides T benchTable [] justEnough punctBytes .size .width ∷ measured T benchTable [] justEnough punctBytes .size .width ∷ []
     ≡ pos 665 ∷ pos 500 ∷ []
 unfolding definitions benchTable
 inside-width = refl
 
 pub inside-frame :
-    around benchTable [] (plain Text) whole inside (measuredBetween fenceSides T benchTable [] punctBytes .size)
+    around benchTable [] (plain Text) whole inside (measuredBetween fenceSides T benchTable [] justEnough punctBytes .size)
     ≡ record {
       before = glyph (pos 0) (pos 750) 0 3 80 ∷ [];
       distance = record { across = pos 1000; up = pos 0 };
@@ -293,5 +293,5 @@ inside-at : ListFieldAt (plain Text) enclosed 10 (plain Text) fenceSides punctBy
 unfolding definitions
 inside-at = own (in-first (plain Text) enclosed fence 9 0 (punctBytes ++ (0 ∷ 0 ∷ [])) refl refl)
 
-pub inside-by-place : ListFieldAsAlone T benchTable [] enclosed (plain Text) 10 (plain Text) fenceSides punctBytes
+pub inside-by-place : ListFieldAsAlone T benchTable [] justEnough enclosed (plain Text) 10 (plain Text) fenceSides punctBytes
 inside-by-place = by-place enclosed enclosed-accepted inside-at

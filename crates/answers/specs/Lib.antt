@@ -1,8 +1,11 @@
--- The answers; their laws; how small they are; measuring and setting agree; a formula without style changes, choices and fences is
--- answered as before, and so is every formula without a client's table; a list field in the whole as it stands alone; the worked examples.
+-- The lent words; the answers; the laws of both; how small answers are; measuring and setting agree; a formula without style changes,
+-- choices and fences is answered as before, and so is every formula without a client's table; a list field in the whole as it stands
+-- alone; the worked examples.
 -- Assumes nothing.
+pub mod Lent
 pub mod Answers
 pub mod AnswersLaws
+pub mod LentLaws
 pub mod Small
 pub mod Agreement
 pub mod Accepting

@@ -1,5 +1,5 @@
--- What change request 6 leaves as it was: with an empty client's table every formula, good or not, is answered as it was before there
--- were such tables.
+-- What change request 6 leaves as it was: with an empty client's table, and words enough lent for both indexes, every formula, good or not,
+-- is answered as it was before there were such tables.
 --     resultByOurs     what was found, of ours alone: the tests without number 8, and the font of ours
 --     result-by-ours   with an empty client's table the same is found, of a list between any two sides; so measuring and setting answer
 --                      the same, and the buffer is the same (`measured-by-ours`, `set-by-ours`)
@@ -17,7 +17,8 @@ use Rattle.formula.specs.Reading.{Read, readFormula}
 use Rattle.boxes.specs.declared.styles.Style.{Style}
 use Rattle.boxes.specs.Styles.{styleOf}
 use Rattle.setting.specs.Setting.{Sides}
-use Rattle.answers.specs.Answers.{Result, refused, styleNumber, tableNumber, ifRead, ifClient, ifGood, ifStyle, resultBetween, measuredBy, measuredBetween, setBy, settingBetween, bufferBy, bufferBetween}
+use Rattle.answers.specs.Lent.{Lent, enough}
+use Rattle.answers.specs.Answers.{Result, refused, styleNumber, tableNumber, ifRead, ifEnough, ifClient, ifGood, ifStyle, resultBetween, measuredBy, measuredBetween, setBy, settingBetween, bufferBy, bufferBetween}
 
 -- ---- the tests before the request: 2, and then the reading
 
@@ -35,28 +36,28 @@ resultByOurs sides style table formula = styleByOurs sides table formula (styleO
 
 -- ---- with an empty client's table
 
-module _ (sides : Sides) (style : ℕ) (table formula : List ℕ) where
+module _ (sides : Sides) (style : ℕ) (table : List ℕ) (lent : Lent) (words-enough : enough lent ≡ true) (formula : List ℕ) where
   good-by-ours : (s : Style) (t : Bool) → goodTable table ≡ t →
-      ifGood t (goodClient table []) (fontWith table []) sides s (readFormula formula) ≡ goodByOurs t (fontOf table) sides s (readFormula formula)
-  unfolding ifGood ifClient goodByOurs
-  good-by-ours s true good = rw (empty-client table good, with-empty table, ifClient) refl
+      ifGood t (goodClient table []) (enough lent) (fontWith table []) sides s (readFormula formula) ≡ goodByOurs t (fontOf table) sides s (readFormula formula)
+  unfolding ifGood ifClient ifEnough goodByOurs
+  good-by-ours s true good = rw (empty-client table good, words-enough, with-empty table, ifClient, ifEnough) refl
   good-by-ours s false bad = refl
 
-  style-by-ours : (s : Option Style) → ifStyle sides table [] formula s ≡ styleByOurs sides table formula s
+  style-by-ours : (s : Option Style) → ifStyle sides table [] lent formula s ≡ styleByOurs sides table formula s
   unfolding ifStyle styleByOurs
   style-by-ours none = refl
   style-by-ours (some s) = good-by-ours s (goodTable table) refl
 
-  pub result-by-ours : resultBetween sides style table [] formula ≡ resultByOurs sides style table formula
+  pub result-by-ours : resultBetween sides style table [] lent formula ≡ resultByOurs sides style table formula
   unfolding resultBetween resultByOurs
   result-by-ours = style-by-ours (styleOf style)
 
-  pub measured-by-ours : measuredBetween sides style table [] formula ≡ measuredBy (resultByOurs sides style table formula)
+  pub measured-by-ours : measuredBetween sides style table [] lent formula ≡ measuredBy (resultByOurs sides style table formula)
   unfolding measuredBetween
   measured-by-ours = ap measuredBy result-by-ours
 
   pub set-by-ours : (buffer : List ℕ) →
-      (settingBetween sides style table [] formula (length buffer) ≡ setBy (length buffer) (resultByOurs sides style table formula))
-      × (bufferBetween sides style table [] formula buffer ≡ bufferBy buffer (resultByOurs sides style table formula))
+      (settingBetween sides style table [] lent formula (length buffer) ≡ setBy (length buffer) (resultByOurs sides style table formula))
+      × (bufferBetween sides style table [] lent formula buffer ≡ bufferBy buffer (resultByOurs sides style table formula))
   unfolding settingBetween bufferBetween
   set-by-ours buffer = (ap (setBy (length buffer)) result-by-ours, ap (bufferBy buffer) result-by-ours)

@@ -35,7 +35,8 @@ use Rattle.setting.specs.Setting.{Box, Line, Symbol, Part, symbolIn, symbolPart
 use Rattle.setting.specs.SettingLaws.{length-own, signs-found, setItem-choice, missingItem-choice}
 use Rattle.setting.specs.Missing.{_orElse_, later, absentAt, missingItems, missingItem, missingField}
 use Rattle.setting.specs.Fitting.{listFits}
-use Rattle.answers.specs.Answers.{Answered, Result, boxed, refused, refusal, accepted, noRoomNumber, ifFits, ifPresent, ifRead, ifClient, ifGood, ifStyle, resultOf, resultBetween, measuredBy, measured, measuredBetween, hasRoom, setBy, setting, settingBetween}
+use Rattle.answers.specs.Lent.{Lent, enough}
+use Rattle.answers.specs.Answers.{Answered, Result, boxed, refused, refusal, accepted, noRoomNumber, ifFits, ifPresent, ifRead, ifEnough, ifClient, ifGood, ifStyle, resultOf, resultBetween, measuredBy, measured, measuredBetween, hasRoom, setBy, setting, settingBetween}
 
 -- ---- what is written in n bytes
 
@@ -301,24 +302,22 @@ module _ (F : Font) (s : Style) where
       go false e =
           reading-small (length formula) (read (depthLimit - 1) formula) (ltb-false formulaLimit (length formula) e) (read-in parts parts-so (depthLimit - 1) formula)
 
-found-small : (style : ℕ) (table client formula : List ℕ) → FoundSmall (resultOf style table client formula)
-unfolding resultBetween ifStyle ifGood ifClient
-found-small style table client formula = styled (styleOf style)
+found-small : (style : ℕ) (table client : List ℕ) (lent : Lent) (formula : List ℕ) → FoundSmall (resultOf style table client lent formula)
+unfolding resultBetween ifStyle ifGood ifClient ifEnough
+found-small style table client lent formula = styled (styleOf style)
   where
     F : Font
     F = fontWith table client
 
-    lent : (s : Style) (c : Bool) → FoundSmall (ifClient c F noSides s (readFormula formula))
-    lent s true = formula-small F s formula
-    lent s false = omega arith
+    tabled : (s : Style) (t c w : Bool) → FoundSmall (ifGood t c w F noSides s (readFormula formula))
+    tabled s true true true = formula-small F s formula
+    tabled s true true false = omega arith
+    tabled s true false w = omega arith
+    tabled s false c w = omega arith
 
-    tabled : (s : Style) (t c : Bool) → FoundSmall (ifGood t c F noSides s (readFormula formula))
-    tabled s true c = lent s c
-    tabled s false c = omega arith
-
-    styled : (o : Option Style) → FoundSmall (ifStyle noSides table client formula o)
+    styled : (o : Option Style) → FoundSmall (ifStyle noSides table client lent formula o)
     styled none = omega arith
-    styled (some s) = tabled s (goodTable table) (goodClient table client)
+    styled (some s) = tabled s (goodTable table) (goodClient table client) (enough lent)
 
 -- ---- the answers
 
@@ -326,17 +325,17 @@ pub record Small (a : Answered) : Type 0 where
   pub place : a .place ≤ formulaLimit
   pub count : a .count ≤ formulaLimit
 
-pub measured-small : (style : ℕ) (table client formula : List ℕ) → Small (measured style table client formula)
+pub measured-small : (style : ℕ) (table client : List ℕ) (lent : Lent) (formula : List ℕ) → Small (measured style table client lent formula)
 unfolding measuredBetween measuredBy
-measured-small style table client formula = go (resultOf style table client formula) (found-small style table client formula)
+measured-small style table client lent formula = go (resultOf style table client lent formula) (found-small style table client lent formula)
   where
     go : (r : Result) → FoundSmall r → Small (measuredBy r)
     go (boxed b) h = record { place = omega arith; count = omega arith }
     go (refused number place) h = record { place = h; count = omega arith }
 
-pub setting-small : (style : ℕ) (table client formula : List ℕ) (room : ℕ) → Small (setting style table client formula room)
+pub setting-small : (style : ℕ) (table client : List ℕ) (lent : Lent) (formula : List ℕ) (room : ℕ) → Small (setting style table client lent formula room)
 unfolding settingBetween setBy
-setting-small style table client formula room = go (resultOf style table client formula) (found-small style table client formula)
+setting-small style table client lent formula room = go (resultOf style table client lent formula) (found-small style table client lent formula)
   where
     roomy : (b : Box) (t : Bool) → length (b .nodes) ≤ formulaLimit →
         Small (elim t [ true ↦ accepted b | false ↦ refusal noRoomNumber 0 ])

@@ -20,7 +20,7 @@ use Rattle.answers.specs.Answers.{Answered}
 use Rattle.answers.specs.Small.{Small}
 use Rattle.layout.specs.declared.parts.Parts.{Parts}
 use Rattle.layout.specs.Parts.{partsAs}
-use Rattle.capi.specs.Words.{answerSpace, noAnswer, answerWords, numberBy, wordsBy, bufferBy}
+use Rattle.capi.specs.Words.{answerSpace, noAnswer, answerWords, numberBy, wordsBy, lentBy}
 
 pub five-stores : (w : List ℤ) (a b c d e : ℤ) → 5 ≤ length w →
     set (set (set (set (set w 0 a) 1 b) 2 c) 3 d) 4 e ≡ a ∷ b ∷ c ∷ d ∷ e ∷ drop 5 w
@@ -58,10 +58,10 @@ module _ (a : Answered) (w : List ℤ) where
   words-short h = sym (ap (λ (t : Bool). cond t (answerWords a w) w) (lt-leb answerSpace (length w) h))
 
 module _ (after before : List ℕ) (w : List ℤ) where
-  pub buffer-enough : answerSpace ≤ length w → after ≡ bufferBy after before w
-  unfolding bufferBy
-  buffer-enough h = sym (ap (λ (t : Bool). cond t after before) (le-leb answerSpace (length w) h))
+  pub lent-enough : answerSpace ≤ length w → after ≡ lentBy after before w
+  unfolding lentBy
+  lent-enough h = sym (ap (λ (t : Bool). cond t after before) (le-leb answerSpace (length w) h))
 
-  pub buffer-short : length w < answerSpace → before ≡ bufferBy after before w
-  unfolding bufferBy
-  buffer-short h = sym (ap (λ (t : Bool). cond t after before) (lt-leb answerSpace (length w) h))
+  pub lent-short : length w < answerSpace → before ≡ lentBy after before w
+  unfolding lentBy
+  lent-short h = sym (ap (λ (t : Bool). cond t after before) (lt-leb answerSpace (length w) h))

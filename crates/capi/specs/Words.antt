@@ -1,6 +1,6 @@
 -- What a C caller is given: the answer's number as the result, and five words with its place, its sizes and its count.
 --     answerWords     the five words, and behind them what was there
---     numberBy, wordsBy, bufferBy     the same for a lent answer of any length: below five words nothing is done, and the
+--     numberBy, wordsBy, lentBy     the same for a lent answer of any length: below five words nothing is done, and the
 --                     number is `noAnswer`
 -- Assumes nothing.
 use mathlib.Core.Bool.{cond}
@@ -32,6 +32,6 @@ numberBy a w = cond (leb answerSpace (length w)) (a .number) noAnswer
 unfoldable pub wordsBy : Answered → List ℤ → List ℤ
 wordsBy a w = cond (leb answerSpace (length w)) (answerWords a w) w
 
--- the node buffer, which becomes `after` where there is room for the answer
-unfoldable pub bufferBy : List ℕ → List ℕ → List ℤ → List ℕ
-bufferBy after before w = cond (leb answerSpace (length w)) after before
+-- the node buffer or the words for an index, which become `after` where there is room for the answer
+unfoldable pub lentBy : List ℕ → List ℕ → List ℤ → List ℕ
+lentBy after before w = cond (leb answerSpace (length w)) after before

@@ -5,10 +5,11 @@ ghost use Prim.Native.Nat.{_≤_};
 ghost use lib.IntN.{pos};
 ghost use lib.ListN.{length};
 ghost use Rattle.formula.specs.Reading.{formulaLimit};
+ghost use Rattle.answers.specs.Lent.{lentOf, indexAfter, clientIndexAfter};
 ghost use Rattle.answers.specs.Answers.{measured, setting, bufferAfter};
 ghost use Rattle.answers.specs.Small.{Small};
 ghost use Rattle.layout.specs.Values.{answeredAs};
-ghost use Rattle.capi.specs.Words.{numberBy, wordsBy, bufferBy, answerWords};
+ghost use Rattle.capi.specs.Words.{numberBy, wordsBy, lentBy, answerWords};
 use layout::Answer;
 use layout::parts::parts_of;
 
@@ -25,15 +26,22 @@ pub extern "C" fn torfianka_measure<'a>(
     table: &'a [u8],
     client: &'a [u8],
     formula: &[u8],
+    index: &mut [u64],
+    client_index: &mut [u64],
     answer: &mut [i64],
 ) -> u8
-    ensures { λ r. ⌜ r ≡ numberBy (measured style (now (table .entry)) (now (client .entry)) (now (formula .entry))) (now (answer .entry)) ⌝ }
-    ensures { λ _. ⌜ now (answer .exit) ≡ wordsBy (measured style (now (table .entry)) (now (client .entry)) (now (formula .entry))) (now (answer .entry)) ⌝ }
+    ensures { λ r. ⌜ r ≡ numberBy (measured style (now (table .entry)) (now (client .entry)) (lentOf (now (index .entry)) (now («client_index» .entry))) (now (formula .entry))) (now (answer .entry)) ⌝ }
+    ensures { λ _. ⌜ now (answer .exit) ≡ wordsBy (measured style (now (table .entry)) (now (client .entry)) (lentOf (now (index .entry)) (now («client_index» .entry))) (now (formula .entry))) (now (answer .entry)) ⌝ }
+    ensures { λ _. ⌜ now (index .exit) ≡ lentBy (indexAfter style (now (table .entry)) (now (client .entry)) (now (index .entry)) (now («client_index» .entry))) (now (index .entry)) (now (answer .entry)) ⌝ }
+    ensures { λ _. ⌜ now («client_index» .exit) ≡ lentBy (clientIndexAfter style (now (table .entry)) (now (client .entry)) (now (index .entry)) (now («client_index» .entry))) (now («client_index» .entry)) (now (answer .entry)) ⌝ }
 {
     if answer.len() < ANSWER_SPACE {
         return NO_ANSWER;
     }
-    report(layout::measure(style, table, client, formula), answer)
+    report(
+        layout::measure(style, table, client, formula, index, client_index),
+        answer,
+    )
 }
 
 // Sets a formula into the front of the node buffer.
@@ -44,16 +52,23 @@ pub extern "C" fn torfianka_set<'a>(
     client: &'a [u8],
     formula: &[u8],
     nodes: &mut [u8],
+    index: &mut [u64],
+    client_index: &mut [u64],
     answer: &mut [i64],
 ) -> u8
-    ensures { λ r. ⌜ r ≡ numberBy (setting style (now (table .entry)) (now (client .entry)) (now (formula .entry)) (length (now (nodes .entry)))) (now (answer .entry)) ⌝ }
-    ensures { λ _. ⌜ now (answer .exit) ≡ wordsBy (setting style (now (table .entry)) (now (client .entry)) (now (formula .entry)) (length (now (nodes .entry)))) (now (answer .entry)) ⌝ }
-    ensures { λ _. ⌜ now (nodes .exit) ≡ bufferBy (bufferAfter style (now (table .entry)) (now (client .entry)) (now (formula .entry)) (now (nodes .entry))) (now (nodes .entry)) (now (answer .entry)) ⌝ }
+    ensures { λ r. ⌜ r ≡ numberBy (setting style (now (table .entry)) (now (client .entry)) (lentOf (now (index .entry)) (now («client_index» .entry))) (now (formula .entry)) (length (now (nodes .entry)))) (now (answer .entry)) ⌝ }
+    ensures { λ _. ⌜ now (answer .exit) ≡ wordsBy (setting style (now (table .entry)) (now (client .entry)) (lentOf (now (index .entry)) (now («client_index» .entry))) (now (formula .entry)) (length (now (nodes .entry)))) (now (answer .entry)) ⌝ }
+    ensures { λ _. ⌜ now (nodes .exit) ≡ lentBy (bufferAfter style (now (table .entry)) (now (client .entry)) (lentOf (now (index .entry)) (now («client_index» .entry))) (now (formula .entry)) (now (nodes .entry))) (now (nodes .entry)) (now (answer .entry)) ⌝ }
+    ensures { λ _. ⌜ now (index .exit) ≡ lentBy (indexAfter style (now (table .entry)) (now (client .entry)) (now (index .entry)) (now («client_index» .entry))) (now (index .entry)) (now (answer .entry)) ⌝ }
+    ensures { λ _. ⌜ now («client_index» .exit) ≡ lentBy (clientIndexAfter style (now (table .entry)) (now (client .entry)) (now (index .entry)) (now («client_index» .entry))) (now («client_index» .entry)) (now (answer .entry)) ⌝ }
 {
     if answer.len() < ANSWER_SPACE {
         return NO_ANSWER;
     }
-    report(layout::set(style, table, client, formula, nodes), answer)
+    report(
+        layout::set(style, table, client, formula, nodes, index, client_index),
+        answer,
+    )
 }
 
 // Writes an answer's place, sizes and count, and gives its number.

@@ -14,9 +14,9 @@ use formula::Delimiter;
 use formula::Pair;
 use scaled::Sp;
 ghost use mathlib.Core.Path.{_≡_};
-ghost use mathlib.Core.Bool.{true, _&&_};
+ghost use mathlib.Core.Bool.{_&&_};
 ghost use lib.Dec.{eqb};
-ghost use Rattle.font.specs.Table.{SoundTables};
+ghost use Rattle.font.specs.Index.{Indexed};
 ghost use Rattle.font.specs.Font.{fontWith};
 ghost use Rattle.boxes.specs.Values.{sizeAs, offsetAs, signingAs};
 ghost use Rattle.boxes.specs.Bounds.{itemWords, Moderate, OffsetWithin, SigningWithin};
@@ -60,14 +60,40 @@ enum Search {
 }
 
 // The small symbol, then the large, each in sizes from the current one up to text.
-pub fn sign_for<'a>(table: &'a [u8], client: &'a [u8], size: u8, d: Delimiter, needed: Sp) -> Chosen
-    requires { ⌜ SoundTables (now table) (now client) ⌝ }
+pub fn sign_for<'a>(
+    table: &'a [u8],
+    client: &'a [u8],
+    index: &[u64],
+    client_index: &[u64],
+    size: u8,
+    d: Delimiter,
+    needed: Sp,
+) -> Chosen
+    requires { ⌜ Indexed (now table) (now client) (now index) (now «client_index») ⌝ }
     ensures { λ r. ⌜ chosenAs r ≡ signFor (fontWith (now (table .entry)) (now (client .entry))) size d (needed .0) ⌝ }
 {
     let small = d.small;
     let large = d.large;
-    let first = search_pair(table, client, size, small, needed, Search::Nothing);
-    let second = search_pair(table, client, size, large, needed, first);
+    let first = search_pair(
+        table,
+        client,
+        index,
+        client_index,
+        size,
+        small,
+        needed,
+        Search::Nothing,
+    );
+    let second = search_pair(
+        table,
+        client,
+        index,
+        client_index,
+        size,
+        large,
+        needed,
+        first,
+    );
     match second {
         Search::Nothing => Chosen::Blank,
         Search::Short(t) => Chosen::Sign(t),
@@ -79,36 +105,52 @@ pub fn sign_for<'a>(table: &'a [u8], client: &'a [u8], size: u8, d: Delimiter, n
 fn search_pair<'a>(
     table: &'a [u8],
     client: &'a [u8],
+    index: &[u64],
+    client_index: &[u64],
     size: u8,
     pair: Pair,
     needed: Sp,
     far: Search,
 ) -> Search
-    requires { ⌜ SoundTables (now table) (now client) ⌝ }
+    requires { ⌜ Indexed (now table) (now client) (now index) (now «client_index») ⌝ }
     ensures { λ r. ⌜ searchAs r ≡ lookedAt (needed .0) (searchAs far) (ofPair (fontWith (now (table .entry)) (now (client .entry))) size pair) ⌝ }
 {
     if is_zero(pair) {
         return far;
     }
-    search_sizes(table, client, size, pair.family, pair.code, needed, far)
+    search_sizes(
+        table,
+        client,
+        index,
+        client_index,
+        size,
+        pair.family,
+        pair.code,
+        needed,
+        far,
+    )
 }
 
 // A symbol in sizes from this one up to text.
 fn search_sizes<'a>(
     table: &'a [u8],
     client: &'a [u8],
+    index: &[u64],
+    client_index: &[u64],
     size: u8,
     family: u8,
     code: u8,
     needed: Sp,
     far: Search,
 ) -> Search
-    requires { ⌜ SoundTables (now table) (now client) ⌝ }
+    requires { ⌜ Indexed (now table) (now client) (now index) (now «client_index») ⌝ }
     ensures { λ r. ⌜ searchAs r ≡ lookedAt (needed .0) (searchAs far) (inSizes (fontWith (now (table .entry)) (now (client .entry))) family code size) ⌝ }
 {
     let here = follow(
         table,
         client,
+        index,
+        client_index,
         size,
         family,
         code,
@@ -119,13 +161,25 @@ fn search_sizes<'a>(
     if size == 0 {
         return here;
     }
-    search_sizes(table, client, size - 1, family, code, needed, here)
+    search_sizes(
+        table,
+        client,
+        index,
+        client_index,
+        size - 1,
+        family,
+        code,
+        needed,
+        here,
+    )
 }
 
 // The chain is followed symbol by symbol, until one suffices or no step is left.
 fn follow<'a>(
     table: &'a [u8],
     client: &'a [u8],
+    index: &[u64],
+    client_index: &[u64],
     size: u8,
     family: u8,
     code: u8,
@@ -133,13 +187,14 @@ fn follow<'a>(
     far: Search,
     steps: usize,
 ) -> Search
-    requires { ⌜ SoundTables (now table) (now client) ⌝ }
+    requires { ⌜ Indexed (now table) (now client) (now index) (now «client_index») ⌝ }
     ensures { λ r. ⌜ searchAs r ≡ lookedAt (needed .0) (searchAs far) (chain (fontWith (now (table .entry)) (now (client .entry))) size family steps code) ⌝ }
 {
     if let Search::Enough(_) = far {
         return far;
     }
-    let Found::Symbol(metrics) = symbol(table, client, size, family, code) else {
+    let Found::Symbol(metrics) = symbol(table, client, index, client_index, size, family, code)
+    else {
         return far;
     };
     let sign = Sign {
@@ -156,7 +211,18 @@ fn follow<'a>(
     if steps == 0 {
         return seen;
     }
-    follow(table, client, size, family, c, needed, seen, steps - 1)
+    follow(
+        table,
+        client,
+        index,
+        client_index,
+        size,
+        family,
+        c,
+        needed,
+        seen,
+        steps - 1,
+    )
 }
 
 // One symbol more.
@@ -229,37 +295,67 @@ pub fn sign_at(place: Offset, chosen: Chosen) -> Signing
 }
 
 // Whether the search finds anything, however tall it has to be. It ends at the first symbol present.
-pub fn has_sign<'a>(table: &'a [u8], client: &'a [u8], size: u8, d: Delimiter) -> bool
-    requires { ⌜ SoundTables (now table) (now client) ⌝ }
+pub fn has_sign<'a>(
+    table: &'a [u8],
+    client: &'a [u8],
+    index: &[u64],
+    client_index: &[u64],
+    size: u8,
+    d: Delimiter,
+) -> bool
+    requires { ⌜ Indexed (now table) (now client) (now index) (now «client_index») ⌝ }
     ensures { λ r. ⌜ r ≡ hasSign (fontWith (now (table .entry)) (now (client .entry))) size d ⌝ }
 {
     let small = d.small;
     let large = d.large;
-    if has_pair(table, client, size, small) {
+    if has_pair(table, client, index, client_index, size, small) {
         return true;
     }
-    has_pair(table, client, size, large)
+    has_pair(table, client, index, client_index, size, large)
 }
 
-fn has_pair<'a>(table: &'a [u8], client: &'a [u8], size: u8, pair: Pair) -> bool
-    requires { ⌜ SoundTables (now table) (now client) ⌝ }
+fn has_pair<'a>(
+    table: &'a [u8],
+    client: &'a [u8],
+    index: &[u64],
+    client_index: &[u64],
+    size: u8,
+    pair: Pair,
+) -> bool
+    requires { ⌜ Indexed (now table) (now client) (now index) (now «client_index») ⌝ }
     ensures { λ r. ⌜ r ≡ hasAny (ofPair (fontWith (now (table .entry)) (now (client .entry))) size pair) ⌝ }
 {
     if is_zero(pair) {
         return false;
     }
-    is_in_sizes(table, client, size, pair.family, pair.code)
+    is_in_sizes(
+        table,
+        client,
+        index,
+        client_index,
+        size,
+        pair.family,
+        pair.code,
+    )
 }
 
-fn is_in_sizes<'a>(table: &'a [u8], client: &'a [u8], size: u8, family: u8, code: u8) -> bool
-    requires { ⌜ SoundTables (now table) (now client) ⌝ }
+fn is_in_sizes<'a>(
+    table: &'a [u8],
+    client: &'a [u8],
+    index: &[u64],
+    client_index: &[u64],
+    size: u8,
+    family: u8,
+    code: u8,
+) -> bool
+    requires { ⌜ Indexed (now table) (now client) (now index) (now «client_index») ⌝ }
     ensures { λ r. ⌜ r ≡ hasAny (inSizes (fontWith (now (table .entry)) (now (client .entry))) family code size) ⌝ }
 {
-    if let Found::Symbol(_) = symbol(table, client, size, family, code) {
+    if let Found::Symbol(_) = symbol(table, client, index, client_index, size, family, code) {
         return true;
     }
     if size == 0 {
         return false;
     }
-    is_in_sizes(table, client, size - 1, family, code)
+    is_in_sizes(table, client, index, client_index, size - 1, family, code)
 }

@@ -5,4 +5,8 @@ mod RecordLaws
 mod HalvingLaws
 mod LookupLaws
 mod ChainLaws
+mod BitLaws
+mod RankLaws
+mod IndexLaws
+mod BuildLaws
 mod Examples

@@ -4,7 +4,8 @@
 --     sound-tables    the two are what a lookup asks for
 --     chains-end      no chain in them is of more than sixteen steps, from whatever symbol it starts
 --     with-empty, empty-client, sound-alone     an empty client's table changes nothing, and is good
---     whole-records, few-records, records-rise    the CH records fill a table, are not too many, and rise; of a client's table the same
+--     whole-records, few-records, records-good, records-rise    the CH records fill a table, are not too many, keep the rules, and rise; of a
+--         client's table the same
 --     ours-alone, sound-ours, sound-client        the CH records of either, as a lookup goes through them
 -- Assumes nothing.
 use mathlib.Core.Path.{_≡_, refl}
@@ -41,6 +42,10 @@ module _ (t : List ℕ) (good : goodRecords t ≡ true) where
   unfolding goodLength
   few-records = leb-true (characterCount t) mostCharacters (and-eq-true-iff (eqb (length t) whole) _ .0 good-length .1)
 
+  pub records-good : every goodCharacter (characterRecords t) ≡ true
+  unfolding goodRecords
+  records-good = and-eq-true-iff (goodLength t && every goodParameters (parameterRecords t)) _ .0 (and-eq-true-iff _ _ .0 good .0) .1
+
   pub records-rise : rising (characterRecords t) ≡ true
   unfolding goodRecords
   records-rise =
@@ -61,12 +66,16 @@ module _ (c : List ℕ) (good : goodClientRecords c ≡ true) where
   unfolding goodClientLength
   few-client = leb-true _ _ (and-eq-true-iff (eqb (length c) (characterBytes * clientCount c)) _ .0 client-length .1)
 
+  pub client-good : every goodCharacter (clientRecords c) ≡ true
+  unfolding goodClientRecords
+  client-good = and-eq-true-iff (goodClientLength c) _ .0 (and-eq-true-iff _ _ .0 good .0) .1
+
   pub client-rises : rising (clientRecords c) ≡ true
   unfolding goodClientRecords
   client-rises = and-eq-true-iff (goodClientLength c && every goodCharacter (clientRecords c)) _ .0 good .1
 
   pub sound-client : SoundRecords c
-  sound-client = record { whole = whole-client; few = omega (arith, few-client); rise = client-rises }
+  sound-client = record { whole = whole-client; few = omega (arith, few-client); good = client-good; rise = client-rises }
 
 -- ours stand behind the PA records
 module _ (t : List ℕ) where
@@ -83,6 +92,7 @@ module _ (t : List ℕ) where
       record {
         whole = rw (ours-count, length-drop) (omega (arith, whole-records t good));
         few = rw ours-count (few-records t good);
+        good = rw ours-alone (records-good t good);
         rise = rw ours-alone (records-rise t good);
       }
 

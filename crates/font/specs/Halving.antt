@@ -2,6 +2,7 @@
 --     Narrowed        records below a range have lesser keys than the symbol's, those above it greater ones
 --     narrowed-whole, narrowed-right, narrowed-left    the whole, and a step to either side of a record
 --     FoundAt         what a lookup comes to, bytes and place
+--     found-none      where no record is the symbol's
 --     found-there     the record with the symbol's key is the first that is the symbol's
 --     found-nowhere   with an empty range there is none
 -- The definition of a font is the first record that is the symbol's, in whatever order they stand; rising records make it the only one.
@@ -46,7 +47,7 @@ module _ (size family code : ℕ) where
       }
 
   -- no record is the symbol's
-  found-none : (l : List (List ℕ)) → ((i : ℕ) → i < length l → isOf size family code (getD l i []) ≡ false) →
+  pub found-none : (l : List (List ℕ)) → ((i : ℕ) → i < length l → isOf size family code (getD l i []) ≡ false) →
       FoundAt size family code l [] (characterBytes * length l)
   unfolding recordIn placeIn
   found-none [] other = record { bytes = refl; place = refl }

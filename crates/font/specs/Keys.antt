@@ -36,7 +36,7 @@ InBytes r = Bytes (familyByte r) (codeByte r)
 -- ---- numbers in two parts, of which the second is a byte
 
 -- two tests of one value
-alike : (x y m n : ℕ) → (x < y → m < n) → (y ≤ x → n ≤ m) → ltb x y ≡ ltb m n
+pub alike : (x y m n : ℕ) → (x < y → m < n) → (y ≤ x → n ≤ m) → ltb x y ≡ ltb m n
 alike x y m n up down = go (ltb x y) refl
   where
     go : (t : Bool) → ltb x y ≡ t → ltb x y ≡ ltb m n
@@ -51,7 +51,7 @@ module _ (a d x y : ℕ) (p : x < 256) (q : y < 256) where
   second = d * 256 + y
 
   -- the order by the first part, and by the second where the first are equal
-  in-order : (ltb a d || (eqb a d && ltb x y)) ≡ ltb first second
+  pub in-order : (ltb a d || (eqb a d && ltb x y)) ≡ ltb first second
   in-order = go (ltb a d) refl (eqb a d) refl
     where
       go : (l : Bool) → ltb a d ≡ l → (e : Bool) → eqb a d ≡ e → (l || (e && ltb x y)) ≡ ltb first second
@@ -64,7 +64,7 @@ module _ (a d x y : ℕ) (p : x < 256) (q : y < 256) where
           let other = eqb-false a d is in
           sym (le-ltb first second (omega arith))
 
-  same-parts : (eqb a d && eqb x y) ≡ eqb first second
+  pub same-parts : (eqb a d && eqb x y) ≡ eqb first second
   same-parts = go (eqb a d) refl (eqb x y) refl
     where
       go : (e : Bool) → eqb a d ≡ e → (f : Bool) → eqb x y ≡ f → (e && f) ≡ eqb first second

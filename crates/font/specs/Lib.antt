@@ -8,3 +8,5 @@ pub mod Values
 pub mod FontLaws
 pub mod Keys
 pub mod Halving
+pub mod Index
+pub mod Building

@@ -7,7 +7,7 @@ use mathlib.Core.List.{List}
 use Prim.Native.Nat.{ℕ, suc, _*_, _≤_}
 use lib.ListN.{length}
 use Rattle.font.specs.Records.{characterBytes, mostCharacters, clientCount, characterRecords, clientRecords, sizeByte, familyByte, codeByte}
-use Rattle.font.specs.Records.{every, rising, goodRecords, goodClientRecords}
+use Rattle.font.specs.Records.{every, goodCharacter, rising, goodRecords, goodClientRecords}
 use Rattle.font.specs.Font.{Font, fontOf, fontWith}
 use Rattle.font.specs.Chains.{longestChain, goesOn, chainEnds}
 
@@ -32,8 +32,9 @@ pub record SoundTables (t c : List ℕ) : Type 0 where
   pub ours : goodRecords t ≡ true
   pub client : goodClientRecords c ≡ true
 
--- and of CH records alone: they are whole, few enough, and rise
+-- and of CH records alone: they are whole, few enough, each keeps the rules, and they rise
 pub record SoundRecords (s : List ℕ) : Type 0 where
   pub whole : length s ≡ characterBytes * clientCount s
   pub few : clientCount s ≤ mostCharacters
+  pub good : every goodCharacter (clientRecords s) ≡ true
   pub rise : rising (clientRecords s) ≡ true

@@ -50,3 +50,16 @@ pub const GREATEST_SIZE: u8 = 2;
 pub const GREATEST_FAMILY: u8 = 15;
 
 pub const GREATEST_WORD: u32 = 8_388_607;
+
+// The index of a table: for each size and family words of bits, one for each code, and a start.
+pub const FAMILY_COUNT: usize = 16;
+
+pub const GROUP_COUNT: usize = SIZE_COUNT * FAMILY_COUNT;
+
+pub const CODES_IN_WORD: u8 = 64;
+
+pub const BIT_WORDS: usize = 4;
+
+pub const GROUP_WORDS: usize = BIT_WORDS + 1;
+
+pub const INDEX_WORDS: usize = GROUP_WORDS * GROUP_COUNT;

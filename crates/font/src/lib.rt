@@ -2,17 +2,20 @@
 // and the font that it holds, is defined in specs/Table.antt and specs/Font.antt; what these functions answer, in specs/Values.antt.
 mod chains;
 mod format;
+mod index;
 mod lookup;
 mod records;
 
 ghost use mathlib.Core.Path.{_≡_};
 ghost use mathlib.Core.Bool.{true};
+ghost use mathlib.Core.List.{_++_};
 ghost use Prim.Native.Nat.{_<_, _≤_};
-ghost use lib.ListN.{length};
+ghost use lib.ListN.{length, drop};
 ghost use denote.Ref.{ptr};
-ghost use Rattle.font.specs.Records.{sizeCount, headerBytes, characterBytes};
+ghost use Rattle.font.specs.Records.{sizeCount, headerBytes, characterBytes, characterRecords, clientRecords};
 ghost use Rattle.font.specs.Table.{goodTable, goodClient, SoundTables};
 ghost use Rattle.font.specs.Font.{fontWith, recordOf, placeOf, metricsOf, successorOf};
+ghost use Rattle.font.specs.Index.{indexWords, indexOf, Indexed};
 ghost use Rattle.font.specs.Values.{foundAs, metricsAs, successorAs, HoldsRow, HoldsParameters};
 
 // The code of the next larger symbol of the same family, if there is one.
@@ -38,6 +41,9 @@ pub enum Found {
 
 // Steps of a chain, each to a symbol's successor.
 pub const LONGEST_CHAIN: usize = 16;
+
+// How many words an index takes.
+pub const INDEX_WORDS: usize = format::INDEX_WORDS;
 
 // Whether the table breaks no rule.
 pub fn is_good(table: &[u8]) -> bool
@@ -112,22 +118,51 @@ fn row(table: &[u8], size: usize) -> [u32; 35]
     words
 }
 
-// The record of a symbol, as a part of the client's table or else of ours, or an empty part. No record has the number that is
-// tried first.
-pub fn record_of<'a>(table: &'a [u8], client: &'a [u8], size: u8, family: u8, code: u8) -> &'a [u8]
-    requires { ⌜ SoundTables (now table) (now client) ⌝ }
+// Writes each table's index at the front of the words lent for it.
+pub fn build(table: &[u8], client: &[u8], index: &mut [u64], client_index: &mut [u64])
+    requires { ⌜ SoundTables (now table) (now client) × (indexWords ≤ length (now index)) × (indexWords ≤ length (now «client_index»)) ⌝ }
+    ensures { λ _. ⌜ now (index .exit) ≡ indexOf (characterRecords (now (table .entry))) ++ drop indexWords (now (index .entry)) ⌝ }
+    ensures { λ _. ⌜ now («client_index» .exit) ≡ indexOf (clientRecords (now (client .entry))) ++ drop indexWords (now («client_index» .entry)) ⌝ }
+{
+    index::build(&table[format::HEADER_BYTES..], index);
+    index::build(client, client_index);
+}
+
+// The record of a symbol by the indexes, as a part of the client's table or else of ours, or an empty part.
+pub fn record_of<'a>(
+    table: &'a [u8],
+    client: &'a [u8],
+    index: &[u64],
+    client_index: &[u64],
+    size: u8,
+    family: u8,
+    code: u8,
+) -> &'a [u8]
+    requires { ⌜ Indexed (now table) (now client) (now index) (now «client_index») ⌝ }
     ensures { λ r. ⌜ now r ≡ recordOf (now (table .entry)) (now (client .entry)) size family code ⌝ }
     ensures { λ r. ⌜ ptr r ≡ placeOf (now (table .entry)) (now (client .entry)) (ptr (table .entry)) (ptr (client .entry)) size family code ⌝ }
 {
-    lookup::record_near(table, client, format::MOST_CHARACTERS, size, family, code)
+    let own = index::record_by(client, client_index, size, family, code);
+    if 0 < own.len() {
+        return own;
+    }
+    index::record_by(&table[format::HEADER_BYTES..], index, size, family, code)
 }
 
 // The symbol of a size, family and code.
-pub fn symbol<'a>(table: &'a [u8], client: &'a [u8], size: u8, family: u8, code: u8) -> Found
-    requires { ⌜ SoundTables (now table) (now client) ⌝ }
+pub fn symbol<'a>(
+    table: &'a [u8],
+    client: &'a [u8],
+    index: &[u64],
+    client_index: &[u64],
+    size: u8,
+    family: u8,
+    code: u8,
+) -> Found
+    requires { ⌜ Indexed (now table) (now client) (now index) (now «client_index») ⌝ }
     ensures { λ answer. ⌜ foundAs answer ≡ fontWith (now (table .entry)) (now (client .entry)) .symbol size family code ⌝ }
 {
-    let r = record_of(table, client, size, family, code);
+    let r = record_of(table, client, index, client_index, size, family, code);
     if r.len() < format::CHARACTER_BYTES {
         return Found::Absent;
     }

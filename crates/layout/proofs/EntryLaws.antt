@@ -4,7 +4,7 @@
 --     no-room-is       setting, where there is no room: the answer, and the buffer as it was
 --     written-is       the buffer after an acceptance, from what the walk drew at its front
 --     measured-refused, refused-is     a formula that is refused
---     refused-later    a refusal by the walk is one of the whole
+--     examined-found   what the walk finds is what is found of the whole
 -- Assumes nothing.
 use mathlib.Core.Path.{_≡_, sym, ap, subst, _∙_}
 use mathlib.Core.List.{List, [], _++_, append-nil}
@@ -19,6 +19,7 @@ use Rattle.boxes.specs.declared.Size.{Size}
 use Rattle.nodes.specs.Nodes.{Node, bytesOf, bytesInNode}
 use Rattle.nodes.specs.Drawn.{Drawn}
 use Rattle.setting.specs.Setting.{Box, noSides, setList}
+use Rattle.answers.specs.Lent.{Lent}
 use Rattle.answers.specs.Answers.{boxed, resultOf, Answered, accepted, measured, setting, bufferAfter}
 use Rattle.answers.specs.AnswersLaws as answers
 use Rattle.walk.specs.declared.lists.ItemsSet.{ItemsSet}
@@ -26,8 +27,10 @@ use Rattle.walk.specs.declared.lists.ItemsSet.the-variants.{Whole, Missing}
 use Rattle.walk.specs.Walked.{ListDone}
 use Rattle.layout.specs.declared.Answer.{Answer}
 use Rattle.layout.specs.declared.Answer.the-variants.{Accepted, NoRoom}
+use Rattle.layout.specs.declared.Finding.{Finding}
+use Rattle.layout.specs.declared.Finding.the-variants.{Boxed, Refused}
 use Rattle.layout.specs.Values.{answeredAs}
-use Rattle.layout.specs.Answering.{Refuses, readResult, Reads, Boxes}
+use Rattle.layout.specs.Answering.{Refuses, Reads, Boxes, Examined, Found}
 
 -- the front of a buffer that is just long enough for the nodes
 drawn-whole : (ns : List Node) (n : ℕ) (b ys : List ℕ) → n ≡ length ns → bytesInNode * n ≤ length b →
@@ -39,40 +42,40 @@ drawn-whole ns n b ys count room drawn =
     in
     drawn (omega arith) ∙ ap (λ (r : List ℕ). bytesOf ns ++ r) rest ∙ append-nil (bytesOf ns)
 
-module _ (style : ℕ) (table client formula : List ℕ) where
-  module _ (s : Style) (g : Reads style table client formula s) where
+module _ (style : ℕ) (table client : List ℕ) (lent : Lent) (formula : List ℕ) where
+  module _ (i j : List ℕ) (s : Style) (g : Reads style table client lent formula i j s) where
     module _ (z : Size) (n : ℕ) (h : Boxes s table client formula z n) where
       abbrev found : Box
       found = setList (fontWith table client) noSides s (treeOf formula)
 
-      found-is : resultOf style table client formula ≡ boxed found
+      found-is : resultOf style table client lent formula ≡ boxed found
       found-is = g .result-is ∙ h .result-is
 
-      pub measured-is : answeredAs (Accepted z n) ≡ measured style table client formula
+      pub measured-is : answeredAs (Accepted z n) ≡ measured style table client lent formula
       measured-is =
           let answer : answeredAs (Accepted z n) ≡ accepted found =
           λ i. record { number = 0; place = 0; size = h .size-is i; count = h .count-is i }
           in
-          answer ∙ sym (answers.measured-boxed noSides style table client formula found found-is)
+          answer ∙ sym (answers.measured-boxed noSides style table client lent formula found found-is)
 
-      count-measured : n ≡ measured style table client formula .count
+      count-measured : n ≡ measured style table client lent formula .count
       count-measured = ap (λ (a : Answered). a .count) measured-is
 
-      pub setting-is : (room : ℕ) → bytesInNode * n ≤ room → answeredAs (Accepted z n) ≡ setting style table client formula room
+      pub setting-is : (room : ℕ) → bytesInNode * n ≤ room → answeredAs (Accepted z n) ≡ setting style table client lent formula room
       setting-is room l =
           measured-is
-          ∙ sym (answers.set-boxed noSides style table client formula found found-is room (subst (λ (k : ℕ). bytesInNode * k ≤ room) count-measured l))
+          ∙ sym (answers.set-boxed noSides style table client lent formula found found-is room (subst (λ (k : ℕ). bytesInNode * k ≤ room) count-measured l))
 
       pub no-room-is : (b : List ℕ) → length b < bytesInNode * n →
-          (answeredAs NoRoom ≡ setting style table client formula (length b)) × (b ≡ bufferAfter style table client formula b)
+          (answeredAs NoRoom ≡ setting style table client lent formula (length b)) × (b ≡ bufferAfter style table client lent formula b)
       no-room-is b l =
-          let lacks : length b < bytesInNode * measured style table client formula .count = rw count-measured at l in
-          let e = answers.no-room-is noSides style table client formula found found-is b lacks in
+          let lacks : length b < bytesInNode * measured style table client lent formula .count = rw count-measured at l in
+          let e = answers.no-room-is noSides style table client lent formula found found-is b lacks in
           (sym (e .0), sym (e .1))
 
       pub written-is : (b ys : List ℕ) (r : ItemsSet) → bytesInNode * n ≤ length b →
           ListDone (fontWith table client) noSides s (treeOf formula) (length formula) (take (bytesInNode * n) b) r ys →
-          (ys ++ drop (bytesInNode * n) b) ≡ bufferAfter style table client formula b
+          (ys ++ drop (bytesInNode * n) b) ≡ bufferAfter style table client lent formula b
       written-is b ys (Missing place) l done = absurd (impossible (sym (h .none-missing) ∙ done .0))
         where
           impossible : none ≡ some place → ⊥
@@ -81,18 +84,19 @@ module _ (style : ℕ) (table client formula : List ℕ) where
           let front : ys ≡ bytesOf (found .nodes) = drawn-whole (found .nodes) n b ys (h .count-is) l (done .1 (h .fits)) in
           ap (λ (r : List ℕ). r ++ drop (bytesInNode * n) b) front
           ∙ ap (λ (k : ℕ). bytesOf (found .nodes) ++ drop (bytesInNode * k) b) count-measured
-          ∙ sym (answers.buffer-boxed noSides style table client formula found found-is b (subst (λ (k : ℕ). bytesInNode * k ≤ length b) count-measured l))
+          ∙ sym (answers.buffer-boxed noSides style table client lent formula found found-is b (subst (λ (k : ℕ). bytesInNode * k ≤ length b) count-measured l))
 
-    pub refused-later : (a : Answer) → Refuses a (readResult s table client formula) → Refuses a (resultOf style table client formula)
-    refused-later a h =
+    pub examined-found : (r : Finding) → Examined s table client formula r → Found style table client lent formula i j r
+    examined-found (Boxed u z n) h = (rw (h .0) g, rw (h .0) (h .1))
+    examined-found (Refused a) h =
         record { number = h .number; place = h .place; result-is = g .result-is ∙ h .result-is; answer-is = h .answer-is }
 
-  module _ (a : Answer) (h : Refuses a (resultOf style table client formula)) where
-    pub measured-refused : answeredAs a ≡ measured style table client formula
-    measured-refused = h .answer-is ∙ sym (answers.measured-refused noSides style table client formula _ _ (h .result-is))
+  module _ (a : Answer) (h : Refuses a (resultOf style table client lent formula)) where
+    pub measured-refused : answeredAs a ≡ measured style table client lent formula
+    measured-refused = h .answer-is ∙ sym (answers.measured-refused noSides style table client lent formula _ _ (h .result-is))
 
     pub refused-is : (b : List ℕ) →
-        (answeredAs a ≡ setting style table client formula (length b)) × (b ≡ bufferAfter style table client formula b)
+        (answeredAs a ≡ setting style table client lent formula (length b)) × (b ≡ bufferAfter style table client lent formula b)
     refused-is b =
-        let e = answers.refused-is noSides style table client formula _ _ (h .result-is) b in
+        let e = answers.refused-is noSides style table client lent formula _ _ (h .result-is) b in
         (h .answer-is ∙ sym (e .0), sym (e .1))

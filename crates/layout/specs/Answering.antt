@@ -1,33 +1,38 @@
 -- What the parts of the entries find.
---     readResult          the result for a formula that reads, in a style that there is
---     Reads, Boxes        a formula that the walk may take, and one that is accepted
 --     Refuses             a refusal
---     ReadDone, Examined, Weighed     what the functions below the entries find
+--     Tested              the tests before anything of the formula is read: passed (`Passes`), or with a refusal of any formula (`Stops`)
+--     readResult          the result for a formula that reads, in a style that there is
+--     Reads, Boxes        a formula that the walk may take, with both indexes, and one that is accepted
+--     Found, Examined, Weighed     what the functions below the entries find
 -- Assumes nothing.
 use mathlib.Core.Path.{_≡_}
 use mathlib.Core.Bool.{true, false}
 use mathlib.Core.List.{List}
-use mathlib.Core.Option.{none}
+use mathlib.Core.Option.{none, some}
 use Prim.Native.Nat.{ℕ, _≤_}
 use lib.ListN.{length}
 use Rattle.font.specs.Table.{goodTable, goodClient}
 use Rattle.font.specs.Font.{fontWith}
+use Rattle.font.specs.Index.{Indexed}
 use Rattle.formula.specs.Reading.{formulaLimit}
 use Rattle.formula.specs.Places.{Readable, treeOf}
 use Rattle.boxes.specs.declared.styles.Style.{Style}
 use Rattle.boxes.specs.declared.Size.{Size}
+use Rattle.boxes.specs.Styles.{styleOf}
 use Rattle.boxes.specs.Values.{sizeAs}
 use Rattle.setting.specs.Setting.{noSides, setList}
 use Rattle.setting.specs.Missing.{missingItems}
 use Rattle.setting.specs.Fitting.{itemsFit}
+use Rattle.answers.specs.Lent.{Lent, enough}
 use Rattle.answers.specs.Answers.{refusal, Result, boxed, refused, ifPresent, resultOf}
+use Rattle.answers.specs.LentLaws.{early}
 use Rattle.walk.specs.declared.lines.Line.{Line}
 use Rattle.walk.specs.Values.{lineFits}
 use Rattle.layout.specs.declared.Answer.{Answer}
 use Rattle.layout.specs.declared.Answer.the-variants.{TooLarge}
 use Rattle.layout.specs.Values.{answeredAs}
-use Rattle.layout.specs.declared.Reading.{Reading}
-use Rattle.layout.specs.declared.Reading.the-variants as reading
+use Rattle.layout.specs.declared.Testing.{Testing}
+use Rattle.layout.specs.declared.Testing.the-variants as testing
 use Rattle.layout.specs.declared.Finding.{Finding}
 use Rattle.layout.specs.declared.Finding.the-variants as finding
 
@@ -37,25 +42,37 @@ pub record Refuses (a : Answer) (r : Result) : Type 0 where
   pub result-is : r ≡ refused number place
   pub answer-is : answeredAs a ≡ refusal number place
 
--- ---- the tests before the walk
+-- ---- the tests before the reading
+
+pub record Passes (style : ℕ) (table client : List ℕ) (lent : Lent) (s : Style) : Type 0 where
+  pub style-is : styleOf style ≡ some s
+  pub table-good : goodTable table ≡ true
+  pub client-good : goodClient table client ≡ true
+  pub words-enough : enough lent ≡ true
+
+pub record Stops (style : ℕ) (table client : List ℕ) (lent : Lent) (a : Answer) : Type 0 where
+  pub number : ℕ
+  pub is-early : early number ≡ true
+  pub result-is : (formula : List ℕ) → resultOf style table client lent formula ≡ refused number 0
+  pub answer-is : answeredAs a ≡ refusal number 0
+
+abbrev pub Tested : ℕ → List ℕ → List ℕ → Lent → Testing → Type 0
+Tested style table client lent (testing.Passed s) = Passes style table client lent s
+Tested style table client lent (testing.Refused a) = Stops style table client lent a
+
+-- ---- the walk
 
 abbrev pub readResult : Style → List ℕ → List ℕ → List ℕ → Result
 readResult s table client formula =
     ifPresent (fontWith table client) noSides s (treeOf formula) (missingItems (fontWith table client) s (treeOf formula))
 
--- a formula that reads, in a style that there is, and tables that break no rule
-pub record Reads (style : ℕ) (table client formula : List ℕ) (s : Style) : Type 0 where
+-- a formula that reads, in a style that there is, and tables that break no rule, with the indexes i and j
+pub record Reads (style : ℕ) (table client : List ℕ) (lent : Lent) (formula i j : List ℕ) (s : Style) : Type 0 where
   pub table-good : goodTable table ≡ true
-  pub client-good : goodClient table client ≡ true
+  pub indexed : Indexed table client i j
   pub readable : Readable formula
   pub short : length formula ≤ formulaLimit
-  pub result-is : resultOf style table client formula ≡ readResult s table client formula
-
-abbrev pub ReadDone : ℕ → List ℕ → List ℕ → List ℕ → Reading → Type 0
-ReadDone style table client formula (reading.Reads s) = Reads style table client formula s
-ReadDone style table client formula (reading.Refused a) = Refuses a (resultOf style table client formula)
-
--- ---- the walk
+  pub result-is : resultOf style table client lent formula ≡ readResult s table client formula
 
 -- a formula in the style s that is accepted, with the size z and n nodes
 pub record Boxes (s : Style) (table client formula : List ℕ) (z : Size) (n : ℕ) : Type 0 where
@@ -65,10 +82,16 @@ pub record Boxes (s : Style) (table client formula : List ℕ) (z : Size) (n : �
   pub size-is : sizeAs z ≡ setList (fontWith table client) noSides s (treeOf formula) .size
   pub count-is : n ≡ length (setList (fontWith table client) noSides s (treeOf formula) .nodes)
 
+abbrev pub Weighed : Style → Line → Finding → Type 0
+Weighed s l (finding.Boxed u z n) = (lineFits l ≡ true) × (u ≡ s) × (z ≡ l .size) × (n ≡ l .run .count)
+Weighed s l (finding.Refused a) = (lineFits l ≡ false) × (a ≡ TooLarge)
+
 abbrev pub Examined : Style → List ℕ → List ℕ → List ℕ → Finding → Type 0
-Examined s table client formula (finding.Boxed z n) = Boxes s table client formula z n
+Examined s table client formula (finding.Boxed u z n) = (u ≡ s) × Boxes s table client formula z n
 Examined s table client formula (finding.Refused a) = Refuses a (readResult s table client formula)
 
-abbrev pub Weighed : Line → Finding → Type 0
-Weighed l (finding.Boxed z n) = (lineFits l ≡ true) × (z ≡ l .size) × (n ≡ l .run .count)
-Weighed l (finding.Refused a) = (lineFits l ≡ false) × (a ≡ TooLarge)
+-- the lent words are i and j then
+abbrev pub Found : ℕ → List ℕ → List ℕ → Lent → List ℕ → List ℕ → List ℕ → Finding → Type 0
+Found style table client lent formula i j (finding.Boxed s z n) =
+    Reads style table client lent formula i j s × Boxes s table client formula z n
+Found style table client lent formula i j (finding.Refused a) = Refuses a (resultOf style table client lent formula)

@@ -3,15 +3,16 @@
 -- Assumes nothing.
 use Rattle.formula.specs.declared.Fault.the-variants as faults
 use Rattle.boxes.specs.Values.{sizeAs}
-use Rattle.answers.specs.Answers.{Answered, refusal, acceptedNumber, styleNumber, tableNumber, clientNumber, faultNumber, missingNumber, tooLargeNumber, noRoomNumber}
+use Rattle.answers.specs.Answers.{Answered, refusal, acceptedNumber, styleNumber, tableNumber, clientNumber, indexNumber, faultNumber, missingNumber, tooLargeNumber, noRoomNumber}
 use Rattle.layout.specs.declared.Answer.{Answer}
-use Rattle.layout.specs.declared.Answer.the-variants.{Accepted, NoStyle, BadTable, BadClient, Unreadable, TooDeep, Missing, TooLarge, NoRoom}
+use Rattle.layout.specs.declared.Answer.the-variants.{Accepted, NoStyle, BadTable, BadClient, FewWords, Unreadable, TooDeep, Missing, TooLarge, NoRoom}
 
 abbrev pub answeredAs : Answer → Answered
 answeredAs (Accepted z n) = record { number = acceptedNumber; place = 0; size = sizeAs z; count = n }
 answeredAs NoStyle = refusal styleNumber 0
 answeredAs BadTable = refusal tableNumber 0
 answeredAs BadClient = refusal clientNumber 0
+answeredAs FewWords = refusal indexNumber 0
 answeredAs (Unreadable place) = refusal (faultNumber faults.Unreadable) place
 answeredAs (TooDeep place) = refusal (faultNumber faults.TooDeep) place
 answeredAs (Missing place) = refusal missingNumber place

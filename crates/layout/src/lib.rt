@@ -1,13 +1,14 @@
 // Measuring and setting a formula, with the symbols of a client's table over ours. What they answer is defined in specs/Answers.antt of
-// crate answers.
-// Every test that needs no walk comes before the parameters are taken out of our table; they are then lent to each walk.
+// crate answers, and what becomes of the words lent for the two indexes in specs/Lent.antt there.
+// The indexes are built where nothing is refused before the reading. The parameters are taken out of our table where a walk is to come.
 
 ghost use mathlib.Core.Path.{_≡_};
 ghost use lib.ListN.{length};
+ghost use Rattle.answers.specs.Lent.{lends, lentOf, indexAfter, clientIndexAfter};
 ghost use Rattle.answers.specs.Answers.{faultNumber, refusal, measured, setting, bufferAfter};
 ghost use Rattle.walk.specs.Walked.{ListGiven};
 ghost use Rattle.layout.specs.Values.{answeredAs};
-ghost use Rattle.layout.specs.Answering.{ReadDone, Examined, Weighed};
+ghost use Rattle.layout.specs.Answering.{Tested, Found, Examined, Weighed};
 
 pub mod parts;
 
@@ -16,6 +17,7 @@ use boxes::parameters::Parameters;
 use boxes::styles::Numbered;
 use boxes::styles::Style;
 use boxes::styles::style_of;
+use font::INDEX_WORDS;
 use formula::Fault;
 use formula::Verdict;
 use formula::reading::read_formula;
@@ -31,6 +33,7 @@ pub enum Answer {
     NoStyle,
     BadTable,
     BadClient,
+    FewWords,
     Unreadable(usize),
     TooDeep(usize),
     Missing(usize),
@@ -38,33 +41,34 @@ pub enum Answer {
     NoRoom,
 }
 
-// What is found without a walk: the style of a formula that reads, or a refusal.
-pub enum Reading {
-    Reads(Style),
+// What is found before anything of the formula is read: its style, or a refusal.
+pub enum Testing {
+    Passed(Style),
     Refused(Answer),
 }
 
-// What is found by a walk that writes no node: the size and how many nodes there are, or a refusal.
+// What is found by a walk that writes no node: the style, the size and how many nodes there are, or a refusal.
 pub enum Finding {
-    Boxed(Size, usize),
+    Boxed(Style, Size, usize),
     Refused(Answer),
 }
 
 // The answer of measuring.
-pub fn measure<'a>(style: u8, table: &'a [u8], client: &'a [u8], formula: &[u8]) -> Answer
-    ensures { λ r. ⌜ answeredAs r ≡ measured style (now (table .entry)) (now (client .entry)) (now (formula .entry)) ⌝ }
+pub fn measure<'a>(
+    style: u8,
+    table: &'a [u8],
+    client: &'a [u8],
+    formula: &[u8],
+    index: &mut [u64],
+    client_index: &mut [u64],
+) -> Answer
+    ensures { λ r. ⌜ answeredAs r ≡ measured style (now (table .entry)) (now (client .entry)) (lentOf (now (index .entry)) (now («client_index» .entry))) (now (formula .entry)) ⌝ }
+    ensures { λ _. ⌜ now (index .exit) ≡ indexAfter style (now (table .entry)) (now (client .entry)) (now (index .entry)) (now («client_index» .entry)) ⌝ }
+    ensures { λ _. ⌜ now («client_index» .exit) ≡ clientIndexAfter style (now (table .entry)) (now (client .entry)) (now (index .entry)) (now («client_index» .entry)) ⌝ }
 {
-    let reading = read(style, table, client, formula);
-    let s = match reading {
-        Reading::Reads(s) => s,
-        Reading::Refused(answer) => {
-            return answer;
-        }
-    };
-    let p = font::parameters(table);
-    let finding = examine(table, client, &p, s, formula);
+    let finding = find(style, table, client, formula, index, client_index);
     match finding {
-        Finding::Boxed(size, count) => Answer::Accepted(size, count),
+        Finding::Boxed(_, size, count) => Answer::Accepted(size, count),
         Finding::Refused(answer) => answer,
     }
 }
@@ -76,51 +80,96 @@ pub fn set<'a>(
     client: &'a [u8],
     formula: &[u8],
     nodes: &mut [u8],
+    index: &mut [u64],
+    client_index: &mut [u64],
 ) -> Answer
-    ensures { λ r. ⌜ answeredAs r ≡ setting style (now (table .entry)) (now (client .entry)) (now (formula .entry)) (length (now (nodes .entry))) ⌝ }
-    ensures { λ _. ⌜ now (nodes .exit) ≡ bufferAfter style (now (table .entry)) (now (client .entry)) (now (formula .entry)) (now (nodes .entry)) ⌝ }
+    ensures { λ r. ⌜ answeredAs r ≡ setting style (now (table .entry)) (now (client .entry)) (lentOf (now (index .entry)) (now («client_index» .entry))) (now (formula .entry)) (length (now (nodes .entry))) ⌝ }
+    ensures { λ _. ⌜ now (nodes .exit) ≡ bufferAfter style (now (table .entry)) (now (client .entry)) (lentOf (now (index .entry)) (now («client_index» .entry))) (now (formula .entry)) (now (nodes .entry)) ⌝ }
+    ensures { λ _. ⌜ now (index .exit) ≡ indexAfter style (now (table .entry)) (now (client .entry)) (now (index .entry)) (now («client_index» .entry)) ⌝ }
+    ensures { λ _. ⌜ now («client_index» .exit) ≡ clientIndexAfter style (now (table .entry)) (now (client .entry)) (now (index .entry)) (now («client_index» .entry)) ⌝ }
 {
-    let reading = read(style, table, client, formula);
-    let s = match reading {
-        Reading::Reads(s) => s,
-        Reading::Refused(answer) => {
-            return answer;
-        }
-    };
-    let p = font::parameters(table);
-    let finding = examine(table, client, &p, s, formula);
+    let finding = find(style, table, client, formula, index, client_index);
     match finding {
-        Finding::Boxed(size, count) => {
+        Finding::Boxed(s, size, count) => {
             if nodes.len() / BYTES_IN_NODE < count {
                 return Answer::NoRoom;
             }
             let end = BYTES_IN_NODE * count;
-            set_list(table, client, &p, s, formula, &mut nodes[..end]);
+            let p = font::parameters(table);
+            set_list(
+                table,
+                client,
+                index,
+                client_index,
+                &p,
+                s,
+                formula,
+                &mut nodes[..end],
+            );
             Answer::Accepted(size, count)
         }
         Finding::Refused(answer) => answer,
     }
 }
 
-// The tests of the style, our table, the client's and the reading, in this order.
-fn read<'a>(style: u8, table: &'a [u8], client: &'a [u8], formula: &[u8]) -> Reading
-    ensures { λ r. ⌜ ReadDone style (now (table .entry)) (now (client .entry)) (now (formula .entry)) r ⌝ }
+// All tests but the one of room: those before the reading, behind which both indexes are built, the reading, and a walk that writes no node.
+fn find<'a>(
+    style: u8,
+    table: &'a [u8],
+    client: &'a [u8],
+    formula: &[u8],
+    index: &mut [u64],
+    client_index: &mut [u64],
+) -> Finding
+    ensures { λ r. ⌜ Found style (now (table .entry)) (now (client .entry)) (lentOf (now (index .entry)) (now («client_index» .entry))) (now (formula .entry)) (now (index .exit)) (now («client_index» .exit)) r ⌝ }
+    ensures { λ _. ⌜ now (index .exit) ≡ indexAfter style (now (table .entry)) (now (client .entry)) (now (index .entry)) (now («client_index» .entry)) ⌝ }
+    ensures { λ _. ⌜ now («client_index» .exit) ≡ clientIndexAfter style (now (table .entry)) (now (client .entry)) (now (index .entry)) (now («client_index» .entry)) ⌝ }
+{
+    let testing = tested(style, table, client, index.len(), client_index.len());
+    let s = match testing {
+        Testing::Passed(s) => s,
+        Testing::Refused(answer) => {
+            return Finding::Refused(answer);
+        }
+    };
+    font::build(table, client, index, client_index);
+    let verdict = read_formula(formula);
+    match verdict {
+        Verdict::Good => {
+            let p = font::parameters(table);
+            examine(table, client, index, client_index, &p, s, formula)
+        }
+        Verdict::Faulty(fault, place) => Finding::Refused(faulty(fault, place)),
+    }
+}
+
+// The tests of the style, our table, the client's and the lent words, in this order.
+fn tested<'a>(
+    style: u8,
+    table: &'a [u8],
+    client: &'a [u8],
+    words: usize,
+    client_words: usize,
+) -> Testing
+    ensures { λ r. ⌜ Tested style (now (table .entry)) (now (client .entry)) (lends words «client_words») r ⌝ }
 {
     let numbered = style_of(style);
     let Numbered::Styled(s) = numbered else {
-        return Reading::Refused(Answer::NoStyle);
+        return Testing::Refused(Answer::NoStyle);
     };
     if !font::is_good(table) {
-        return Reading::Refused(Answer::BadTable);
+        return Testing::Refused(Answer::BadTable);
     }
     if !font::is_good_client(table, client) {
-        return Reading::Refused(Answer::BadClient);
+        return Testing::Refused(Answer::BadClient);
     }
-    let verdict = read_formula(formula);
-    match verdict {
-        Verdict::Good => Reading::Reads(s),
-        Verdict::Faulty(fault, place) => Reading::Refused(faulty(fault, place)),
+    if words < INDEX_WORDS {
+        return Testing::Refused(Answer::FewWords);
     }
+    if client_words < INDEX_WORDS {
+        return Testing::Refused(Answer::FewWords);
+    }
+    Testing::Passed(s)
 }
 
 // The answer to a fault of the reading.
@@ -137,28 +186,39 @@ fn faulty(fault: Fault, place: usize) -> Answer
 fn examine<'a>(
     table: &'a [u8],
     client: &'a [u8],
+    index: &[u64],
+    client_index: &[u64],
     p: &Parameters,
     style: Style,
     formula: &[u8],
 ) -> Finding
-    requires { ⌜ ListGiven (now table) (now client) (now p) (now formula) ⌝ }
+    requires { ⌜ ListGiven (now table) (now client) (now index) (now «client_index») (now p) (now formula) ⌝ }
     ensures { λ r. ⌜ Examined style (now (table .entry)) (now (client .entry)) (now (formula .entry)) r ⌝ }
 {
     let mut none = [0u8; 1];
-    let l = set_list(table, client, p, style, formula, &mut none);
+    let l = set_list(
+        table,
+        client,
+        index,
+        client_index,
+        p,
+        style,
+        formula,
+        &mut none,
+    );
     match l {
-        ItemsSet::Whole(line) => weighed(line),
+        ItemsSet::Whole(line) => weighed(style, line),
         ItemsSet::Missing(place) => Finding::Refused(Answer::Missing(place)),
     }
 }
 
 // A whole list, which may be too large.
-fn weighed(line: Line) -> Finding
-    ensures { λ r. ⌜ Weighed line r ⌝ }
+fn weighed(style: Style, line: Line) -> Finding
+    ensures { λ r. ⌜ Weighed style line r ⌝ }
 {
     if list_fits(line) {
         let size = line.size;
-        return Finding::Boxed(size, line.run.count);
+        return Finding::Boxed(style, size, line.run.count);
     }
     Finding::Refused(Answer::TooLarge)
 }

@@ -29,6 +29,7 @@ pub fn parts_of(answer: Answer) -> Parts
         Answer::NoStyle => refused(1, 0),
         Answer::BadTable => refused(2, 0),
         Answer::BadClient => refused(8, 0),
+        Answer::FewWords => refused(19, 0),
         Answer::Unreadable(place) => refused(3, place),
         Answer::TooDeep(place) => refused(4, place),
         Answer::Missing(place) => refused(5, place),

@@ -2,6 +2,7 @@
 // standard input, and writes what setting gives.
 
 ghost use Rattle.io.specs.Counts.{Counts};
+use font::INDEX_WORDS;
 use layout::Answer;
 use libc::STDIN_FILENO;
 
@@ -60,6 +61,16 @@ fn show<'a>(table: &'a [u8], client: &'a [u8], input: &[u8]) {
         return;
     }
     let mut nodes = [0u8; NODE_SPACE];
-    let answer = layout::set(input[0], table, client, &input[1..], &mut nodes);
+    let mut index = [0u64; INDEX_WORDS];
+    let mut client_index = [0u64; INDEX_WORDS];
+    let answer = layout::set(
+        input[0],
+        table,
+        client,
+        &input[1..],
+        &mut nodes,
+        &mut index,
+        &mut client_index,
+    );
     listing::write_answer(answer, &nodes);
 }

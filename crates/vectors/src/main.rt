@@ -3,6 +3,7 @@
 // first; 'F', a style, a two-byte length and a formula.
 
 ghost use Prim.Native.Nat.{_≤_};
+use font::INDEX_WORDS;
 
 const CASES_SPACE: usize = 512_000;
 
@@ -91,6 +92,16 @@ fn size_at(s: &[u8]) -> usize {
 
 fn show<'a>(style: u8, table: &'a [u8], client: &'a [u8], formula: &[u8]) {
     let mut nodes = [0u8; NODE_SPACE];
-    let answer = layout::set(style, table, client, formula, &mut nodes);
+    let mut index = [0u64; INDEX_WORDS];
+    let mut client_index = [0u64; INDEX_WORDS];
+    let answer = layout::set(
+        style,
+        table,
+        client,
+        formula,
+        &mut nodes,
+        &mut index,
+        &mut client_index,
+    );
     listing::write_answer(answer, &nodes);
 }

@@ -6,7 +6,7 @@
 -- Assumes nothing.
 use mathlib.Core.Path.{_≡_, refl, sym, subst, ap, ap₂, _∙_}
 use mathlib.Core.List.{List, [], _∷_}
-use mathlib.Core.Option.{none, some}
+use mathlib.Core.Option.{none}
 use Prim.Native.Nat.{ℕ, suc, _+_, _-_, _≤_, _<_}
 use native.Mathlib.Omega.{arith}
 use lib.ListN.{length, take, drop, length-take, length-drop}
@@ -19,7 +19,7 @@ use Rattle.formula.specs.declared.Opening.{Opening}
 use Rattle.formula.specs.declared.Opening.the-variants.{Choice}
 use Rattle.formula.specs.Tree.{Items, Item, choiceOpeningBytes, listOpeningBytes, sublistBytes, itemsBytes}
 use Rattle.formula.specs.Heads.{openingOf, fieldHead}
-use Rattle.formula.specs.Places.{Readable, treeOf, headBytes, contents, listOf, GoodList, choiceLists, headAt, fieldEnd, listPlace, listIn, itemOf}
+use Rattle.formula.specs.Places.{treeOf, headBytes, contents, listOf, GoodList, choiceLists, headAt, fieldEnd, listPlace, listIn, itemOf}
 use Rattle.formula.specs.Slices.{tail-part, field-part}
 use Rattle.formula.specs.HeadLaws.{head-fits, list-opening, contents-shorter}
 use Rattle.formula.specs.PlacesLaws.{Chosen, list-bytes}
@@ -133,8 +133,8 @@ choice-seen {style} {s} {c} {inside} {n} opens span seen place =
 
 -- ---- what it comes to
 
-pub choice-given : {t u : List ℕ} {p : List (List ℕ)} {s : List ℕ} {l : lines.Line} {style : Style} {c : Span} →
-    OpenedGiven t u p s Choice l → TakenSpan style s c → ItemsGiven t u p (part c s) l × (length (part c s) < length s)
+pub choice-given : {t u i j : List ℕ} {p : List (List ℕ)} {s : List ℕ} {l : lines.Line} {style : Style} {c : Span} →
+    OpenedGiven t u i j p s Choice l → TakenSpan style s c → ItemsGiven t u i j p (part c s) l × (length (part c s) < length s)
 choice-given given span =
     let list = given .items .list in
     let short = list .short in

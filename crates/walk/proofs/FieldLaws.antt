@@ -1,8 +1,9 @@
 -- A field of an item by what stands at its head, in the terms of the code: its slices, and where the field ends.
+--     field-given                   what the setter of a field is given
 --     Head, head-at, head-short     the head that was found, and where the field ends
 --     head-empty, head-symbol       no symbol and no list; a symbol
 --     list-given                    what the setter of a list is given
---     head-line, head-whole, head-missing     a list, by what its setter came to
+--     list-goes, head-list          a list, by what its setter came to
 -- Assumes nothing.
 use mathlib.Core.Path.{_≡_, refl, sym, subst, ap, _∙_}
 use mathlib.Core.Bool.{true}
@@ -15,7 +16,7 @@ use Rattle.formula.specs.declared.FieldHead.{FieldHead}
 use Rattle.formula.specs.declared.FieldHead.the-variants.{NoField, Empty, Symbol, Sublist, CutSublist}
 use Rattle.formula.specs.Tree.{Items, Field, empty, symbol, list, listOpeningBytes}
 use Rattle.formula.specs.Heads.{fieldHead, isEmpty}
-use Rattle.formula.specs.Places.{treeOf, headBytes, headAt, contents, fieldOf, GoodField}
+use Rattle.formula.specs.Places.{treeOf, headBytes, headAt, contents, fieldOf, GoodField, GoodFieldAt}
 use Rattle.formula.specs.Slices.{tail-part, field-part}
 use Rattle.formula.specs.HeadLaws.{head-fits, list-opening, contents-shorter}
 use Rattle.boxes.specs.declared.styles.Style.{Style}
@@ -30,9 +31,22 @@ use Rattle.walk.specs.declared.lines.Line as lines
 use Rattle.walk.specs.declared.lists.ItemsSet.{ItemsSet}
 use Rattle.walk.specs.declared.lists.ItemsSet.the-variants as items
 use Rattle.walk.specs.Bounds.{longest, LineWithin}
-use Rattle.walk.specs.Walked.{EmptyPart, FieldGiven, FieldDone, HeadDone, StartLine, ClosedLine, ClosedPart, ItemsGiven, ItemsDone, ListDone}
+use Rattle.walk.specs.Walked.{EmptyPart, ListGiven, FieldGiven, FieldDone, HeadDone, StartLine, ClosedLine, ClosedPart, ListGoes, ListField, ItemsGiven, ItemsDone, ListDone}
 use Rattle.walk.specs.WalkedLaws.{start-within, list-whole-of, list-lacks-of}
 use Rattle.walk.proofs.PartLaws.{field-empty, list-whole, list-missing}
+use Rattle.walk.proofs.ListLaws.{line-more}
+
+-- what the setter of a field is given, by what that of its item is
+pub field-given : {t u i j : List ℕ} {p : List (List ℕ)} {s : List ℕ} {at place : ℕ} → ListGiven t u i j p s → at ≡ place → GoodFieldAt s place →
+    place ≤ length s → FieldGiven t u i j p s at
+field-given {s = s} given is good inside =
+    record {
+      tables-good = given .tables-good;
+      parameters-are = given .parameters-are;
+      good = subst (GoodFieldAt s) (sym is) good;
+      inside = omega (arith, is, inside);
+      short = given .short;
+    }
 
 -- the field at a place has the head h and goes up to `end`
 pub record Head (s : List ℕ) (at : ℕ) (h : FieldHead) (end : ℕ) : Type 0 where
@@ -41,7 +55,7 @@ pub record Head (s : List ℕ) (at : ℕ) (h : FieldHead) (end : ℕ) : Type 0 w
   pub inside : end ≤ length s
 
 -- as the code finds it: r in the rest of the item, and its bytes n
-pub head-at : {t u : List ℕ} {p : List (List ℕ)} {s : List ℕ} {at n : ℕ} {r h : FieldHead} → FieldGiven t u p s at →
+pub head-at : {t u i j : List ℕ} {p : List (List ℕ)} {s : List ℕ} {at n : ℕ} {r h : FieldHead} → FieldGiven t u i j p s at →
     r ≡ fieldHead (take (length s - at) (drop at s)) → n ≡ headBytes r → r ≡ h → Head s at h (at + n)
 head-at {s = s} {at} {n} {r} {h} given read size is =
     let here : headAt s at ≡ h = sym (read ∙ ap fieldHead (tail-part s at)) ∙ is in
@@ -62,7 +76,7 @@ empty-is (Sublist opening n) e = let z : _≡_ {A = ℕ} 0 1 = cc in absurd (ome
 empty-is CutSublist e = let z : _≡_ {A = ℕ} 0 1 = cc in absurd (omega arith)
 
 -- a head has so few bytes that they can be added up
-pub head-short : {t u : List ℕ} {p : List (List ℕ)} {s : List ℕ} {at : ℕ} {r : FieldHead} → FieldGiven t u p s at →
+pub head-short : {t u i j : List ℕ} {p : List (List ℕ)} {s : List ℕ} {at : ℕ} {r : FieldHead} → FieldGiven t u i j p s at →
     r ≡ fieldHead (take (length s - at) (drop at s)) → at + headBytes r ≤ longest
 head-short {s = s} {at} {r} given read =
     let o = head-at given read refl refl in
@@ -106,10 +120,10 @@ module _ (F : Font) (st : Style) (manner : Manner) (b b′ : List ℕ) {s : List
         (subst (λ (p : List ℕ). Done p (length p) l) inner d))
 
     -- a line of its own bytes alone
-    pub head-line : {line : lines.Line} → l ≡ items.Whole line → LineWithin (0 + n) line
+    head-line : {line : lines.Line} → l ≡ items.Whole line → LineWithin (0 + n) line
     head-line {line} is = items-done (items.Whole line) is .1 .grows 0 (start-within 0 empty-line)
 
-    pub head-whole : {P : Parameters} {line : lines.Line} {c : parts.Part} → P ≡ F .parameter → l ≡ items.Whole line →
+    head-whole : {P : Parameters} {line : lines.Line} {c : parts.Part} → P ≡ F .parameter → l ≡ items.Whole line →
         ClosedPart P st (sides .right) end line c → HeadDone F st manner s at b (Whole c) b′
     head-whole {P} {line} {c} params is p =
         let closed = p .closed in
@@ -118,7 +132,7 @@ module _ (F : Font) (st : Style) (manner : Manner) (b b′ : List ℕ) {s : List
         (list-whole-of F sides tree n b b′ empty-line line closed (items-done (items.Whole line) is) end-is) in
         head-done o (Whole c) (list-whole F st manner at end b tree n goes-on b′ closed c w (p .part-is))
 
-    pub head-missing : {place : ℕ} → l ≡ items.Missing place →
+    head-missing : {place : ℕ} → l ≡ items.Missing place →
         HeadDone F st manner s at b (Missing (at + opening + place)) b′ × (at + opening + place ≤ length s)
     head-missing {place} is =
         let w = list-lacks-of F sides tree n b b′ empty-line place (items-done (items.Missing place) is) in
@@ -131,6 +145,26 @@ module _ (F : Font) (st : Style) (manner : Manner) (b b′ : List ℕ) {s : List
           omega (arith, o .goes),
         )
 
+    -- the field from it
+    pub list-goes : length s ≤ longest → ListGoes (at + opening) l
+    list-goes short = go l refl
+      where
+        go : (r : ItemsSet) → l ≡ r → ListGoes (at + opening) r
+        go (items.Whole line) is = line-more (omega (arith, o .goes, o .inside)) (head-line is)
+        go (items.Missing place) is = omega (arith, head-missing is .1)
+
+    pub head-list : {P : Parameters} → P ≡ F .parameter → (r : FieldSet) → ListField P st (sides .right) (at + opening) end l r →
+        HeadDone F st manner s at b r b′
+    head-list {P} params r d = go l refl r d
+      where
+        go : (came : ItemsSet) → l ≡ came → (r : FieldSet) → ListField P st (sides .right) (at + opening) end came r →
+            HeadDone F st manner s at b r b′
+        go (items.Whole line) is (Whole c) p = head-whole params is p
+        go (items.Whole line) is (Missing there) p = absurd p
+        go (items.Missing place) is (Whole c) e = absurd e
+        go (items.Missing place) is (Missing there) e =
+            subst (λ (k : ℕ). HeadDone F st manner s at b (Missing k) b′) (sym e) (head-missing is .0)
+
 module _ (F : Font) (st : Style) (manner : Manner) (b : List ℕ) {s : List ℕ} {at end : ℕ} where
   pub head-empty : {h : FieldHead} {c : parts.Part} → Head s at h end → fieldOf (drop at s) h ≡ empty → EmptyPart end c →
       HeadDone F st manner s at b (Whole c) b
@@ -140,10 +174,10 @@ module _ (F : Font) (st : Style) (manner : Manner) (b : List ℕ) {s : List ℕ}
       (field-empty F st manner at end b c (omega (arith, o .goes)) e))
 
 -- what the setter of a list is given, and that the list is shorter than what holds the item
-pub list-given : {t u : List ℕ} {p : List (List ℕ)} {s : List ℕ} {at end opening n : ℕ} {left : Neighbour} {st : Style} {start : lines.Line} → FieldGiven t u p s at →
+pub list-given : {t u i j : List ℕ} {p : List (List ℕ)} {s : List ℕ} {at end opening n : ℕ} {left : Neighbour} {st : Style} {start : lines.Line} → FieldGiven t u i j p s at →
     Head s at (Sublist opening n) end → StartLine left st start →
     let part = take (end - (at + opening)) (drop (at + opening) s) in
-    ItemsGiven t u p part start × (length part < length s)
+    ItemsGiven t u i j p part start × (length part < length s)
 list-given {s = s} {at} {end} {opening} {n} given o empty-line =
     let shorter = contents-shorter (drop at s) opening n (o .is) in
     let rest = length-drop at s in

@@ -1,5 +1,4 @@
--- Parts that are set one behind another in a buffer, each into the rest of it: what was b₀ is b, and n nodes' bytes w stand at its
--- front, if what was set is known and there is room. Whatever was set, all but m nodes of it is kept, and n is not more.
+-- Parts that are set one behind another in a buffer, each into the rest of it (`Laid`).
 --     laid-start     room that is left free at the front
 --     laid-gap       room that is left free behind
 --     laid-kept      what is kept once a part was lent
@@ -20,11 +19,7 @@ use Rattle.nodes.specs.Buffer.{roomFor}
 use Rattle.nodes.specs.Drawn.{Drawn}
 use Rattle.nodes.specs.Lent.{rest-lent, rest-back}
 use Rattle.nodes.specs.Kept.{Kept, kept-all, kept-more, kept-next}
-
-pub record Laid (b₀ : List ℕ) (m n : ℕ) (known : Bool) (w b : List ℕ) : Type 0 where
-  pub few : n ≤ m
-  pub kept : Kept m b₀ b
-  pub laid : known ≡ true → bytesInNode * n ≤ length b₀ → (length w ≡ bytesInNode * n) × (b ≡ w ++ drop (bytesInNode * n) b₀)
+use Rattle.walk.specs.Standing.{Laid}
 
 pub laid-start : {m : ℕ} (b₀ : List ℕ) (n : ℕ) → n ≤ m → Laid b₀ m n true (take (bytesInNode * n) b₀) b₀
 laid-start {m} b₀ n few =

@@ -407,10 +407,10 @@ module _ (F : Font) (beyond : Neighbour) where
         along-next d = let one = item-along left l lent v (left-some .0) (left-some .1) d in (one .0, along-more (one .1))
 
 -- what the setter of the rest is given, and how long that is
-pub rest-given : {t u : List ℕ} {p : List (List ℕ)} {F : Font} {beyond : Neighbour} {s : List ℕ} {l₀ : lines.Line} {b₀ : List ℕ}
-    {at : ℕ} {l : lines.Line} {b : List ℕ} → ItemsGiven t u p s l₀ → Along F beyond s l₀ b₀ at l b →
+pub rest-given : {t u i j : List ℕ} {p : List (List ℕ)} {F : Font} {beyond : Neighbour} {s : List ℕ} {l₀ : lines.Line} {b₀ : List ℕ}
+    {at : ℕ} {l : lines.Line} {b : List ℕ} → ItemsGiven t u i j p s l₀ → Along F beyond s l₀ b₀ at l b →
     let rest = take (length s - at) (drop at s) in
-    ItemsGiven t u p rest l × (length rest ≡ length s - at)
+    ItemsGiven t u i j p rest l × (length rest ≡ length s - at)
 rest-given {s = s} {at = at} given a =
     let long = length-drop at s in
     let short = given .list .short in

@@ -1,9 +1,8 @@
 -- An item with fields, from its three fields.
---     item-lacks                         the first missing symbol of an item is that of its fields, in their order
---     One, Two, Three                    what stands so far in the buffer, field by field; `set-one`, `set-two`, `set-three` and
---                                        `none-third` go on from one to the next
---     noad-added                         all three stand there and the item is finished: it has gone behind the line
---     noad-lacks, noad-done              what an item with fields comes to
+--     item-lacks                                 the first missing symbol of an item is that of its fields, in their order
+--     set-one, set-two, set-three, none-third    what stands so far in the buffer, field by field (`One`, `Two`, `Three`)
+--     noad-added                                 all three stand there and the item is finished: it has gone behind the line
+--     noad-lacks, noad-done                      what an item with fields comes to
 -- Assumes nothing.
 use mathlib.Core.Path.{_≡_, refl, sym, subst, ap, ap₂, _∙_}
 use mathlib.Core.Bool.{Bool, true, false, not, _&&_, _||_, and-eq-true-iff}
@@ -56,7 +55,8 @@ use Rattle.walk.specs.Walked.{EmptyPart, PartWithin, FieldWhole, FieldDo
 use Rattle.walk.proofs.PartLaws.{field-empty}
 use Rattle.walk.proofs.ListLaws.{item-as}
 use Rattle.walk.proofs.ItemLaws.{item-count, item-hull, item-bytes, item-kept}
-use Rattle.walk.proofs.Laid.{Laid, laid-start, laid-gap, laid-kept, laid-field, laid-none}
+use Rattle.walk.specs.Standing.{Laid, gap₁, gap₂, One, Two}
+use Rattle.walk.proofs.Laid.{laid-start, laid-gap, laid-kept, laid-field, laid-none}
 
 -- one of two is large
 or-nots : (a b : Bool) → not a || not b ≡ not (a && b)
@@ -145,33 +145,7 @@ module _ (F : Font) (s : Style) (kind : Kind) (bytes : List ℕ) where
       missingItem F s (itemOf bytes (Fields kind)) ≡ m
   third-lacks n x y z = item-lacks n ∙ rw (x, y, z)
 
-  -- the room for the own nodes, before the first field a and behind it
-  module _ (a : parts.Part) (o₁ o₂ : ℕ) (b₀ : List ℕ) where
-    abbrev gap₁ : List ℕ
-    gap₁ = take (bytesInNode * o₁) b₀
-
-    abbrev gap₂ : List ℕ
-    gap₂ = take (bytesInNode * o₂) (drop (bytesInNode * (o₁ + a .run .count)) b₀)
-
-  -- what stands so far in the buffer v, which was b₀, with room for the item's own nodes: the first field a
-  pub record One (o₁ o₂ : ℕ) (b₀ : List ℕ) (a : parts.Part) (v : List ℕ) : Type 0 where
-    pub noad : Noad bytes kind
-    pub own₁ : o₁ ≡ ownCounts (F .parameter) s kind (hasSigns F s kind) .before
-    pub own₂ : o₂ ≡ ownCounts (F .parameter) s kind (hasSigns F s kind) .behind
-    pub wx : WholeX a
-    pub so : Laid b₀ (second bytes kind) (o₁ + a .run .count + o₂) fitsX ((gap₁ a o₁ o₂ b₀ ++ bytesOf (partX .nodes)) ++ gap₂ a o₁ o₂ b₀) v
-
-  -- and the second, b
-  pub record Two (o₁ o₂ : ℕ) (b₀ : List ℕ) (a b : parts.Part) (v : List ℕ) : Type 0 where
-    pub noad : Noad bytes kind
-    pub own₁ : o₁ ≡ ownCounts (F .parameter) s kind (hasSigns F s kind) .before
-    pub own₂ : o₂ ≡ ownCounts (F .parameter) s kind (hasSigns F s kind) .behind
-    pub wx : WholeX a
-    pub wy : WholeY b
-    pub so : Laid b₀ (third bytes kind) (o₁ + a .run .count + o₂ + b .run .count) (fitsX && fitsY)
-        (((gap₁ a o₁ o₂ b₀ ++ bytesOf (partX .nodes)) ++ gap₂ a o₁ o₂ b₀) ++ bytesOf (partY .nodes)) v
-
-  -- and the third, c
+  -- what stands so far in the buffer v, which was b₀: all three fields
   pub record Three (o₁ o₂ : ℕ) (b₀ : List ℕ) (a b c : parts.Part) (v : List ℕ) : Type 0 where
     pub noad : Noad bytes kind
     pub own₁ : o₁ ≡ ownCounts (F .parameter) s kind (hasSigns F s kind) .before
@@ -183,9 +157,9 @@ module _ (F : Font) (s : Style) (kind : Kind) (bytes : List ℕ) where
         ((((gap₁ a o₁ o₂ b₀ ++ bytesOf (partX .nodes)) ++ gap₂ a o₁ o₂ b₀) ++ bytesOf (partY .nodes)) ++ bytesOf (partZ .nodes)) v
 
   -- the third field, or its first missing symbol
-  abbrev pub ThirdDone : ℕ → ℕ → List ℕ → parts.Part → parts.Part → FieldSet → List ℕ → Type 0
-  ThirdDone o₁ o₂ b₀ a b (field.Whole c) v = Three o₁ o₂ b₀ a b c v
-  ThirdDone o₁ o₂ b₀ a b (field.Missing place) v =
+  abbrev pub LastDone : ℕ → ℕ → List ℕ → parts.Part → parts.Part → FieldSet → List ℕ → Type 0
+  LastDone o₁ o₂ b₀ a b (field.Whole c) v = Three o₁ o₂ b₀ a b c v
+  LastDone o₁ o₂ b₀ a b (field.Missing place) v =
       Kept (end bytes kind) b₀ v × (lacksZ ≡ some place) × (place ≤ end bytes kind)
 
   -- before its fields an item has two own nodes at most, and at least so many bytes
@@ -203,7 +177,7 @@ module _ (F : Font) (s : Style) (kind : Kind) (bytes : List ℕ) where
     front : Laid b₀ (openingBytes kind) o₁ true (take (bytesInNode * o₁) b₀) b₀
     front = laid-start b₀ o₁ (omega (arith, own-few n own₁ own₂))
 
-    pub set-one : {a : parts.Part} → FirstSet (field.Whole a) → One o₁ o₂ b₀ a (putMid j (length b₀ - j) b₀ r)
+    pub set-one : {a : parts.Part} → FirstSet (field.Whole a) → One F s kind bytes o₁ o₂ b₀ a (putMid j (length b₀ - j) b₀ r)
     set-one {a} (wx, drawn, kept) =
         let own = own-few n own₁ own₂ in
         let behind = n .first-in in
@@ -229,12 +203,12 @@ module _ (F : Font) (s : Style) (kind : Kind) (bytes : List ℕ) where
         let z = n .third-in in
         (laid-kept front (omega arith) at kept, lacks, omega arith)
 
-  module _ {o₁ o₂ j : ℕ} {b₀ v : List ℕ} {a : parts.Part} (q : One o₁ o₂ b₀ a v) (r : List ℕ)
+  module _ {o₁ o₂ j : ℕ} {b₀ v : List ℕ} {a : parts.Part} (q : One F s kind bytes o₁ o₂ b₀ a v) (r : List ℕ)
       (at : j ≡ roomFor (o₁ + a .run .count + o₂) (length v)) where
     abbrev SecondSet : FieldSet → Type 0
     SecondSet y = HeadDone F (secondStyle kind s) Plain bytes (second bytes kind) (take (length v - j) (drop j v)) y r
 
-    pub set-two : {b : parts.Part} → SecondSet (field.Whole b) → Two o₁ o₂ b₀ a b (putMid j (length v - j) v r)
+    pub set-two : {b : parts.Part} → SecondSet (field.Whole b) → Two F s kind bytes o₁ o₂ b₀ a b (putMid j (length v - j) v r)
     set-two {b} (wy, drawn, kept) =
         let few = q .so .few in
         let behind = q .noad .second-in in
@@ -258,7 +232,7 @@ module _ (F : Font) (s : Style) (kind : Kind) (bytes : List ℕ) where
         let z = q .noad .third-in in
         (laid-kept (q .so) (omega arith) at kept, lacks, omega arith)
 
-  module _ {o₁ o₂ : ℕ} {b₀ v : List ℕ} {a b : parts.Part} (q : Two o₁ o₂ b₀ a b v) where
+  module _ {o₁ o₂ : ℕ} {b₀ v : List ℕ} {a b : parts.Part} (q : Two F s kind bytes o₁ o₂ b₀ a b v) where
     three : {c : parts.Part} {v′ : List ℕ} → WholeZ c →
         Laid b₀ (end bytes kind) (o₁ + a .run .count + o₂ + b .run .count + c .run .count) (fitsX && fitsY && fitsZ)
         ((((gap₁ a o₁ o₂ b₀ ++ bytesOf (partX .nodes)) ++ gap₂ a o₁ o₂ b₀) ++ bytesOf (partY .nodes)) ++ bytesOf (partZ .nodes)) v′ →
@@ -269,7 +243,7 @@ module _ (F : Font) (s : Style) (kind : Kind) (bytes : List ℕ) where
     pub set-three : {j : ℕ} (z : FieldSet) (r : List ℕ) → hasThird kind ≡ true →
         j ≡ roomFor (o₁ + a .run .count + o₂ + b .run .count) (length v) →
         HeadDone F (thirdStyle s) Plain bytes (third bytes kind) (take (length v - j) (drop j v)) z r →
-        ThirdDone o₁ o₂ b₀ a b z (putMid j (length v - j) v r)
+        LastDone o₁ o₂ b₀ a b z (putMid j (length v - j) v r)
     set-three {j} z r has at d =
         let lent = take (length v - j) (drop j v) in
         let here : FieldDone F (thirdStyle s) Plain fieldZ (third bytes kind) (end bytes kind) lent z r =
@@ -278,7 +252,7 @@ module _ (F : Font) (s : Style) (kind : Kind) (bytes : List ℕ) where
         go z here
       where
         go : (z : FieldSet) → FieldDone F (thirdStyle s) Plain fieldZ (third bytes kind) (end bytes kind) (take (length v - j) (drop j v)) z r →
-            ThirdDone o₁ o₂ b₀ a b z (putMid j (length v - j) v r)
+            LastDone o₁ o₂ b₀ a b z (putMid j (length v - j) v r)
         go (field.Whole c) (wz, drawn, kept) =
             let few = q .so .few in
             let behind = q .noad .third-in in

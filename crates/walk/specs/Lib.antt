@@ -3,5 +3,6 @@
 pub mod Values
 pub mod Bounds
 pub mod Walked
+pub mod Standing
 pub mod WalkedLaws
 pub mod Seen

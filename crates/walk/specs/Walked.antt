@@ -14,7 +14,7 @@ use lib.IntN.{ℤ, pos, _+ℤ_}
 use lib.ListN.{length, drop}
 use Rattle.scaled.specs.Length.{maxℤ}
 use Rattle.scaled.specs.Signed.{Within}
-use Rattle.font.specs.Table.{SoundTables}
+use Rattle.font.specs.Index.{Indexed}
 use Rattle.font.specs.Font.{Font, fontWith}
 use Rattle.formula.specs.declared.Class.{Class}
 use Rattle.formula.specs.declared.Kind.{Kind}
@@ -170,6 +170,17 @@ pub record ClosedPart (P : Parameters) (s : Style) (right : Neighbour) (end : �
   pub closed-is : ClosedLine P s right l closed
   pub part-is : ListPart end closed c
 
+-- what the setter of a list came to, whose items stand at a place of its item, and the field from that
+abbrev pub ListGoes : ℕ → ItemsSet → Type 0
+ListGoes first (items.Whole l) = LineWithin longest l
+ListGoes first (items.Missing place) = first + place < 2 ^ 64
+
+abbrev pub ListField : Parameters → Style → Neighbour → ℕ → ℕ → ItemsSet → FieldSet → Type 0
+ListField P s right first end (items.Whole l) (field.Whole c) = ClosedPart P s right end l c
+ListField P s right first end (items.Whole l) (field.Missing place) = ⊥
+ListField P s right first end (items.Missing place) (field.Whole c) = ⊥
+ListField P s right first end (items.Missing place) (field.Missing there) = there ≡ first + place
+
 -- ---- an item whose fields are set
 
 -- two neighbours to the right that change an item's class alike, whatever stands to the left
@@ -302,26 +313,26 @@ pub record Finished (P : Parameters) (s : Style) (kind : Kind) (signs : Signs) (
 
 -- ---- the setters: what they are given
 
--- a list's bytes, our table and the client's, and the parameters
-pub record ListGiven (t u : List ℕ) (p : List (List ℕ)) (s : List ℕ) : Type 0 where
-  pub tables-good : SoundTables t u
+-- a list's bytes, our table and the client's with their indexes, and the parameters
+pub record ListGiven (t u i j : List ℕ) (p : List (List ℕ)) (s : List ℕ) : Type 0 where
+  pub tables-good : Indexed t u i j
   pub parameters-are : parametersIn p ≡ fontWith t u .parameter
   pub readable : Readable s
   pub short : length s ≤ longest
 
 -- and a line that they are to follow
-pub record ItemsGiven (t u : List ℕ) (p : List (List ℕ)) (s : List ℕ) (l : lines.Line) : Type 0 where
-  pub list : ListGiven t u p s
+pub record ItemsGiven (t u i j : List ℕ) (p : List (List ℕ)) (s : List ℕ) (l : lines.Line) : Type 0 where
+  pub list : ListGiven t u i j p s
   pub small : LineWithin (longest - length s) l
 
 -- and what opens at its head
-pub record OpenedGiven (t u : List ℕ) (p : List (List ℕ)) (s : List ℕ) (o : Opening) (l : lines.Line) : Type 0 where
-  pub items : ItemsGiven t u p s l
+pub record OpenedGiven (t u i j : List ℕ) (p : List (List ℕ)) (s : List ℕ) (o : Opening) (l : lines.Line) : Type 0 where
+  pub items : ItemsGiven t u i j p s l
   pub opens : openingOf s ≡ o
 
 -- a field at a place of its item
-pub record FieldGiven (t u : List ℕ) (p : List (List ℕ)) (s : List ℕ) (at : ℕ) : Type 0 where
-  pub tables-good : SoundTables t u
+pub record FieldGiven (t u i j : List ℕ) (p : List (List ℕ)) (s : List ℕ) (at : ℕ) : Type 0 where
+  pub tables-good : Indexed t u i j
   pub parameters-are : parametersIn p ≡ fontWith t u .parameter
   pub good : GoodFieldAt s at
   pub inside : at ≤ length s

@@ -1,5 +1,6 @@
-// The cycle: a list's setter calls the item's, that the field's, and that the list's. The list's setter goes from choice to choice, and
-// sets the items between them in a loop of their own; a choice is set as its taken list, behind the same line, by the list's setter.
+// The cycle: a list's setter calls the item's, that the field's, for each field, and that the list's. The list's setter goes from
+// choice to choice, and sets the items between them in a loop of their own; a choice is set as its taken list, behind the same
+// line, by the list's setter.
 // The nodes of an item stand in the order of document 01: its own before the first field, that field, its own behind it, and
 // the other two fields. Each field is set into the front of the rest of the buffer; once all three are there the item is
 // arranged, its own nodes are put, and its fields' moved.
@@ -9,9 +10,11 @@ ghost use lib.ListN.{length};
 ghost use Rattle.font.specs.Font.{fontWith};
 ghost use Rattle.formula.specs.declared.Opening.the-variants.{Fields, Choice};
 ghost use Rattle.formula.specs.Places as tree;
+ghost use Rattle.boxes.specs.Values.{parametersIn};
 ghost use Rattle.spacing.specs.Values.{neighbourAs};
 ghost use Rattle.setting.specs.Setting.{noSides};
-ghost use Rattle.walk.specs.Walked.{ListGiven, ItemsGiven, OpenedGiven, FieldGiven, ListDone, ItemsDone, StretchDone, Onward, ChoiceDone, ItemDone, HeadDone};
+ghost use Rattle.walk.specs.Standing.{SecondGiven, ThirdGiven, SecondDone, ThirdDone};
+ghost use Rattle.walk.specs.Walked.{ListGiven, ItemsGiven, OpenedGiven, FieldGiven, ListDone, ItemsDone, StretchDone, Onward, ChoiceDone, ItemDone, HeadDone, ListGoes, ListField};
 use crate::current::restyled;
 use crate::current::taken_span;
 use crate::growing::closed_part;
@@ -21,6 +24,7 @@ use crate::growing::styled;
 use crate::items::finished;
 use crate::lines::Line;
 use crate::parts::FieldSet;
+use crate::parts::Part;
 use crate::parts::empty_part;
 use crate::parts::symbol_part;
 use crate::places::beyond_choice;
@@ -29,6 +33,7 @@ use crate::sides::sides_of;
 use crate::signs::has_signs;
 use crate::signs::signs_in;
 use arrange::Manner;
+use arrange::OwnCounts;
 use arrange::first_manner;
 use arrange::first_style;
 use arrange::own_counts;
@@ -75,17 +80,21 @@ enum StretchSet {
 pub fn set_list<'a>(
     table: &'a [u8],
     client: &'a [u8],
+    index: &[u64],
+    client_index: &[u64],
     p: &Parameters,
     style: Style,
     s: &[u8],
     buf: &mut [u8],
 ) -> ItemsSet
-    requires { ⌜ ListGiven (now table) (now client) (now p) (now s) ⌝ }
+    requires { ⌜ ListGiven (now table) (now client) (now index) (now «client_index») (now p) (now s) ⌝ }
     ensures { λ r. ⌜ ListDone (fontWith (now (table .entry)) (now (client .entry))) noSides style (tree.treeOf (now (s .entry))) (length (now (s .entry))) (now (buf .entry)) r (now (buf .exit)) ⌝ }
 {
     set_items(
         table,
         client,
+        index,
+        client_index,
         p,
         Neighbour::End,
         s,
@@ -98,16 +107,18 @@ pub fn set_list<'a>(
 fn set_items<'a>(
     table: &'a [u8],
     client: &'a [u8],
+    index: &[u64],
+    client_index: &[u64],
     p: &Parameters,
     beyond: Neighbour,
     s: &[u8],
     line: Line,
     buf: &mut [u8],
 ) -> ItemsSet
-    requires { ⌜ ItemsGiven (now table) (now client) (now p) (now s) line ⌝ }
+    requires { ⌜ ItemsGiven (now table) (now client) (now index) (now «client_index») (now p) (now s) line ⌝ }
     ensures { λ r. ⌜ ItemsDone (fontWith (now (table .entry)) (now (client .entry))) (neighbourAs beyond) (tree.treeOf (now (s .entry))) (length (now (s .entry))) line (now (buf .entry)) r (now (buf .exit)) ⌝ }
 {
-    let first = set_stretch(table, client, p, beyond, s, line, buf);
+    let first = set_stretch(table, client, index, client_index, p, beyond, s, line, buf);
     let mut at: usize = 0;
     let mut l = line;
     match first {
@@ -121,7 +132,17 @@ fn set_items<'a>(
     }
     while at < s.len() {
         let j = room(l.run.count - line.run.count, buf.len());
-        let step = set_onward(table, client, p, beyond, &s[at..], l, &mut buf[j..]);
+        let step = set_onward(
+            table,
+            client,
+            index,
+            client_index,
+            p,
+            beyond,
+            &s[at..],
+            l,
+            &mut buf[j..],
+        );
         match step {
             StretchSet::UpTo(size, next) => {
                 at += size;
@@ -139,20 +160,32 @@ fn set_items<'a>(
 fn set_onward<'a>(
     table: &'a [u8],
     client: &'a [u8],
+    index: &[u64],
+    client_index: &[u64],
     p: &Parameters,
     beyond: Neighbour,
     s: &[u8],
     line: Line,
     buf: &mut [u8],
 ) -> StretchSet
-    requires { ⌜ OpenedGiven (now table) (now client) (now p) (now s) Choice line ⌝ }
+    requires { ⌜ OpenedGiven (now table) (now client) (now index) (now «client_index») (now p) (now s) Choice line ⌝ }
     ensures { λ r. ⌜ StretchDone (fontWith (now (table .entry)) (now (client .entry))) (neighbourAs beyond) (now (s .entry)) line (now (buf .entry)) r (now (buf .exit)) × Onward r ⌝ }
 {
-    let taken = set_choice(table, client, p, beyond, s, line, buf);
+    let taken = set_choice(table, client, index, client_index, p, beyond, s, line, buf);
     match taken {
         StretchSet::UpTo(end, next) => {
             let j = room(next.run.count - line.run.count, buf.len());
-            let rest = set_stretch(table, client, p, beyond, &s[end..], next, &mut buf[j..]);
+            let rest = set_stretch(
+                table,
+                client,
+                index,
+                client_index,
+                p,
+                beyond,
+                &s[end..],
+                next,
+                &mut buf[j..],
+            );
             match rest {
                 StretchSet::UpTo(size, last) => StretchSet::UpTo(end + size, last),
                 StretchSet::Missing(place) => StretchSet::Missing(end + place),
@@ -166,20 +199,32 @@ fn set_onward<'a>(
 fn set_stretch<'a>(
     table: &'a [u8],
     client: &'a [u8],
+    index: &[u64],
+    client_index: &[u64],
     p: &Parameters,
     beyond: Neighbour,
     s: &[u8],
     line: Line,
     buf: &mut [u8],
 ) -> StretchSet
-    requires { ⌜ ItemsGiven (now table) (now client) (now p) (now s) line ⌝ }
+    requires { ⌜ ItemsGiven (now table) (now client) (now index) (now «client_index») (now p) (now s) line ⌝ }
     ensures { λ r. ⌜ StretchDone (fontWith (now (table .entry)) (now (client .entry))) (neighbourAs beyond) (now (s .entry)) line (now (buf .entry)) r (now (buf .exit)) ⌝ }
 {
     let mut at: usize = 0;
     let mut l = line;
     while at < s.len() {
         let j = room(l.run.count - line.run.count, buf.len());
-        let step = set_item(table, client, p, beyond, &s[at..], l, &mut buf[j..]);
+        let step = set_item(
+            table,
+            client,
+            index,
+            client_index,
+            p,
+            beyond,
+            &s[at..],
+            l,
+            &mut buf[j..],
+        );
         match step {
             ItemSet::Next(size, next) => {
                 at += size;
@@ -200,19 +245,32 @@ fn set_stretch<'a>(
 fn set_item<'a>(
     table: &'a [u8],
     client: &'a [u8],
+    index: &[u64],
+    client_index: &[u64],
     p: &Parameters,
     beyond: Neighbour,
     s: &[u8],
     line: Line,
     buf: &mut [u8],
 ) -> ItemSet
-    requires { ⌜ ItemsGiven (now table) (now client) (now p) (now s) line × (0 < length (now s)) ⌝ }
+    requires { ⌜ ItemsGiven (now table) (now client) (now index) (now «client_index») (now p) (now s) line × (0 < length (now s)) ⌝ }
     ensures { λ r. ⌜ ItemDone (fontWith (now (table .entry)) (now (client .entry))) (neighbourAs beyond) (now (s .entry)) line (now (buf .entry)) r (now (buf .exit)) ⌝ }
 {
     let o = opening(s);
     match o {
         Opening::NoItem => ItemSet::Missing(0), // not in a list that reads
-        Opening::Fields(kind) => set_noad(table, client, p, kind, beyond, s, line, buf),
+        Opening::Fields(kind) => set_noad(
+            table,
+            client,
+            index,
+            client_index,
+            p,
+            kind,
+            beyond,
+            s,
+            line,
+            buf,
+        ),
         Opening::Kern(n) => ItemSet::Next(KERN_BYTES, kerned(line, n)),
         Opening::Restyle(number) => {
             ItemSet::Next(RESTYLE_BYTES, styled(line, restyled(line.style, number)))
@@ -225,13 +283,15 @@ fn set_item<'a>(
 fn set_choice<'a>(
     table: &'a [u8],
     client: &'a [u8],
+    index: &[u64],
+    client_index: &[u64],
     p: &Parameters,
     beyond: Neighbour,
     s: &[u8],
     line: Line,
     buf: &mut [u8],
 ) -> StretchSet
-    requires { ⌜ OpenedGiven (now table) (now client) (now p) (now s) Choice line ⌝ }
+    requires { ⌜ OpenedGiven (now table) (now client) (now index) (now «client_index») (now p) (now s) Choice line ⌝ }
     ensures { λ r. ⌜ ChoiceDone (fontWith (now (table .entry)) (now (client .entry))) (neighbourAs beyond) (now (s .entry)) line (now (buf .entry)) r (now (buf .exit)) ⌝ }
 {
     let style = line.style;
@@ -240,17 +300,29 @@ fn set_choice<'a>(
     let last = taken.end;
     let end = list_place(s, CHOICE_LISTS);
     let right = beyond_choice(style, beyond, &s[first..last], &s[end..]);
-    let set = set_items(table, client, p, right, &s[first..last], line, buf);
+    let set = set_items(
+        table,
+        client,
+        index,
+        client_index,
+        p,
+        right,
+        &s[first..last],
+        line,
+        buf,
+    );
     match set {
         ItemsSet::Whole(next) => StretchSet::UpTo(end, next),
         ItemsSet::Missing(place) => StretchSet::Missing(first + place),
     }
 }
 
-// Sets the fields of an item one behind another, and then the item.
+// Sets the first field of an item, and then the others behind it.
 fn set_noad<'a>(
     table: &'a [u8],
     client: &'a [u8],
+    index: &[u64],
+    client_index: &[u64],
     p: &Parameters,
     kind: Kind,
     beyond: Neighbour,
@@ -258,29 +330,73 @@ fn set_noad<'a>(
     line: Line,
     buf: &mut [u8],
 ) -> ItemSet
-    requires { ⌜ OpenedGiven (now table) (now client) (now p) (now s) (Fields kind) line ⌝ }
+    requires { ⌜ OpenedGiven (now table) (now client) (now index) (now «client_index») (now p) (now s) (Fields kind) line ⌝ }
     ensures { λ r. ⌜ ItemDone (fontWith (now (table .entry)) (now (client .entry))) (neighbourAs beyond) (now (s .entry)) line (now (buf .entry)) r (now (buf .exit)) ⌝ }
 {
     let style = line.style;
-    let signed = has_signs(table, client, style, kind);
+    let signed = has_signs(table, client, index, client_index, style, kind);
     let own = own_counts(p, style, kind, signed);
     let i = room(own.before, buf.len());
     let first = first_style(kind, style);
     let manner = first_manner(kind, style);
     let at = opening_bytes(kind);
-    let x = set_field(table, client, p, first, manner, s, at, &mut buf[i..]);
-    let a = match x {
-        FieldSet::Whole(a) => a,
-        FieldSet::Missing(place) => {
-            return ItemSet::Missing(place);
-        }
-    };
-    let n = own.before + a.run.count + own.behind;
-    let j = room(n, buf.len());
+    let x = set_field(
+        table,
+        client,
+        index,
+        client_index,
+        p,
+        first,
+        manner,
+        s,
+        at,
+        &mut buf[i..],
+    );
+    match x {
+        FieldSet::Whole(a) => set_second(
+            table,
+            client,
+            index,
+            client_index,
+            p,
+            kind,
+            beyond,
+            s,
+            line,
+            own,
+            a,
+            buf,
+        ),
+        FieldSet::Missing(place) => ItemSet::Missing(place),
+    }
+}
+
+// Sets the second field behind the first, a, and the room for the item's own nodes.
+fn set_second<'a>(
+    table: &'a [u8],
+    client: &'a [u8],
+    index: &[u64],
+    client_index: &[u64],
+    p: &Parameters,
+    kind: Kind,
+    beyond: Neighbour,
+    s: &[u8],
+    line: Line,
+    own: OwnCounts,
+    a: Part,
+    buf: &mut [u8],
+) -> ItemSet
+    requires { ⌜ SecondGiven (now table) (now client) (now index) (now «client_index») (now p) (now s) kind line own a (now buf) ⌝ }
+    ensures { λ r. ⌜ SecondDone (fontWith (now (table .entry)) (now (client .entry))) (neighbourAs beyond) (now (s .entry)) kind line own a (now (buf .entry)) r (now (buf .exit)) ⌝ }
+{
+    let style = line.style;
+    let j = room(own.before + a.run.count + own.behind, buf.len());
     let second = second_style(kind, style);
     let y = set_field(
         table,
         client,
+        index,
+        client_index,
         p,
         second,
         Manner::Plain,
@@ -288,17 +404,54 @@ fn set_noad<'a>(
         a.end,
         &mut buf[j..],
     );
-    let b = match y {
-        FieldSet::Whole(b) => b,
-        FieldSet::Missing(place) => {
-            return ItemSet::Missing(place);
-        }
-    };
-    let k = room(n + b.run.count, buf.len());
+    match y {
+        FieldSet::Whole(b) => set_third(
+            table,
+            client,
+            index,
+            client_index,
+            p,
+            kind,
+            beyond,
+            s,
+            line,
+            own,
+            a,
+            b,
+            buf,
+        ),
+        FieldSet::Missing(place) => ItemSet::Missing(place),
+    }
+}
+
+// Sets the third field, if there is one, behind the second, b, and then the item.
+fn set_third<'a>(
+    table: &'a [u8],
+    client: &'a [u8],
+    index: &[u64],
+    client_index: &[u64],
+    p: &Parameters,
+    kind: Kind,
+    beyond: Neighbour,
+    s: &[u8],
+    line: Line,
+    own: OwnCounts,
+    a: Part,
+    b: Part,
+    buf: &mut [u8],
+) -> ItemSet
+    requires { ⌜ ThirdGiven (now table) (now client) (now index) (now «client_index») (now p) (now s) kind line own a b (now buf) ⌝ }
+    ensures { λ r. ⌜ ThirdDone (fontWith (now (table .entry)) (now (client .entry))) (neighbourAs beyond) (now (s .entry)) kind line own a b (now (buf .entry)) r (now (buf .exit)) ⌝ }
+{
+    let style = line.style;
+    let n = own.before + a.run.count + own.behind + b.run.count;
+    let k = room(n, buf.len());
     let z = if has_third(kind) {
         set_field(
             table,
             client,
+            index,
+            client_index,
             p,
             third_style(style),
             Manner::Plain,
@@ -309,17 +462,16 @@ fn set_noad<'a>(
     } else {
         FieldSet::Whole(empty_part(b.end))
     };
-    let c = match z {
-        FieldSet::Whole(c) => c,
-        FieldSet::Missing(place) => {
-            return ItemSet::Missing(place);
+    match z {
+        FieldSet::Whole(c) => {
+            let end = c.end;
+            let right = right_of(kind, style, beyond, &s[end..]);
+            let inside = a.shape;
+            let signs = signs_in(table, client, index, client_index, p, style, kind, inside);
+            ItemSet::Next(end, finished(p, kind, signs, right, line, a, b, c, buf))
         }
-    };
-    let end = c.end;
-    let right = right_of(kind, style, beyond, &s[end..]);
-    let inside = a.shape;
-    let signs = signs_in(table, client, p, style, kind, inside);
-    ItemSet::Next(end, finished(p, kind, signs, right, line, a, b, c, buf))
+        FieldSet::Missing(place) => ItemSet::Missing(place),
+    }
 }
 
 // Sets the field whose kind byte stands at `at` of its item alone, at its own reference point, into the front of buf. Most are
@@ -327,6 +479,8 @@ fn set_noad<'a>(
 fn set_field<'a>(
     table: &'a [u8],
     client: &'a [u8],
+    index: &[u64],
+    client_index: &[u64],
     p: &Parameters,
     style: Style,
     manner: Manner,
@@ -334,19 +488,32 @@ fn set_field<'a>(
     at: usize,
     buf: &mut [u8],
 ) -> FieldSet
-    requires { ⌜ FieldGiven (now table) (now client) (now p) (now s) at ⌝ }
+    requires { ⌜ FieldGiven (now table) (now client) (now index) (now «client_index») (now p) (now s) at ⌝ }
     ensures { λ r. ⌜ HeadDone (fontWith (now (table .entry)) (now (client .entry))) style manner (now (s .entry)) at (now (buf .entry)) r (now (buf .exit)) ⌝ }
 {
     if is_empty(&s[at..]) {
         return FieldSet::Whole(empty_part(at + 1));
     }
-    set_given(table, client, p, style, manner, s, at, buf)
+    set_given(
+        table,
+        client,
+        index,
+        client_index,
+        p,
+        style,
+        manner,
+        s,
+        at,
+        buf,
+    )
 }
 
 // Sets a field whatever it is.
 fn set_given<'a>(
     table: &'a [u8],
     client: &'a [u8],
+    index: &[u64],
+    client_index: &[u64],
     p: &Parameters,
     style: Style,
     manner: Manner,
@@ -354,7 +521,7 @@ fn set_given<'a>(
     at: usize,
     buf: &mut [u8],
 ) -> FieldSet
-    requires { ⌜ FieldGiven (now table) (now client) (now p) (now s) at ⌝ }
+    requires { ⌜ FieldGiven (now table) (now client) (now index) (now «client_index») (now p) (now s) at ⌝ }
     ensures { λ r. ⌜ HeadDone (fontWith (now (table .entry)) (now (client .entry))) style manner (now (s .entry)) at (now (buf .entry)) r (now (buf .exit)) ⌝ }
 {
     let head = field_head(&s[at..]);
@@ -362,30 +529,55 @@ fn set_given<'a>(
     match head {
         FieldHead::NoField => FieldSet::Whole(empty_part(end)),
         FieldHead::Empty => FieldSet::Whole(empty_part(end)),
-        FieldHead::Symbol(family, code) => {
-            symbol_part(table, client, style, manner, family, code, at, end, buf)
-        }
+        FieldHead::Symbol(family, code) => symbol_part(
+            table,
+            client,
+            index,
+            client_index,
+            style,
+            manner,
+            family,
+            code,
+            at,
+            end,
+            buf,
+        ),
         FieldHead::Sublist(opening, _) => {
             let first = at + opening;
             let sides = sides_of(manner);
             let left = sides.left;
             let right = sides.right;
-            let l = set_items(
+            let set = set_items(
                 table,
                 client,
+                index,
+                client_index,
                 p,
                 right,
                 &s[first..end],
                 start(left, style),
                 buf,
             );
-            match l {
-                ItemsSet::Whole(line) => {
-                    FieldSet::Whole(closed_part(p, style, right, end, line))
-                }
-                ItemsSet::Missing(place) => FieldSet::Missing(first + place),
-            }
+            list_field(p, style, right, first, end, set)
         }
         FieldHead::CutSublist => FieldSet::Whole(empty_part(end)),
+    }
+}
+
+// A list as a field: its items go from `first` to `end` of its item.
+fn list_field(
+    p: &Parameters,
+    style: Style,
+    right: Neighbour,
+    first: usize,
+    end: usize,
+    set: ItemsSet,
+) -> FieldSet
+    requires { ⌜ ListGoes first set ⌝ }
+    ensures { λ r. ⌜ ListField (parametersIn (now (p .entry))) style (neighbourAs right) first end set r ⌝ }
+{
+    match set {
+        ItemsSet::Whole(line) => FieldSet::Whole(closed_part(p, style, right, end, line)),
+        ItemsSet::Missing(place) => FieldSet::Missing(first + place),
     }
 }

@@ -1,9 +1,7 @@
 // A field that has been set alone, at its own reference point.
 
-ghost use mathlib.Core.Path.{_≡_};
-ghost use mathlib.Core.Bool.{true};
 ghost use Prim.Native.Nat.{_<_};
-ghost use Rattle.font.specs.Table.{SoundTables};
+ghost use Rattle.font.specs.Index.{Indexed};
 ghost use Rattle.font.specs.Font.{fontWith};
 ghost use Rattle.formula.specs.Tree.{symbol};
 ghost use Rattle.walk.specs.Walked.{EmptyPart, FieldDone};
@@ -46,6 +44,8 @@ pub fn empty_part(end: usize) -> Part
 pub fn symbol_part<'a>(
     table: &'a [u8],
     client: &'a [u8],
+    index: &[u64],
+    client_index: &[u64],
     style: Style,
     manner: Manner,
     family: u8,
@@ -54,11 +54,20 @@ pub fn symbol_part<'a>(
     end: usize,
     buf: &mut [u8],
 ) -> FieldSet
-    requires { ⌜ SoundTables (now table) (now client) × (at < end) ⌝ }
+    requires { ⌜ Indexed (now table) (now client) (now index) (now «client_index») × (at < end) ⌝ }
     ensures { λ r. ⌜ FieldDone (fontWith (now (table .entry)) (now (client .entry))) style manner (symbol family code) at end (now (buf .entry)) r (now (buf .exit)) ⌝ }
 {
     let size = font_size(style) as u8;
-    let sought = symbol_in(table, client, size, is_enlarged(manner), family, code);
+    let sought = symbol_in(
+        table,
+        client,
+        index,
+        client_index,
+        size,
+        is_enlarged(manner),
+        family,
+        code,
+    );
     match sought {
         Sought::Present(symbol) => {
             let metrics = symbol.metrics;

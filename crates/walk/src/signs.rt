@@ -1,8 +1,7 @@
 // The sign of a root and the delimiters of a fence: whether there are any, and which.
 
 ghost use mathlib.Core.Path.{_≡_};
-ghost use mathlib.Core.Bool.{true};
-ghost use Rattle.font.specs.Table.{SoundTables};
+ghost use Rattle.font.specs.Index.{Indexed};
 ghost use Rattle.font.specs.Font.{fontWith};
 ghost use Rattle.boxes.specs.Boxes.{sizeOf};
 ghost use Rattle.boxes.specs.Styles.{fontSize};
@@ -40,8 +39,15 @@ const NO_SIGNS: Signs = Signs {
 };
 
 // On which side an item has a sign, whatever its fields hold.
-pub fn has_signs<'a>(table: &'a [u8], client: &'a [u8], style: Style, kind: Kind) -> HasSigns
-    requires { ⌜ SoundTables (now table) (now client) ⌝ }
+pub fn has_signs<'a>(
+    table: &'a [u8],
+    client: &'a [u8],
+    index: &[u64],
+    client_index: &[u64],
+    style: Style,
+    kind: Kind,
+) -> HasSigns
+    requires { ⌜ Indexed (now table) (now client) (now index) (now «client_index») ⌝ }
     ensures { λ r. ⌜ r ≡ definition.hasSigns (fontWith (now (table .entry)) (now (client .entry))) style kind ⌝ }
 {
     let Kind::Scripted(base) = kind else {
@@ -52,14 +58,21 @@ pub fn has_signs<'a>(table: &'a [u8], client: &'a [u8], style: Style, kind: Kind
         Base::Over => UNSIGNED,
         Base::Under => UNSIGNED,
         Base::Root(d) => HasSigns {
-            before: has_sign(table, client, font_size(style) as u8, d),
+            before: has_sign(
+                table,
+                client,
+                index,
+                client_index,
+                font_size(style) as u8,
+                d,
+            ),
             behind: false,
         },
         Base::Fence(left, right) => {
             let size = font_size(style) as u8;
             HasSigns {
-                before: has_sign(table, client, size, left),
-                behind: has_sign(table, client, size, right),
+                before: has_sign(table, client, index, client_index, size, left),
+                behind: has_sign(table, client, index, client_index, size, right),
             }
         }
     }
@@ -69,12 +82,14 @@ pub fn has_signs<'a>(table: &'a [u8], client: &'a [u8], style: Style, kind: Kind
 pub fn signs_in<'a>(
     table: &'a [u8],
     client: &'a [u8],
+    index: &[u64],
+    client_index: &[u64],
     p: &Parameters,
     style: Style,
     kind: Kind,
     inside: Shape,
 ) -> Signs
-    requires { ⌜ SoundTables (now table) (now client) × (parametersIn (now p) ≡ fontWith (now table) (now client) .parameter) × ModerateShape inside ⌝ }
+    requires { ⌜ Indexed (now table) (now client) (now index) (now «client_index») × (parametersIn (now p) ≡ fontWith (now table) (now client) .parameter) × ModerateShape inside ⌝ }
     ensures { λ r. ⌜ signsAs r ≡ definition.signsIn (fontWith (now (table .entry)) (now (client .entry))) style kind (shapeAs inside) ⌝ }
 {
     let Kind::Scripted(base) = kind else {
@@ -85,10 +100,20 @@ pub fn signs_in<'a>(
         Base::Over => NO_SIGNS,
         Base::Under => NO_SIGNS,
         Base::Root(d) => Signs {
-            before: root_sign(table, client, p, style, d, inside),
+            before: root_sign(table, client, index, client_index, p, style, d, inside),
             behind: Chosen::Blank,
         },
-        Base::Fence(left, right) => fence_signs(table, client, p, style, left, right, inside),
+        Base::Fence(left, right) => fence_signs(
+            table,
+            client,
+            index,
+            client_index,
+            p,
+            style,
+            left,
+            right,
+            inside,
+        ),
     }
 }
 
@@ -96,35 +121,47 @@ pub fn signs_in<'a>(
 fn root_sign<'a>(
     table: &'a [u8],
     client: &'a [u8],
+    index: &[u64],
+    client_index: &[u64],
     p: &Parameters,
     style: Style,
     d: Delimiter,
     nucleus: Shape,
 ) -> Chosen
-    requires { ⌜ SoundTables (now table) (now client) × (parametersIn (now p) ≡ fontWith (now table) (now client) .parameter) × ModerateShape nucleus ⌝ }
+    requires { ⌜ Indexed (now table) (now client) (now index) (now «client_index») × (parametersIn (now p) ≡ fontWith (now table) (now client) .parameter) × ModerateShape nucleus ⌝ }
     ensures { λ r. ⌜ chosenAs r ≡ signFor (fontWith (now (table .entry)) (now (client .entry))) (fontSize style) d (signExtent (fontWith (now (table .entry)) (now (client .entry)) .parameter) style (sizeOf (shapeAs nucleus))) ⌝ }
 {
     let needed = sign_extent(p, style, size_of(nucleus));
-    sign_for(table, client, font_size(style) as u8, d, needed)
+    sign_for(
+        table,
+        client,
+        index,
+        client_index,
+        font_size(style) as u8,
+        d,
+        needed,
+    )
 }
 
 // Rule 19: both delimiters grow with the list.
 fn fence_signs<'a>(
     table: &'a [u8],
     client: &'a [u8],
+    index: &[u64],
+    client_index: &[u64],
     p: &Parameters,
     style: Style,
     left: Delimiter,
     right: Delimiter,
     list: Shape,
 ) -> Signs
-    requires { ⌜ SoundTables (now table) (now client) × (parametersIn (now p) ≡ fontWith (now table) (now client) .parameter) × ModerateShape list ⌝ }
+    requires { ⌜ Indexed (now table) (now client) (now index) (now «client_index») × (parametersIn (now p) ≡ fontWith (now table) (now client) .parameter) × ModerateShape list ⌝ }
     ensures { λ r. ⌜ signsAs r ≡ definition.signsFor (fontWith (now (table .entry)) (now (client .entry))) style left right (fenceExtent (fontWith (now (table .entry)) (now (client .entry)) .parameter) style (sizeOf (shapeAs list))) ⌝ }
 {
     let needed = fence_extent(p, style, size_of(list));
     let size = font_size(style) as u8;
     Signs {
-        before: sign_for(table, client, size, left, needed),
-        behind: sign_for(table, client, size, right, needed),
+        before: sign_for(table, client, index, client_index, size, left, needed),
+        behind: sign_for(table, client, index, client_index, size, right, needed),
     }
 }

@@ -1,8 +1,7 @@
 // The symbol that is set for a family and a code.
 
 ghost use mathlib.Core.Path.{_≡_};
-ghost use mathlib.Core.Bool.{true};
-ghost use Rattle.font.specs.Table.{SoundTables};
+ghost use Rattle.font.specs.Index.{Indexed};
 ghost use Rattle.font.specs.Font.{fontWith};
 ghost use Rattle.font.specs.Values.{foundAs, successorAs};
 ghost use Rattle.setting.specs.Setting as definition;
@@ -26,20 +25,22 @@ pub enum Sought {
 pub fn symbol_in<'a>(
     table: &'a [u8],
     client: &'a [u8],
+    index: &[u64],
+    client_index: &[u64],
     size: u8,
     enlarge: bool,
     family: u8,
     code: u8,
 ) -> Sought
-    requires { ⌜ SoundTables (now table) (now client) ⌝ }
+    requires { ⌜ Indexed (now table) (now client) (now index) (now «client_index») ⌝ }
     ensures { λ r. ⌜ soughtAs r ≡ definition.symbolIn (fontWith (now (table .entry)) (now (client .entry))) size enlarge family code ⌝ }
 {
-    let found = font::symbol(table, client, size, family, code);
+    let found = font::symbol(table, client, index, client_index, size, family, code);
     match found {
         Found::Symbol(metrics) => {
             let symbol = Symbol { code, metrics };
             if enlarge {
-                return successor(table, client, size, family, symbol);
+                return successor(table, client, index, client_index, size, family, symbol);
             }
             Sought::Present(symbol)
         }
@@ -47,15 +48,26 @@ pub fn symbol_in<'a>(
     }
 }
 
-fn successor<'a>(table: &'a [u8], client: &'a [u8], size: u8, family: u8, symbol: Symbol) -> Sought
-    requires { ⌜ SoundTables (now table) (now client) ⌝ }
+fn successor<'a>(
+    table: &'a [u8],
+    client: &'a [u8],
+    index: &[u64],
+    client_index: &[u64],
+    size: u8,
+    family: u8,
+    symbol: Symbol,
+) -> Sought
+    requires { ⌜ Indexed (now table) (now client) (now index) (now «client_index») ⌝ }
     ensures { λ r. ⌜ soughtAs r ≡ definition.successor (fontWith (now (table .entry)) (now (client .entry))) size family (symbolAs symbol) (successorAs (symbol .metrics .successor)) ⌝ }
 {
     let metrics = symbol.metrics;
     let next = metrics.successor;
     match next {
         Successor::Nothing => Sought::Present(symbol),
-        Successor::Code(code) => symbol_of(code, font::symbol(table, client, size, family, code)),
+        Successor::Code(code) => symbol_of(
+            code,
+            font::symbol(table, client, index, client_index, size, family, code),
+        ),
     }
 }
 

@@ -49,7 +49,7 @@ fn run(
         client: client.transpose()?.unwrap_or_default(),
     };
     let record = fs::read(record).unwrap_or_default();
-    match set_record(&tables.font(), &record) {
+    match set_record(&mut tables.font(), &record) {
         Ok((measured, nodes)) => {
             print(&measured, &nodes);
             if let Some(path) = svg {
@@ -65,7 +65,7 @@ fn run(
     }
 }
 
-fn set_record(font: &Font, record: &[u8]) -> Result<(Measured, Vec<Node>), Refusal> {
+fn set_record(font: &mut Font, record: &[u8]) -> Result<(Measured, Vec<Node>), Refusal> {
     let (&style, formula) = record.split_first().unwrap_or((&u8::MAX, &[]));
     let count = measure(style, font, formula)?.count;
     let mut buffer = vec![0; NODE_BYTES * count];

@@ -3,10 +3,13 @@
 use crate::guarded::Guarded;
 use crate::input::Input;
 use reference::generate::Random;
-use reference::{Answer, NODE_BYTES};
+use reference::{Answer, Lent, INDEX_WORDS, NODE_BYTES};
 use std::ptr;
 use torfianka::sys::{self, ANSWER_WORDS, SHORT_ANSWER};
 use torfianka::{Font, Measured, Refusal};
+
+/// The refusal of too few words for an index.
+const SHORT_INDEX: u8 = 19;
 
 #[derive(Clone, Copy, Debug)]
 pub enum Call {
@@ -20,6 +23,8 @@ pub struct Outcome {
     pub number: u8,
     pub answer: Guarded<i64>,
     pub nodes: Guarded<u8>,
+    pub index: Guarded<u64>,
+    pub client_index: Guarded<u64>,
 }
 
 pub struct Disagreement {
@@ -58,6 +63,8 @@ fn disagreement_in(
         number: 0,
         answer: Guarded::drawn(words, random, |random| random.word() as i64),
         nodes: Guarded::drawn(room, random, Random::byte),
+        index: Guarded::holding(&input.index, random, Random::word),
+        client_index: Guarded::holding(&input.client_index, random, Random::word),
     };
     let client = client_pointer(input, random);
     let library = by_library(call, input, client, before.clone());
@@ -86,6 +93,10 @@ fn fault(
         (Call::Set, 0) => NODE_BYTES * reference.answer.lent()[ANSWER_WORDS - 1] as usize,
         _ => 0,
     };
+    let indexed = match reference.number {
+        1 | 2 | 8 | SHORT_INDEX | SHORT_ANSWER => 0,
+        _ => INDEX_WORDS,
+    };
     let answer = |outcome: &Outcome| outcome.answer.lent()[..answered].to_vec();
     let faults = [
         (
@@ -105,6 +116,22 @@ fn fault(
             library.nodes.lent() != reference.nodes.lent(),
             "the nodes differ",
         ),
+        (
+            !library.index.kept_but(indexed, &before.index),
+            "words outside the index changed",
+        ),
+        (
+            !library.client_index.kept_but(indexed, &before.client_index),
+            "words outside the client's index changed",
+        ),
+        (
+            library.index.lent() != reference.index.lent(),
+            "the indexes differ",
+        ),
+        (
+            library.client_index.lent() != reference.client_index.lent(),
+            "the client's indexes differ",
+        ),
     ];
     faults
         .into_iter()
@@ -123,6 +150,7 @@ fn client_pointer(input: &Input, random: &mut Random) -> *const u8 {
 fn by_library(call: Call, input: &Input, client: *const u8, mut lent: Outcome) -> Outcome {
     let Input { table, formula, .. } = input;
     let (answer, nodes) = (lent.answer.lent_mut(), lent.nodes.lent_mut());
+    let (index, client_index) = (lent.index.lent_mut(), lent.client_index.lent_mut());
     // SAFETY: every pointer is a slice's, with that slice's length, or null for
     // a client's table of length 0; the ones written through are borrowed alone.
     lent.number = unsafe {
@@ -135,6 +163,10 @@ fn by_library(call: Call, input: &Input, client: *const u8, mut lent: Outcome) -
                 input.client.len(),
                 formula.as_ptr(),
                 formula.len(),
+                index.as_mut_ptr(),
+                index.len(),
+                client_index.as_mut_ptr(),
+                client_index.len(),
                 answer.as_mut_ptr(),
                 answer.len(),
             ),
@@ -148,6 +180,10 @@ fn by_library(call: Call, input: &Input, client: *const u8, mut lent: Outcome) -
                 formula.len(),
                 nodes.as_mut_ptr(),
                 nodes.len(),
+                index.as_mut_ptr(),
+                index.len(),
+                client_index.as_mut_ptr(),
+                client_index.len(),
                 answer.as_mut_ptr(),
                 answer.len(),
             ),
@@ -168,9 +204,14 @@ fn by_reference(call: Call, input: &Input, mut lent: Outcome) -> Outcome {
         formula,
         ..
     } = input;
+    let nodes = lent.nodes.lent_mut();
+    let indexes = Lent {
+        index: lent.index.lent_mut(),
+        client_index: lent.client_index.lent_mut(),
+    };
     let answer = match call {
-        Call::Measure => reference::measure(*style, table, client, formula),
-        Call::Set => reference::set(*style, table, client, formula, lent.nodes.lent_mut()),
+        Call::Measure => reference::measure_lent(*style, table, client, formula, indexes),
+        Call::Set => reference::set_lent(*style, table, client, formula, nodes, indexes),
     };
     *words = words_of(&answer);
     lent.number = answer.number;
@@ -187,7 +228,8 @@ fn words_of(answer: &Answer) -> [i64; ANSWER_WORDS] {
     ]
 }
 
-/// Whether the safe functions tell what the C interface told.
+/// Whether the safe functions tell what the C interface told, with a new font
+/// and with one that has made a call; a font has words enough for its indexes.
 fn binding_agrees(call: Call, input: &Input, library: &Outcome) -> bool {
     let Some(&[place, width, height, depth, count]) = library.answer.lent().first_chunk() else {
         return true;
@@ -199,22 +241,23 @@ fn binding_agrees(call: Call, input: &Input, library: &Outcome) -> bool {
             depth,
             count: count as usize,
         }),
+        SHORT_INDEX => return true,
         number => Err(Refusal {
             number,
             place: place as usize,
         }),
     };
-    let font = if input.client.is_empty() {
+    let mut font = if input.client.is_empty() {
         Font::new(&input.table)
     } else {
         Font::with_client(&input.table, &input.client)
     };
-    match call {
-        Call::Measure => torfianka::measure(input.style, &font, &input.formula) == expected,
+    (0..2).all(|_| match call {
+        Call::Measure => torfianka::measure(input.style, &mut font, &input.formula) == expected,
         Call::Set => {
             let mut nodes = library.nodes.lent().to_vec();
-            let result = torfianka::set(input.style, &font, &input.formula, &mut nodes);
+            let result = torfianka::set(input.style, &mut font, &input.formula, &mut nodes);
             result == expected && nodes == library.nodes.lent()
         }
-    }
+    })
 }

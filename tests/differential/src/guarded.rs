@@ -20,6 +20,13 @@ impl<T: Copy + PartialEq> Guarded<T> {
         Guarded { cells, lent }
     }
 
+    /// The given cells, between guards at random.
+    pub fn holding(held: &[T], random: &mut Random, cell: fn(&mut Random) -> T) -> Guarded<T> {
+        let mut guarded = Guarded::drawn(held.len(), random, cell);
+        guarded.lent_mut().copy_from_slice(held);
+        guarded
+    }
+
     pub fn lent(&self) -> &[T] {
         &self.cells[self.lent.clone()]
     }

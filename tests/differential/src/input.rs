@@ -1,7 +1,7 @@
 //! What both setters are given.
 
 use reference::generate::{case, Random};
-use reference::{measure, set, NODE_BYTES};
+use reference::{measure, set_lent, Lent, NODE_BYTES};
 
 #[derive(Clone)]
 pub struct Input {
@@ -11,7 +11,10 @@ pub struct Input {
     pub formula: Vec<u8>,
     /// The length of the buffer to set in.
     pub room: usize,
-    /// The seed of what the lent memory holds before a call.
+    /// What the words lent for indexes hold.
+    pub index: Vec<u64>,
+    pub client_index: Vec<u64>,
+    /// The seed of what other lent memory holds before a call.
     pub filling: u64,
 }
 
@@ -38,6 +41,8 @@ impl Input {
             client: case.client,
             formula: case.formula,
             room,
+            index: case.index,
+            client_index: case.client_index,
             filling: random.word(),
         }
     }
@@ -52,6 +57,10 @@ impl Input {
             ..
         } = self;
         let mut nodes = vec![0; self.room];
-        set(*style, table, client, formula, &mut nodes).number
+        let lent = Lent {
+            index: &mut self.index.clone(),
+            client_index: &mut self.client_index.clone(),
+        };
+        set_lent(*style, table, client, formula, &mut nodes, lent).number
     }
 }

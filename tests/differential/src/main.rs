@@ -12,11 +12,12 @@ mod watch;
 use calls::disagreement;
 use input::Input;
 use reference::generate::Random;
+use std::collections::BTreeMap;
 use std::env;
 use std::process::ExitCode;
 
-/// Answer numbers 0 to 8.
-const NUMBERS: usize = 9;
+/// Answer numbers, in the order tested.
+const NUMBERS: [u8; 10] = [0, 1, 2, 8, 19, 3, 4, 5, 6, 7];
 /// So many inputs meet every answer number.
 const ENOUGH_FOR_ALL_NUMBERS: u64 = 5_000;
 /// Disagreements printed in full; further ones are only counted.
@@ -47,7 +48,7 @@ struct Tally {
     agreed: u64,
     disagreed: u64,
     /// How often the reference gave each answer number when setting.
-    numbers: [u64; NUMBERS],
+    numbers: BTreeMap<u8, u64>,
 }
 
 impl Tally {
@@ -65,7 +66,7 @@ impl Tally {
     }
 
     fn compare(&mut self, input: Input) {
-        self.numbers[usize::from(input.number())] += 1;
+        *self.numbers.entry(input.number()).or_default() += 1;
         match disagreement(&input) {
             None => self.agreed += 1,
             Some(_) => {
@@ -79,7 +80,11 @@ impl Tally {
 
     fn missing_numbers(&self) -> bool {
         let inputs = self.agreed + self.disagreed;
-        inputs >= ENOUGH_FOR_ALL_NUMBERS && self.numbers.contains(&0)
+        inputs >= ENOUGH_FOR_ALL_NUMBERS && NUMBERS.iter().any(|number| self.count(number) == 0)
+    }
+
+    fn count(&self, number: &u8) -> u64 {
+        self.numbers.get(number).copied().unwrap_or(0)
     }
 
     fn is_good(&self) -> bool {
@@ -87,8 +92,8 @@ impl Tally {
     }
 
     fn print(&self) {
-        for (number, count) in self.numbers.iter().enumerate() {
-            println!("answer {number}: {count}");
+        for number in NUMBERS {
+            println!("answer {number}: {}", self.count(&number));
         }
         if self.missing_numbers() {
             println!("an answer number never came");

@@ -20,12 +20,25 @@ pub fn print_input(input: &Input) {
     println!("  client    {}", hex(&input.client));
     println!("  formula   {}", hex(&input.formula));
     println!("  room      {}", input.room);
+    print_index("index", &input.index);
+    print_index("client's", &input.client_index);
 }
 
 fn print_outcome(name: &str, outcome: &Outcome) {
     let words: Vec<String> = outcome.answer.lent().iter().map(i64::to_string).collect();
     println!("  {name:9} {}: {}", outcome.number, words.join(" "));
     println!("    buffer  {}", hex(outcome.nodes.lent()));
+    print_index("  index", outcome.index.lent());
+    print_index("  client's", outcome.client_index.lent());
+}
+
+/// The number of words, and those that are not 0, each behind its place.
+fn print_index(name: &str, words: &[u64]) {
+    print!("  {name:9} {} words:", words.len());
+    for (place, word) in words.iter().enumerate().filter(|(_, word)| **word != 0) {
+        print!(" {place}:{word:x}");
+    }
+    println!();
 }
 
 fn hex(bytes: &[u8]) -> String {

@@ -2,6 +2,8 @@
 
 use crate::calls::disagreement;
 use crate::input::Input;
+use crate::watch;
+use reference::INDEX_WORDS;
 use std::ops::Range;
 
 /// The parameter rows at a table's start, which stay.
@@ -13,7 +15,8 @@ const LIST_HEAD: usize = 3;
 /// Every run up to this length is tried; longer ones by halves.
 const ALL_RUNS: usize = 32;
 
-/// Drops bytes of the formula, then records of the tables.
+/// Drops bytes of the formula, then records of the tables, then what is not
+/// needed of the lent words.
 pub fn shrunk(mut input: Input) -> Input {
     let formula_bytes = Units {
         head: 0,
@@ -28,7 +31,35 @@ pub fn shrunk(mut input: Input) -> Input {
     formula_bytes.drop_from(|input| &mut input.formula, &mut input);
     records_behind(0).drop_from(|input| &mut input.client, &mut input);
     records_behind(TABLE_HEAD).drop_from(|input| &mut input.table, &mut input);
+    clear(|input| &mut input.index, &mut input);
+    clear(|input| &mut input.client_index, &mut input);
     input
+}
+
+/// Makes words lent for an index 0, and drops those past it, while the setters
+/// disagree.
+fn clear(words: fn(&mut Input) -> &mut Vec<u64>, input: &mut Input) {
+    let mut attempt = |change: &dyn Fn(&mut Vec<u64>)| {
+        let mut candidate = input.clone();
+        change(words(&mut candidate));
+        if still_disagree(&candidate) {
+            *input = candidate;
+        }
+    };
+    attempt(&|words| words.truncate(INDEX_WORDS));
+    let mut run = INDEX_WORDS;
+    while run > 0 {
+        for start in (0..INDEX_WORDS).step_by(run) {
+            attempt(&|words| {
+                words
+                    .iter_mut()
+                    .skip(start)
+                    .take(run)
+                    .for_each(|word| *word = 0)
+            });
+        }
+        run /= 2;
+    }
 }
 
 /// What can be dropped from some bytes: units past a head.
@@ -45,7 +76,7 @@ impl Units {
         let bytes = self.dropped(bytes, |bytes| {
             let mut candidate = input.clone();
             *part(&mut candidate) = bytes.to_vec();
-            disagreement(&candidate).is_some()
+            still_disagree(&candidate)
         });
         *part(input) = bytes;
     }
@@ -67,6 +98,11 @@ impl Units {
         }
         bytes
     }
+}
+
+fn still_disagree(candidate: &Input) -> bool {
+    watch::go_on();
+    disagreement(candidate).is_some()
 }
 
 fn without(bytes: &[u8], dropped: Range<usize>) -> Vec<u8> {

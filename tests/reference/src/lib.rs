@@ -1,14 +1,16 @@
 //! A formula setter written from the papers, apart from the proved one.
 //!
-//! [`measure`] and [`set`] take a style, a font table, a client's symbols over
-//! it and a formula, all as bytes. Nothing is kept between calls, so every call
-//! checks both tables anew.
+//! [`measure_lent`] and [`set_lent`] take a style, a font table, a client's
+//! symbols over it and a formula, all as bytes, and words for an index of each
+//! table; [`measure`] and [`set`] have such words of their own. Nothing else is
+//! kept between calls, so every call checks both tables anew.
 
 mod answer;
 mod boxes;
 mod chains;
 pub mod compose;
 pub mod generate;
+pub mod index;
 mod layout;
 mod nodes;
 mod parameters;
@@ -22,11 +24,12 @@ mod tables;
 
 pub use answer::Answer;
 pub use chains::CHAIN_LIMIT;
+pub use index::INDEX_WORDS;
 pub use nodes::NODE_BYTES;
 pub use printed::printed;
 pub use reading::{DEPTH_LIMIT, FORMULA_LIMIT};
 pub use records::WORD_LIMIT;
-pub use tables::{CHARACTER_LIMIT, CLIENT_LIMIT};
+pub use tables::{Lent, CHARACTER_LIMIT, CLIENT_LIMIT};
 
 /// The greatest size of a list's dimensions and of a node's coordinates.
 pub const SIZE_LIMIT: i64 = 1_073_741_823;
@@ -39,18 +42,46 @@ use reading::Formula;
 use style::Style;
 use tables::Tables;
 
-/// Finds the formula's sizes and the number of its nodes. An empty client's
-/// table is none.
+/// As [`measure_lent`], with words that no one sees.
 pub fn measure(style: u8, table: &[u8], client: &[u8], formula: &[u8]) -> Answer {
-    match lay_out(style, table, client, formula, Count::default()) {
+    let [mut index, mut client_index] = [[0; INDEX_WORDS]; 2];
+    let lent = Lent {
+        index: &mut index,
+        client_index: &mut client_index,
+    };
+    measure_lent(style, table, client, formula, lent)
+}
+
+/// As [`set_lent`], with words that no one sees.
+pub fn set(style: u8, table: &[u8], client: &[u8], formula: &[u8], nodes: &mut [u8]) -> Answer {
+    let [mut index, mut client_index] = [[0; INDEX_WORDS]; 2];
+    let lent = Lent {
+        index: &mut index,
+        client_index: &mut client_index,
+    };
+    set_lent(style, table, client, formula, nodes, lent)
+}
+
+/// Finds the formula's sizes and the number of its nodes. An empty client's
+/// table is none. The lent words get the indexes of both tables unless the
+/// style, a table or the words themselves are refused.
+pub fn measure_lent(style: u8, table: &[u8], client: &[u8], formula: &[u8], lent: Lent) -> Answer {
+    match lay_out(style, table, client, formula, Count::default(), lent) {
         Ok((formula_box, pen)) => Answer::accepted(&formula_box, pen.count()),
         Err(refusal) => refusal.into(),
     }
 }
 
 /// Measures, and writes the nodes to the front of `nodes`.
-pub fn set(style: u8, table: &[u8], client: &[u8], formula: &[u8], nodes: &mut [u8]) -> Answer {
-    match try_set(style, table, client, formula, nodes) {
+pub fn set_lent(
+    style: u8,
+    table: &[u8],
+    client: &[u8],
+    formula: &[u8],
+    nodes: &mut [u8],
+    lent: Lent,
+) -> Answer {
+    match try_set(style, table, client, formula, nodes, lent) {
         Ok(answer) => answer,
         Err(refusal) => refusal.into(),
     }
@@ -62,9 +93,10 @@ fn try_set(
     client: &[u8],
     formula: &[u8],
     nodes: &mut [u8],
+    lent: Lent,
 ) -> Result<Answer, Refusal> {
     let pen: Vec<Node> = Vec::with_capacity(most_nodes(formula));
-    let (formula_box, pen) = lay_out(style, table, client, formula, pen)?;
+    let (formula_box, pen) = lay_out(style, table, client, formula, pen, lent)?;
     let room = nodes
         .get_mut(..NODE_BYTES * pen.len())
         .ok_or(Refusal::Room)?;
@@ -85,9 +117,10 @@ fn lay_out<P: Pen>(
     client: &[u8],
     formula: &[u8],
     pen: P,
+    lent: Lent,
 ) -> Result<(MathBox, P), Refusal> {
     let style = Style::new(style).ok_or(Refusal::Style)?;
-    let tables = Tables::read(table, client)?;
+    let tables = Tables::read(table, client, lent)?;
     let formula = Formula::read(formula)?;
     let mut layout = Layout::new(&tables, &formula, pen);
     let formula_box = layout.list(formula.top, style)?;

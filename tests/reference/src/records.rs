@@ -1,4 +1,4 @@
-//! Character records: their check, their search, what one holds.
+//! Character records: their check, what one holds.
 
 pub(crate) const CHARACTER_MARK: [u8; 2] = *b"CH";
 pub(crate) const RECORD_BYTES: usize = 23;
@@ -21,10 +21,8 @@ impl<'a> Records<'a> {
         good.then_some(Records(records))
     }
 
-    pub fn find(self, size: u8, family: u8, code: u8) -> Option<&'a Record> {
-        let wanted = key([size, family, code]);
-        let found = self.0.binary_search_by_key(&wanted, record_key);
-        found.ok().map(|at| &self.0[at])
+    pub fn all(self) -> &'a [Record] {
+        self.0
     }
 
     /// Those of one size and family stand together.
@@ -67,7 +65,7 @@ impl Character {
 fn are_good(records: &[Record]) -> bool {
     let mut least = 0;
     records.iter().all(|record| {
-        let key = record_key(record);
+        let key = key(record);
         let rises = key >= least;
         least = key + 1;
         rises && is_good(record)
@@ -105,15 +103,17 @@ pub fn code(record: &Record) -> usize {
     usize::from(record[4])
 }
 
+/// Size, family and code.
+pub fn symbol(record: &Record) -> [u8; 3] {
+    [record[2], record[3], record[4]]
+}
+
 /// Size and family.
-fn family(record: &Record) -> [u8; 2] {
+pub fn family(record: &Record) -> [u8; 2] {
     [record[2], record[3]]
 }
 
-fn record_key(record: &Record) -> u32 {
-    key([record[2], record[3], record[4]])
-}
-
-fn key([size, family, code]: [u8; 3]) -> u32 {
+fn key(record: &Record) -> u32 {
+    let [size, family, code] = symbol(record);
     u32::from_be_bytes([0, size, family, code])
 }

@@ -1,7 +1,9 @@
 //! What holds of every call, looked at on generated cases.
 
 use reference::generate::{case, Case, Random};
-use reference::{measure, set, Answer, CHAIN_LIMIT, FORMULA_LIMIT, NODE_BYTES};
+use reference::{
+    measure, measure_lent, set_lent, Answer, Lent, CHAIN_LIMIT, FORMULA_LIMIT, NODE_BYTES,
+};
 use std::collections::BTreeMap;
 
 const CASES: usize = 20_000;
@@ -13,20 +15,33 @@ fn calls_keep_their_contract() {
     for _ in 0..CASES {
         let case = case(&mut random);
         let mut nodes = vec![FILLING; case.room];
-        let answer = set(
-            case.style,
-            &case.table,
-            &case.client,
-            &case.formula,
-            &mut nodes,
-        );
+        let answer = answer_to(case.clone(), &mut nodes);
         check_answer(&case, &answer);
         check_buffer(&answer, &nodes);
     }
 }
 
+fn answer_to(mut case: Case, nodes: &mut [u8]) -> Answer {
+    let lent = Lent {
+        index: &mut case.index,
+        client_index: &mut case.client_index,
+    };
+    set_lent(
+        case.style,
+        &case.table,
+        &case.client,
+        &case.formula,
+        nodes,
+        lent,
+    )
+}
+
 fn check_answer(case: &Case, answer: &Answer) {
-    let measured = measure(case.style, &case.table, &case.client, &case.formula);
+    let lent = Lent {
+        index: &mut case.index.clone(),
+        client_index: &mut case.client_index.clone(),
+    };
+    let measured = measure_lent(case.style, &case.table, &case.client, &case.formula, lent);
     if answer.number == 7 {
         assert_eq!(measured.number, 0);
         assert!(case.room < NODE_BYTES * measured.count as usize);
@@ -55,21 +70,21 @@ fn check_buffer(answer: &Answer, nodes: &[u8]) {
 
 #[test]
 fn every_answer_comes_often() {
-    let mut counts = [0; 9];
+    const NUMBERS: [u8; 10] = [0, 1, 2, 8, 19, 3, 4, 5, 6, 7];
+    let mut counts: BTreeMap<u8, usize> = BTreeMap::new();
     let mut random = Random::new(8);
     for _ in 0..CASES {
         let case = case(&mut random);
         let mut nodes = vec![0; case.room];
-        let answer = set(
-            case.style,
-            &case.table,
-            &case.client,
-            &case.formula,
-            &mut nodes,
-        );
-        counts[usize::from(answer.number)] += 1;
+        let answer = answer_to(case, &mut nodes);
+        *counts.entry(answer.number).or_default() += 1;
     }
-    assert!(counts.iter().all(|count| *count > CASES / 50), "{counts:?}");
+    assert!(counts.keys().all(|number| NUMBERS.contains(number)));
+    assert_eq!(counts.len(), NUMBERS.len());
+    assert!(
+        counts.values().all(|count| *count > CASES / 50),
+        "{counts:?}"
+    );
 }
 
 #[test]

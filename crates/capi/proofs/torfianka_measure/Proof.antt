@@ -1,31 +1,52 @@
--- The answer of measuring, where there is room for it.
+-- The answer of measuring, and the words for both indexes, where there is room for the answer.
 use mathlib.Core.Path.{sym, subst, _∙_}
 use Rattle.answers.specs.Small.{Small, measured-small}
-use Rattle.capi.proofs.Stores.{number-short, words-short, number-enough, words-enough}
+use Rattle.capi.proofs.Stores.{number-short, words-short, lent-short, number-enough, words-enough, lent-enough}
 use borrow.Author.Needs.{needs}
 use Rattle.capi.proofs.torfianka_measure.Statement.{statement}
 use Rattle.capi.proofs.torfianka_measure.Tie as tie
 
 returns : tie.Need-returns
 returns c =
-    let w = c .before .before .before .before .args .answer .now in
-    (number-short _ w (c .if1 .taken), words-short _ w (c .if1 .taken))
+    let w = c .before .before .before .before .before .before .args .answer .now in
+    let few = c .if1 .taken in
+    (number-short _ w few, (words-short _ w few, (lent-short _ _ w few, lent-short _ _ w few)))
 
 measure-requires : tie.Need-measure-requires
 measure-requires c κs = tt
 
 report-requires : tie.Need-report-requires
-report-requires c κs = (search needs, subst Small (sym (c .before .measure .ensures)) (measured-small _ _ _ _))
+report-requires c κs = (search needs, subst Small (sym (c .before .before .before .before .before .measure .ensures .0)) (measured-small _ _ _ _ _))
 
 same-length : tie.Need-same-length
 same-length c = search needs
 
+same-length-2 : tie.Need-same-length-2
+same-length-2 c = search needs
+
+same-length-3 : tie.Need-same-length-3
+same-length-3 c = search needs
+
 returns-2 : tie.Need-returns-2
 returns-2 c =
-    let w = c .before .before .before .before .before .before .before .before .args .answer .now in
-    let r = rw (c .before .before .before .measure .ensures) at (c .before .report .ensures) in
-    (r .0 ∙ number-enough _ w (c .before .before .before .before .if1 .left), r .1 ∙ words-enough _ w (c .before .before .before .before .if1 .left))
+    let measured = c .before .before .before .before .before .before .before in
+    let tested = measured .before .before .before in
+    let w = tested .before .before .before .before .before .before .args .answer .now in
+    let room = tested .if1 .left in
+    let m = measured .measure .ensures in
+    let r = rw (m .0) at (c .before .report .ensures) in (
+      r .0 ∙ number-enough _ w room,
+      (r .1 ∙ words-enough _ w room, (m .1 .0 ∙ lent-enough _ _ w room, m .1 .1 ∙ lent-enough _ _ w room)),
+    )
 
 pub torfianka-measure-spec : {M : Type 1} → statement M
 torfianka-measure-spec =
-    tie.close (tie.spec returns measure-requires report-requires same-length returns-2)
+    tie.close
+    (tie.spec
+    returns
+    measure-requires
+    report-requires
+    same-length
+    same-length-2
+    same-length-3
+    returns-2)

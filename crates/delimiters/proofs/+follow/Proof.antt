@@ -20,28 +20,32 @@ use Rattle.delimiters.proofs.look.Reads as look-reads
 use Rattle.delimiters.proofs.+follow.{statement}
 use Rattle.delimiters.proofs.+follow.Tie.{close}
 
-abbrev μ : Measures 1 kinds.ps ℕ
-μ κs a = a .1 .1 .1 .1 .1 .1 .1 .0
+abbrev μ : Measures 3 kinds.ps ℕ
+μ κs a = a .1 .1 .1 .1 .1 .1 .1 .1 .1 .0
 
-abbrev at : ℕ → In 1 kinds.ps
-at t = and 1 kinds.ps (is 1 kinds.ps μ t) follow.Pre
+abbrev at : ℕ → In 3 kinds.ps
+at t = and 3 kinds.ps (is 3 kinds.ps μ t) follow.Pre
 
-abbrev below : ℕ → In 1 kinds.ps
-below t = and 1 kinds.ps (falls 1 kinds.ps _<_ μ t) follow.Pre
+abbrev below : ℕ → In 3 kinds.ps
+below t = and 3 kinds.ps (falls 3 kinds.ps _<_ μ t) follow.Pre
 
 abbrev claims : ℕ → lts.Claims
 claims t = (symbol-reads.Asked, symbol-reads.Learnt, look-reads.Asked, look-reads.Learnt, below t, follow.Post)
 
+-- once the symbol is looked up
+abbrev start : (t : ℕ) → lts.After-symbol (claims t) (at t) follow.Post → lts.Start (claims t) (at t) follow.Post
+start t c = c .before .before .before .before .before .before
+
 returns : (t : ℕ) → lts.Need-returns (claims t) (at t) follow.Post
 returns t c =
-    let a = c .before .before .before .before .args in
+    let a = c .before .before .before .before .before .before .args in
     rw (c .enum-told .given .1) (sym (looked-enough (a .needed .0) _ _))
 
 returns-2 : (t : ℕ) → lts.Need-returns-2 (claims t) (at t) follow.Post
 unfolding lookedAt
 returns-2 t c =
     let found = c .before .before in
-    let a = found .before .before .before .before .args in
+    let a = start t found .args in
     let is = sym (found .symbol .ensures) ∙ ap foundAs (c .enum-told2 .given .1) in
     rw (chain-absent (fontWith (a .table .now) (a .client .now)) (a .size) (a .family) (a .steps) (a .code) is)
 
@@ -50,8 +54,9 @@ unfolding lookedAt
 returns-3 t c =
     let seen = c .before .before in
     let known = seen .before .before in
-    let a = known .before .before .before .before .before .before .args in
-    let is = sym (known .before .before .symbol .ensures) ∙ ap foundAs (known .metrics .given .1) in
+    let found = known .before .before in
+    let a = start t found .args in
+    let is = sym (found .symbol .ensures) ∙ ap foundAs (known .metrics .given .1) in
     rw (chain-last (fontWith (a .table .now) (a .client .now)) (a .size) (a .family) (a .code) _ is (a .steps) (ap successorAs (c .enum-told3 .given .1))) (seen .look .ensures)
 
 returns-4 : (t : ℕ) → lts.Need-returns-4 (claims t) (at t) follow.Post
@@ -60,8 +65,9 @@ returns-4 t c =
     let code = c .before .before in
     let seen = code .before .before in
     let known = seen .before .before in
-    let a = known .before .before .before .before .before .before .args in
-    let is = sym (known .before .before .symbol .ensures) ∙ ap foundAs (known .metrics .given .1) in
+    let found = known .before .before in
+    let a = start t found .args in
+    let is = sym (found .symbol .ensures) ∙ ap foundAs (known .metrics .given .1) in
     rw (c .if1 .taken, chain-cut (fontWith (a .table .now) (a .client .now)) (a .size) (a .family) (a .code) _ is _ (ap successorAs (code .next .given .1))) (seen .look .ensures)
 
 returns-5 : (t : ℕ) → lts.Need-returns-5 (claims t) (at t) follow.Post
@@ -70,8 +76,9 @@ returns-5 t c =
     let code = c .before .before .before in
     let seen = code .before .before in
     let known = seen .before .before in
-    let a = known .before .before .before .before .before .before .args in
-    let is = sym (known .before .before .symbol .ensures) ∙ ap foundAs (known .metrics .given .1) in
+    let found = known .before .before in
+    let a = start t found .args in
+    let is = sym (found .symbol .ensures) ∙ ap foundAs (known .metrics .given .1) in
     let rest = chain (fontWith (a .table .now) (a .client .now)) (a .size) (a .family) (a .steps - 1) (code .next .given .0 .0) in
     rw (chain-step (fontWith (a .table .now) (a .client .now)) (a .size) (a .family) (a .code) _ is (a .steps) _ (omega arith) (ap successorAs (code .next .given .1)))
     (c .follow .ensures ∙ ap (λ (far : Looked). lookedAt (a .needed .0) far rest) (seen .look .ensures))

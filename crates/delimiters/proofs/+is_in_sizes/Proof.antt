@@ -16,37 +16,43 @@ use Rattle.font.proofs.symbol.Reads as symbol-reads
 use Rattle.delimiters.proofs.+is_in_sizes.{statement}
 use Rattle.delimiters.proofs.+is_in_sizes.Tie.{close}
 
-abbrev μ : Measures 1 kinds.ps ℕ
-μ κs a = a .1 .1 .0
+abbrev μ : Measures 3 kinds.ps ℕ
+μ κs a = a .1 .1 .1 .1 .0
 
-abbrev at : ℕ → In 1 kinds.ps
-at t = and 1 kinds.ps (is 1 kinds.ps μ t) is-in-sizes.Pre
+abbrev at : ℕ → In 3 kinds.ps
+at t = and 3 kinds.ps (is 3 kinds.ps μ t) is-in-sizes.Pre
 
-abbrev below : ℕ → In 1 kinds.ps
-below t = and 1 kinds.ps (falls 1 kinds.ps _<_ μ t) is-in-sizes.Pre
+abbrev below : ℕ → In 3 kinds.ps
+below t = and 3 kinds.ps (falls 3 kinds.ps _<_ μ t) is-in-sizes.Pre
 
 abbrev claims : ℕ → lts.Claims
 claims t = (symbol-reads.Asked, symbol-reads.Learnt, below t, is-in-sizes.Post)
 
+-- once the symbol is looked up
+abbrev start : (t : ℕ) → lts.After-symbol (claims t) (at t) is-in-sizes.Post → lts.Start (claims t) (at t) is-in-sizes.Post
+start t c = c .before .before .before .before .before
+
 returns : (t : ℕ) → lts.Need-returns (claims t) (at t) is-in-sizes.Post
 returns t c =
     let found = c .before .before in
-    let a = found .before .before .before .args in
+    let a = start t found .args in
     let is = sym (found .symbol .ensures) ∙ ap foundAs (c .enum-told .given .1) in
     sym (any-here (fontWith (a .table .now) (a .client .now)) (a .family) (a .code) (a .size) _ is)
 
 returns-2 : (t : ℕ) → lts.Need-returns-2 (claims t) (at t) is-in-sizes.Post
 returns-2 t c =
     let told = c .before in
-    let a = told .before .before .before .before .before .args in
-    let is = sym (told .before .before .symbol .ensures) ∙ ap foundAs (told .enum-told2 .given .1) in
+    let found = told .before .before in
+    let a = start t found .args in
+    let is = sym (found .symbol .ensures) ∙ ap foundAs (told .enum-told2 .given .1) in
     sym (any-text (fontWith (a .table .now) (a .client .now)) (a .family) (a .code) (a .size) (c .if1 .taken) is)
 
 returns-3 : (t : ℕ) → lts.Need-returns-3 (claims t) (at t) is-in-sizes.Post
 returns-3 t c =
     let told = c .before .before in
-    let a = told .before .before .before .before .before .args in
-    let is = sym (told .before .before .symbol .ensures) ∙ ap foundAs (told .enum-told2 .given .1) in
+    let found = told .before .before in
+    let a = start t found .args in
+    let is = sym (found .symbol .ensures) ∙ ap foundAs (told .enum-told2 .given .1) in
     c .is-in-sizes .ensures ∙ sym (any-up (fontWith (a .table .now) (a .client .now)) (a .family) (a .code) (a .size) (omega arith) is)
 
 pub +is-in-sizes-spec : {M : Type 1} → statement M

@@ -15,27 +15,27 @@ use Rattle.delimiters.proofs.follow.Reads as follow-reads
 use Rattle.delimiters.proofs.+search_sizes.{statement}
 use Rattle.delimiters.proofs.+search_sizes.Tie.{close}
 
-abbrev μ : Measures 1 kinds.ps ℕ
-μ κs a = a .1 .1 .0
+abbrev μ : Measures 3 kinds.ps ℕ
+μ κs a = a .1 .1 .1 .1 .0
 
-abbrev at : ℕ → In 1 kinds.ps
-at t = and 1 kinds.ps (is 1 kinds.ps μ t) search-sizes.Pre
+abbrev at : ℕ → In 3 kinds.ps
+at t = and 3 kinds.ps (is 3 kinds.ps μ t) search-sizes.Pre
 
-abbrev below : ℕ → In 1 kinds.ps
-below t = and 1 kinds.ps (falls 1 kinds.ps _<_ μ t) search-sizes.Pre
+abbrev below : ℕ → In 3 kinds.ps
+below t = and 3 kinds.ps (falls 3 kinds.ps _<_ μ t) search-sizes.Pre
 
 abbrev claims : ℕ → lts.Claims
 claims t = (follow-reads.Asked, follow-reads.Learnt, below t, search-sizes.Post)
 
 returns : (t : ℕ) → lts.Need-returns (claims t) (at t) search-sizes.Post
 returns t c =
-    let a = c .before .before .before .before .args in
+    let a = c .before .before .before .before .before .before .args in
     rw (in-text (fontWith (a .table .now) (a .client .now)) (a .family) (a .code) (a .size) (c .if1 .taken)) (c .before .follow .ensures)
 
 returns-2 : (t : ℕ) → lts.Need-returns-2 (claims t) (at t) search-sizes.Post
 returns-2 t c =
     let here = c .before .before in
-    let a = here .before .before .before .args in
+    let a = here .before .before .before .before .before .args in
     rw (in-sizes (fontWith (a .table .now) (a .client .now)) (a .family) (a .code) (a .size) (omega arith), looked-both, ← here .follow .ensures) (c .search-sizes .ensures)
 
 pub +search-sizes-spec : {M : Type 1} → statement M

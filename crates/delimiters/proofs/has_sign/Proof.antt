@@ -11,12 +11,12 @@ use Rattle.delimiters.proofs.has_sign.Tie as tie
 
 -- one of the two has any
 either : (c : tie.After-has-pair) →
-    let a = c .before .before .before .before .before .args in
+    let a = c .before .before .before .before .before .before .before .args in
     let F = fontWith (a .table .now) (a .client .now) in
     hasSign F (a .size) (a .d) ≡ (c .has-pair .result || hasAny (ofPair F (a .size) (a .d .large)))
 unfolding hasSign candidates
 either c =
-    let a = c .before .before .before .before .before .args in
+    let a = c .before .before .before .before .before .before .before .args in
     let F = fontWith (a .table .now) (a .client .now) in
     any-both (ofPair F (a .size) (a .d .small)) (ofPair F (a .size) (a .d .large))
     ∙ ap (λ (b : Bool). b || hasAny (ofPair F (a .size) (a .d .large))) (sym (c .has-pair .ensures))

@@ -11,13 +11,13 @@ use Rattle.delimiters.proofs.search_pair.Tie as tie
 returns : tie.Need-returns
 unfolding lookedAt
 returns c =
-    let a = c .before .before .before .before .args in
+    let a = c .before .before .before .before .before .before .args in
     rw (pair-zero (fontWith (a .table .now) (a .client .now)) (a .size) (a .pair) (sym (c .before .is-zero .ensures) ∙ c .if1 .taken))
 
 returns-2 : tie.Need-returns-2
 returns-2 c =
     let test = c .before in
-    let a = test .before .before .before .before .args in
+    let a = test .before .before .before .before .before .before .args in
     rw (pair-given (fontWith (a .table .now) (a .client .now)) (a .size) (a .pair) (sym (test .before .is-zero .ensures) ∙ test .if1 .left)) (c .search-sizes .ensures)
 
 pub search-pair-spec : {M : Type 1} → statement M

@@ -16,11 +16,11 @@ abbrev found : Search → Option Sign
 found far = outcome (searchAs far)
 
 searched : (c : tie.After-search-pair2) →
-    let a = c .before .before .before .before .before .before .args in
+    let a = c .before .before .before .before .before .before .before .before .args in
     found (c .search-pair2 .result) ≡ signFor (fontWith (a .table .now) (a .client .now)) (a .size) (a .d) (a .needed .0)
 unfolding signFor candidates
 searched c =
-    let a = c .before .before .before .before .before .before .args in
+    let a = c .before .before .before .before .before .before .before .before .args in
     let small = ofPair (fontWith (a .table .now) (a .client .now)) (a .size) (a .d .small) in
     let large = ofPair (fontWith (a .table .now) (a .client .now)) (a .size) (a .d .large) in
     ap outcome

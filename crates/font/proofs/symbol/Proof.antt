@@ -14,9 +14,9 @@ record-of-requires c κs = search needs
 returns : tie.Need-returns
 returns c =
     let found = c .before in
-    let start = found .before .before .before in
+    let start = found .before .before .before .before .before in
     let a = start .args in
-    sym (read-short (now (a .table)) (now (a .client)) (a .size) (a .family) (a .code) (start .pre) _ (found .record-of .ensures .0) (c .if1 .taken))
+    sym (read-short (now (a .table)) (now (a .client)) (a .size) (a .family) (a .code) (start .pre .tables) _ (found .record-of .ensures .0) (c .if1 .taken))
 
 metrics-of-requires : tie.Need-metrics-of-requires
 metrics-of-requires c κs = search needs
@@ -25,10 +25,10 @@ returns-2 : tie.Need-returns-2
 returns-2 c =
     let test = c .before in
     let found = test .before in
-    let start = found .before .before .before in
+    let start = found .before .before .before .before .before in
     let a = start .args in
     ap some (c .metrics-of .ensures)
-    ∙ sym (read-long (now (a .table)) (now (a .client)) (a .size) (a .family) (a .code) (start .pre) _ (found .record-of .ensures .0) (test .if1 .left))
+    ∙ sym (read-long (now (a .table)) (now (a .client)) (a .size) (a .family) (a .code) (start .pre .tables) _ (found .record-of .ensures .0) (test .if1 .left))
 
 pub symbol-spec : {M : Type 1} → statement M
 symbol-spec = tie.close (tie.spec record-of-requires returns metrics-of-requires returns-2)

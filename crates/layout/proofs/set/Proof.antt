@@ -3,70 +3,52 @@ use native.Mathlib.Omega.{arith}
 use lib.ListN.{length, length-take}
 use borrow.Author.Needs.{needs}
 use Rattle.font.specs.FontLaws.{good-header}
-use Rattle.walk.specs.Walked.{ListGiven}
+use Rattle.answers.specs.Lent.{lentOf}
 use Rattle.layout.specs.Answering.{Reads, Boxes}
 use Rattle.layout.proofs.AnsweringLaws.{given-list}
-use Rattle.layout.proofs.EntryLaws.{setting-is, no-room-is, written-is, refused-is, refused-later}
+use Rattle.layout.proofs.EntryLaws.{setting-is, no-room-is, written-is, refused-is}
 use Rattle.layout.proofs.set.Statement.{statement}
 use Rattle.layout.proofs.set.Tie as tie
 
-read-requires : tie.Need-read-requires
-read-requires c κs = search needs
-
-enum-known-reading : tie.Need-enum-known-reading
-enum-known-reading c = search needs
-
-enum-known-reading-2 : tie.Need-enum-known-reading-2
-enum-known-reading-2 c = search needs
-
-returns : tie.Need-returns
-returns c =
-    let start = c .before .before .before .before .before .before .before .before in
-    refused-is _ _ _ _ _ (rw (c .before .reading2 .given .1) at (c .before .before .before .read .ensures)) (start .args .nodes .now)
-
--- a formula that reads
-reads : (c : tie.After-reading) →
-    let a = c .before .before .before .before .before .before .before .args in
-    Reads (a .style) (a .table .now) (a .client .now) (a .formula .now) (c .reading .given .0 .0)
-reads c = rw (c .reading .given .1) at (c .before .before .read .ensures)
-
-parameters-requires : tie.Need-parameters-requires
-parameters-requires c κs = good-header _ (reads (c .before) .table-good)
-
--- what both walks are lent
-given : (c : tie.After-p) →
-    let reading = c .before .before .before in
-    let a = reading .before .before .before .before .before .before .before .args in
-    ListGiven (a .table .now) (a .client .now) (c .before .parameters .result) (a .formula .now)
-given c = given-list _ (reads (c .before .before .before)) (c .before .parameters .ensures)
-
-examine-requires : tie.Need-examine-requires
-examine-requires c κs = given c
+find-requires : tie.Need-find-requires
+find-requires c κs = search needs
 
 enum-known-finding : tie.Need-enum-known-finding
 enum-known-finding c = search needs
 
--- a formula that is accepted
-boxes : (c : tie.After-finding) →
-    let reading = c .before .before .before .before .before .before in
-    let a = reading .before .before .before .before .before .before .before .args in
-    Boxes (reading .reading .given .0 .0) (a .table .now) (a .client .now) (a .formula .now) (c .finding .given .0 .0) (c .finding .given .0 .1 .0)
-boxes c = rw (c .finding .given .1) at (c .before .before .examine .ensures)
+-- a formula that is accepted, if there is room
+found : (c : tie.After-finding) →
+    let made = c .before .before .before .before .before .before in
+    let a = made .before .before .before .before .before .before .before .before .before .args in
+    let lent = lentOf (a .index .now) (a .client-index .now) in
+    let f = c .finding .given .0 in
+    Reads (a .style) (a .table .now) (a .client .now) lent (a .formula .now) (made .find .last .1 .1 .1 .1 .0) (made .find .last .1 .1 .1 .1 .1 .0) (f .0)
+    × Boxes (f .0) (a .table .now) (a .client .now) (a .formula .now) (f .1 .0) (f .1 .1 .0)
+found c = rw (c .finding .given .1) at (c .before .before .before .before .before .before .find .ensures .0)
 
-returns-2 : tie.Need-returns-2
-returns-2 c =
-    let found = c .before .before in
-    let reading = found .before .before .before .before .before .before in
-    let start = reading .before .before .before .before .before .before .before in
-    no-room-is _ _ _ _ _ (reads reading) _ _ (boxes found) (start .args .nodes .now) (omega arith)
+same-length : tie.Need-same-length
+same-length c = search needs
+
+same-length-2 : tie.Need-same-length-2
+same-length-2 c = search needs
+
+returns : tie.Need-returns
+returns c =
+    let finding = c .before .before in
+    let made = finding .before .before .before .before .before .before in
+    let h = found finding in
+    let none = no-room-is _ _ _ _ _ _ _ _ (h .0) _ _ (h .1) (made .before .before .before .before .before .before .before .before .before .args .nodes .now) (omega arith) in
+    (none .0, (none .1, made .find .ensures .1))
 
 -- the bytes of the nodes are no more than those of the buffer, whose number is a `usize`
 mul-end : tie.Need-mul-end
 mul-end c =
-    let reading = c .before .before .before .before .before .before .before .before in
-    let start = reading .before .before .before .before .before .before .before in
+    let start = c .before .before .before .before .before .before .before .before .before .before .before .before .before .before .before .before .before in
     let buffer = start .good .1 .1 .1 .1 .0 in
     omega (arith, buffer .0)
+
+parameters-requires : tie.Need-parameters-requires
+parameters-requires c κs = good-header _ (found (c .before .before) .0 .table-good)
 
 slice-relend-prefix-set-list : tie.Need-slice-relend-prefix-set-list
 slice-relend-prefix-set-list c = search needs
@@ -75,50 +57,63 @@ slice-aggregate-set-list : tie.Need-slice-aggregate-set-list
 slice-aggregate-set-list c = simp length-take (omega arith)
 
 set-list-requires : tie.Need-set-list-requires
-set-list-requires c κs = given (c .before .before .before .before .before .before .before)
+set-list-requires c κs = given-list _ (found (c .before .before .before .before .before .before .before) .0) (c .before .before .before .before .parameters .ensures)
 
 enum-known-finding-2 : tie.Need-enum-known-finding-2
 enum-known-finding-2 c = search needs
 
-same-length : tie.Need-same-length
-same-length c = search needs
+same-length-3 : tie.Need-same-length-3
+same-length-3 c = search needs
+
+same-length-4 : tie.Need-same-length-4
+same-length-4 c = search needs
+
+same-length-5 : tie.Need-same-length-5
+same-length-5 c = search needs
+
+returns-2 : tie.Need-returns-2
+returns-2 c =
+    let l = c .before .before .set-list in
+    let finding = c .before .before .before .before .before .before .before .before .before .before in
+    let made = finding .before .before .before .before .before .before in
+    let nodes = made .before .before .before .before .before .before .before .before .before .args .nodes .now in
+    let room = c .before .before .before .before .before .before .before .before .if1 .left in
+    let h = found finding in (
+      setting-is _ _ _ _ _ _ _ _ (h .0) _ _ (h .1) (length nodes) (omega (arith, room)),
+      (written-is _ _ _ _ _ _ _ _ (h .0) _ _ (h .1) nodes _ (l .result) (omega (arith, room)) (l .ensures), made .find .ensures .1),
+    )
+
+same-length-6 : tie.Need-same-length-6
+same-length-6 c = search needs
+
+same-length-7 : tie.Need-same-length-7
+same-length-7 c = search needs
 
 returns-3 : tie.Need-returns-3
 returns-3 c =
-    let l = c .before .before .set-list in
-    let found = c .before .before .before .before .before .before .before in
-    let reading = found .before .before .before .before .before .before in
-    let nodes = reading .before .before .before .before .before .before .before .args .nodes .now in
-    let g = reads reading in
-    let h = boxes found in (
-      setting-is _ _ _ _ _ g _ _ h (length nodes) (omega arith),
-      written-is _ _ _ _ _ g _ _ h nodes _ (l .result) (omega arith) (l .ensures),
-    )
-
-returns-4 : tie.Need-returns-4
-returns-4 c =
-    let reading = c .before .before .before .before .before .before .before in
-    let start = reading .before .before .before .before .before .before .before in
-    let refusal = rw (c .before .finding2 .given .1) at (c .before .before .before .examine .ensures) in
-    refused-is _ _ _ _ _ (refused-later _ _ _ _ _ (reads reading) _ refusal) (start .args .nodes .now)
+    let made = c .before .before .before .before .before .before .before in
+    let refused = refused-is _ _ _ _ _ _ (rw (c .before .finding2 .given .1) at (made .find .ensures .0)) (made .before .before .before .before .before .before .before .before .before .args .nodes .now) in
+    (refused .0, (refused .1, made .find .ensures .1))
 
 pub set-spec : {M : Type 1} → statement M
 set-spec =
     tie.close
     (tie.spec
-    read-requires
-    enum-known-reading
-    enum-known-reading-2
-    returns
-    parameters-requires
-    examine-requires
+    find-requires
     enum-known-finding
-    returns-2
+    same-length
+    same-length-2
+    returns
     mul-end
+    parameters-requires
     slice-relend-prefix-set-list
     slice-aggregate-set-list
     set-list-requires
     enum-known-finding-2
-    same-length
-    returns-3
-    returns-4)
+    same-length-3
+    same-length-4
+    same-length-5
+    returns-2
+    same-length-6
+    same-length-7
+    returns-3)

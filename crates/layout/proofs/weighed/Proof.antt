@@ -8,7 +8,7 @@ list-fits-requires : tie.Need-list-fits-requires
 list-fits-requires c κs = search needs
 
 returns : tie.Need-returns
-returns c = (sym (c .before .before .list-fits .ensures) ∙ c .before .if1 .taken, refl, refl)
+returns c = (sym (c .before .before .list-fits .ensures) ∙ c .before .if1 .taken, refl, refl, refl)
 
 returns-2 : tie.Need-returns-2
 returns-2 c = (sym (c .before .list-fits .ensures) ∙ c .if1 .left, refl)

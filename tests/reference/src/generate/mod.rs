@@ -10,6 +10,7 @@ mod damage;
 mod fences;
 mod formulas;
 mod graded;
+mod indexes;
 mod random;
 mod roots;
 mod tables;
@@ -23,6 +24,7 @@ pub use formulas::{
     deep_formula, long_formula, operator_formula, tall_case, tall_roots, wide_formula, Grower,
 };
 pub use graded::graded_case;
+pub use indexes::lent_words;
 pub use random::Random;
 pub use roots::root_formula;
 pub use tables::{good_table, Symbols};
@@ -87,7 +89,8 @@ pub const KINDS: [(Kind, u64); 15] = [
     (Kind::Tall, 4),
 ];
 
-/// The input of one call; `room` is the length of the buffer to lend.
+/// The input of one call; `room` is the length of the buffer to lend, `index`
+/// and `client_index` are what the words lent for indexes hold.
 #[derive(Clone, Debug)]
 pub struct Case {
     pub kind: Kind,
@@ -96,6 +99,8 @@ pub struct Case {
     pub client: Vec<u8>,
     pub formula: Vec<u8>,
     pub room: usize,
+    pub index: Vec<u64>,
+    pub client_index: Vec<u64>,
 }
 
 pub fn case(random: &mut Random) -> Case {
@@ -117,6 +122,7 @@ pub fn case_of(kind: Kind, random: &mut Random) -> Case {
     let (table, client) = lent(kind, pair, random);
     let count = measure(style, &table, &client, &formula).count as usize;
     let room = room(count * NODE_BYTES, random);
+    let [index, client_index] = lent_words(&table, &client, random);
     Case {
         kind,
         style,
@@ -124,6 +130,8 @@ pub fn case_of(kind: Kind, random: &mut Random) -> Case {
         client,
         formula,
         room,
+        index,
+        client_index,
     }
 }
 

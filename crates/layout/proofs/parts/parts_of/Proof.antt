@@ -25,26 +25,26 @@ enum-told-3 c = search needs
 refused-requires-3 : tie.Need-refused-requires-3
 refused-requires-3 c κs = search needs
 
-enum-known-answer-2 : tie.Need-enum-known-answer-2
-enum-known-answer-2 c = search needs
+enum-told-4 : tie.Need-enum-told-4
+enum-told-4 c = search needs
 
 refused-requires-4 : tie.Need-refused-requires-4
 refused-requires-4 c κs = search needs
 
-enum-known-answer-3 : tie.Need-enum-known-answer-3
-enum-known-answer-3 c = search needs
+enum-known-answer-2 : tie.Need-enum-known-answer-2
+enum-known-answer-2 c = search needs
 
 refused-requires-5 : tie.Need-refused-requires-5
 refused-requires-5 c κs = search needs
 
-enum-known-answer-4 : tie.Need-enum-known-answer-4
-enum-known-answer-4 c = search needs
+enum-known-answer-3 : tie.Need-enum-known-answer-3
+enum-known-answer-3 c = search needs
 
 refused-requires-6 : tie.Need-refused-requires-6
 refused-requires-6 c κs = search needs
 
-enum-told-4 : tie.Need-enum-told-4
-enum-told-4 c = search needs
+enum-known-answer-4 : tie.Need-enum-known-answer-4
+enum-known-answer-4 c = search needs
 
 refused-requires-7 : tie.Need-refused-requires-7
 refused-requires-7 c κs = search needs
@@ -54,6 +54,12 @@ enum-told-5 c = search needs
 
 refused-requires-8 : tie.Need-refused-requires-8
 refused-requires-8 c κs = search needs
+
+enum-told-6 : tie.Need-enum-told-6
+enum-told-6 c = search needs
+
+refused-requires-9 : tie.Need-refused-requires-9
+refused-requires-9 c κs = search needs
 
 returns : tie.Need-returns
 returns c = rw (c .before .answer .given .1)
@@ -68,19 +74,22 @@ returns-4 : tie.Need-returns-4
 returns-4 c = rw (c .before .enum-told3 .given .1) (c .refused3 .ensures)
 
 returns-5 : tie.Need-returns-5
-returns-5 c = rw (c .before .before .answer2 .given .1) (c .refused4 .ensures)
+returns-5 c = rw (c .before .enum-told4 .given .1) (c .refused4 .ensures)
 
 returns-6 : tie.Need-returns-6
-returns-6 c = rw (c .before .before .answer3 .given .1) (c .refused5 .ensures)
+returns-6 c = rw (c .before .before .answer2 .given .1) (c .refused5 .ensures)
 
 returns-7 : tie.Need-returns-7
-returns-7 c = rw (c .before .before .answer4 .given .1) (c .refused6 .ensures)
+returns-7 c = rw (c .before .before .answer3 .given .1) (c .refused6 .ensures)
 
 returns-8 : tie.Need-returns-8
-returns-8 c = rw (c .before .enum-told4 .given .1) (c .refused7 .ensures)
+returns-8 c = rw (c .before .before .answer4 .given .1) (c .refused7 .ensures)
 
 returns-9 : tie.Need-returns-9
 returns-9 c = rw (c .before .enum-told5 .given .1) (c .refused8 .ensures)
+
+returns-10 : tie.Need-returns-10
+returns-10 c = rw (c .before .enum-told6 .given .1) (c .refused9 .ensures)
 
 pub parts-of-spec : {M : Type 1} → statement M
 parts-of-spec =
@@ -93,16 +102,18 @@ parts-of-spec =
     refused-requires-2
     enum-told-3
     refused-requires-3
-    enum-known-answer-2
-    refused-requires-4
-    enum-known-answer-3
-    refused-requires-5
-    enum-known-answer-4
-    refused-requires-6
     enum-told-4
+    refused-requires-4
+    enum-known-answer-2
+    refused-requires-5
+    enum-known-answer-3
+    refused-requires-6
+    enum-known-answer-4
     refused-requires-7
     enum-told-5
     refused-requires-8
+    enum-told-6
+    refused-requires-9
     returns
     returns-2
     returns-3
@@ -111,4 +122,5 @@ parts-of-spec =
     returns-6
     returns-7
     returns-8
-    returns-9)
+    returns-9
+    returns-10)

@@ -1,6 +1,6 @@
 -- `restyled` meets its contract: the style of the number, if it has one.
 -- Assumes nothing.
-use mathlib.Core.Path.{_≡_, sym, ap, _∙_}
+use mathlib.Core.Path.{sym, ap, _∙_}
 use mathlib.Core.Option.{Option, none, some}
 use borrow.Author.Needs.{needs}
 use Rattle.boxes.specs.declared.styles.Style.{Style}

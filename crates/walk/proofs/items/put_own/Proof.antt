@@ -2,7 +2,6 @@
 -- Assumes nothing.
 use mathlib.Core.Path.{_∙_}
 use native.Mathlib.Omega.{arith}
-use borrow.Author.Needs.{needs}
 use Rattle.boxes.specs.Values.{signingAs, rulingAs}
 use Rattle.walk.proofs.ItemLaws.{one-sign, own-joined}
 use Rattle.walk.proofs.items.put_own.Statement.{statement}

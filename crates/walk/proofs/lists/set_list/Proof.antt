@@ -13,7 +13,7 @@ start-requires c κs = search needs
 
 set-items-requires : tie.Need-set-items-requires
 set-items-requires c κs =
-    let start = c .before .before .before .before .before .before in
+    let start = c .before .before .before .before .before .before .before .before in
     record { list = start .pre; small = start-within _ (c .before .start .ensures) }
 
 same-length : tie.Need-same-length
@@ -23,9 +23,9 @@ returns : tie.Need-returns
 returns c =
     let set = c .before .before in
     let started = set .before .before in
-    let a = started .before .before .before .before .before .args in
+    let a = started .before .before .before .before .before .before .before .args in
     let s = a .s .now in
-    list-of-items (fontWith (a .table .now) (a .client .now)) (treeOf s) (length s) (a .buf .now) (set .set-items .last .1 .1 .1 .1 .1 .1 .0) (set .set-items .result)
+    list-of-items (fontWith (a .table .now) (a .client .now)) (treeOf s) (length s) (a .buf .now) (set .set-items .last .1 .1 .1 .1 .1 .1 .1 .1 .0) (set .set-items .result)
     (started .start .ensures) (set .set-items .ensures)
 
 pub set-list-spec : {M : Type 1} → statement M

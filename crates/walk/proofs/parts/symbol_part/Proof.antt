@@ -40,7 +40,7 @@ returns c =
     let put = c .before .before .before in
     let known = put .before .before .before .before in
     let looked = known .before .before in
-    let start = looked .before .before .before .before .before .before in
+    let start = looked .before .before .before .before .before .before .before .before in
     let a = start .args in
     let size = looked .before .before .font-size .ensures .0 in
     let large = looked .before .is-enlarged .ensures in
@@ -53,7 +53,7 @@ returns c =
 returns-2 : tie.Need-returns-2
 returns-2 c =
     let looked = c .before .before in
-    let start = looked .before .before .before .before .before .before in
+    let start = looked .before .before .before .before .before .before .before .before in
     let a = start .args in
     let size = looked .before .before .font-size .ensures .0 in
     let large = looked .before .is-enlarged .ensures in

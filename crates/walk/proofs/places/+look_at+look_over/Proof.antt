@@ -1,23 +1,20 @@
 -- The look at items meets its contracts: `look_over` calls `look_at`, and that, for the taken list of a choice, `look_over` on a
 -- shorter one. The measure is twice the length of what is looked at, and one more for a list. The loop's invariant is `Looked`.
 -- Assumes nothing.
-use mathlib.Core.Path.{_≡_, refl, sym, subst, ap, _∙_}
-use mathlib.Core.List.{List}
+use mathlib.Core.Path.{_≡_, refl, sym, ap, _∙_}
 use Prim.Native.Nat.{ℕ, _+_, _-_, _*_, _≤_, _<_}
 use native.Mathlib.Omega.{arith}
-use lib.ListN.{length, take, drop}
+use lib.ListN.{length}
 use borrow.Author.Needs.{needs}
 use borrow.Fn.Kinds.{In}
 use borrow.Fn.PlainCycle.{Measures, is, falls, and}
 use Rattle.formula.specs.declared.Opening.{Opening}
-use Rattle.formula.specs.declared.Opening.the-variants.{NoItem, Choice}
+use Rattle.formula.specs.declared.Opening.the-variants.{NoItem}
 use Rattle.formula.specs.Heads.{openingOf}
 use Rattle.formula.specs.Places.{choiceLists}
 use Rattle.formula.specs.PlacesLaws.{step, choice-at}
-use Rattle.boxes.specs.declared.styles.Style.{Style}
 use Rattle.spacing.specs.declared.classes.Neighbour.the-variants.{Atom}
 use Rattle.spacing.specs.Values.{neighbourAs}
-use Rattle.walk.specs.Seen.{part, TakenSpan, ItemsSeen}
 use Rattle.walk.proofs.PlaceLaws.{rest-opens, next-some, atom-seen, kern-seen, style-seen, Looked, looked-start, looked-step, looked-done}
 use Rattle.walk.proofs.ChoiceLaws.{choice-seen}
 use Rattle.walk.proofs.places.look_at.Reads as look-at

@@ -1,7 +1,7 @@
 -- `next_class` meets its contract. The loop's invariant: no atom stands before `at` (`Passing`). The measure is what is left of the list.
 -- Assumes nothing.
-use mathlib.Core.Path.{_≡_, ap}
-use Prim.Native.Nat.{_+_, _-_}
+use mathlib.Core.Path.{ap}
+use Prim.Native.Nat.{_-_}
 use native.Mathlib.Omega.{arith}
 use lib.ListN.{length}
 use borrow.Author.Needs.{needs}

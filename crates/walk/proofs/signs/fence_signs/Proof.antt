@@ -15,7 +15,7 @@ returns c =
     let left = c .before in
     let size = left .before in
     let extent = size .before in
-    let start = extent .before .before .before .before in
+    let start = extent .before .before .before .before .before .before in
     let a = start .args in
     let F = fontWith (a .table .now) (a .client .now) in
     let needed : extent .fence-extent .result .0 ≡ fenceExtent (F .parameter) (a .style) (sizeOf (shapeAs (a .list))) =
@@ -28,9 +28,9 @@ fence-signs-spec =
     tie.close
     (tie.spec
     (λ c κs. search needs)
-    (λ c κs. c .size-of .ensures .1 (c .before .before .before .pre .2))
+    (λ c κs. c .size-of .ensures .1 (c .before .before .before .before .before .pre .2))
     (λ c κs. search needs)
     (λ c. search needs)
-    (λ c κs. c .before .before .before .before .before .pre .0)
-    (λ c κs. c .before .before .before .before .before .before .pre .0)
+    (λ c κs. search needs)
+    (λ c κs. search needs)
     returns)

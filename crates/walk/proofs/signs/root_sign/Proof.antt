@@ -16,7 +16,7 @@ use Rattle.walk.proofs.signs.root_sign.Tie as tie
 returns : tie.Need-returns
 returns c =
     let extent = c .before .before in
-    let start = extent .before .before .before .before in
+    let start = extent .before .before .before .before .before .before in
     let a = start .args in
     let F = fontWith (a .table .now) (a .client .now) in
     let needed : extent .sign-extent .result .0 ≡ signExtent (F .parameter) (a .style) (sizeOf (shapeAs (a .nucleus))) =
@@ -29,8 +29,8 @@ root-sign-spec =
     tie.close
     (tie.spec
     (λ c κs. search needs)
-    (λ c κs. c .size-of .ensures .1 (c .before .before .before .pre .2))
+    (λ c κs. c .size-of .ensures .1 (c .before .before .before .before .before .pre .2))
     (λ c κs. search needs)
     (λ c. search needs)
-    (λ c κs. c .before .before .before .before .before .pre .0)
+    (λ c κs. search needs)
     returns)

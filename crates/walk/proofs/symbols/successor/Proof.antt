@@ -13,7 +13,7 @@ enum-known-next : tie.Need-enum-known-next
 enum-known-next c = search needs
 
 symbol-requires : tie.Need-symbol-requires
-symbol-requires c κs = c .before .before .before .before .before .before .pre
+symbol-requires c κs = search needs
 
 symbol-of-requires : tie.Need-symbol-of-requires
 symbol-of-requires c κs = search needs

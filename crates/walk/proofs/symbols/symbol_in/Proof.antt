@@ -8,7 +8,7 @@ use Rattle.walk.proofs.symbols.symbol_in.Statement.{statement}
 use Rattle.walk.proofs.symbols.symbol_in.Tie as tie
 
 symbol-requires : tie.Need-symbol-requires
-symbol-requires c κs = c .before .before .pre
+symbol-requires c κs = search needs
 
 enum-known-found : tie.Need-enum-known-found
 enum-known-found c = search needs

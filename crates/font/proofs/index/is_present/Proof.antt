@@ -1,0 +1,62 @@
+-- `is_present` reads the bit of a symbol (`asked`); a size or family that no table has is in none. Assumes nothing.
+use mathlib.Core.Path.{sym}
+use denote.Ref.{now}
+use Rattle.font.proofs.IndexLaws.{absent-size, absent-family, asked}
+use borrow.Author.Needs.{needs}
+use Rattle.font.proofs.index.is_present.Statement.{statement}
+use Rattle.font.proofs.index.is_present.Tie as tie
+
+returns : tie.Need-returns
+returns c =
+    let a = c .before .before .args in sym (absent-size (now (a .index)) (a .size) (a .family) (a .code) (c .if1 .taken))
+
+returns-2 : tie.Need-returns-2
+returns-2 c =
+    let a = c .before .before .before .args in sym (absent-family (now (a .index)) (a .size) (a .family) (a .code) (c .if2 .taken))
+
+group-at-requires : tie.Need-group-at-requires
+group-at-requires c κs = search needs
+
+cast-word : tie.Need-cast-word
+cast-word c = search needs
+
+add-word : tie.Need-add-word
+add-word c = search needs
+
+mul-result : tie.Need-mul-result
+mul-result c = search needs
+
+shared-slice-read-result : tie.Need-shared-slice-read-result
+shared-slice-read-result c = search needs
+
+cast-result : tie.Need-cast-result
+cast-result c = search needs
+
+cast-result-2 : tie.Need-cast-result-2
+cast-result-2 c = search needs
+
+shr-result : tie.Need-shr-result
+shr-result c = search needs
+
+returns-3 : tie.Need-returns-3
+returns-3 c =
+    let found = c .before in
+    let tested = found .before in
+    let a = tested .before .before .before .args in
+    asked (now (a .index)) (a .size) (a .family) (a .code) (tested .before .if1 .left) (tested .if2 .left) (found .group-at .result) (found .group-at .ensures)
+
+pub is-present-spec : {M : Type 1} → statement M
+is-present-spec =
+    tie.close
+    (tie.spec
+    returns
+    returns-2
+    group-at-requires
+    cast-word
+    add-word
+    mul-result
+    shared-slice-read-result
+    cast-result
+    cast-result-2
+    shr-result
+    returns-3)

@@ -1,0 +1,98 @@
+-- What stands in the buffer while the fields of an item are set, one behind another.
+--     Laid                      parts that are set one behind another, each into the rest of a buffer
+--     One, Two                  the first field, and the second, with room for the item's own nodes
+--     SecondGiven, ThirdGiven   what is asked to go on from there
+--     SecondDone, ThirdDone     and what that comes to: the item, as from the buffer before its first field
+-- Assumes nothing.
+use mathlib.Core.Path.{_≡_}
+use mathlib.Core.Bool.{Bool, true, _&&_}
+use mathlib.Core.List.{List, _++_}
+use Prim.Native.Nat.{ℕ, _+_, _*_, _≤_}
+use lib.ListN.{length, take, drop}
+use Rattle.font.specs.Font.{Font, fontWith}
+use Rattle.formula.specs.declared.Kind.{Kind}
+use Rattle.formula.specs.declared.Opening.the-variants.{Fields}
+use Rattle.formula.specs.Tree.{openingBytes}
+use Rattle.formula.specs.Places.{second, third, fieldIn}
+use Rattle.formula.specs.PlacesLaws.{Noad}
+use Rattle.boxes.specs.declared.styles.Style.{Style}
+use Rattle.spacing.specs.Classes.{Neighbour}
+use Rattle.arrange.specs.declared.OwnCounts.{OwnCounts}
+use Rattle.arrange.specs.declared.Manner.the-variants.{Plain}
+use Rattle.arrange.specs.Arrange.{ownCounts, firstStyle, secondStyle, firstManner}
+use Rattle.nodes.specs.Nodes.{bytesInNode, bytesOf}
+use Rattle.nodes.specs.Kept.{Kept}
+use Rattle.setting.specs.Setting.{Part, hasSigns, setField}
+use Rattle.setting.specs.Fitting.{fieldFits}
+use Rattle.walk.specs.declared.parts.Part as parts
+use Rattle.walk.specs.declared.lines.Line as lines
+use Rattle.walk.specs.declared.lists.ItemSet.{ItemSet}
+use Rattle.walk.specs.Walked.{FieldWhole, OpenedGiven, ItemDone}
+
+-- what was b₀ is b, and n nodes' bytes w stand at its front, if what was set is known and there is room. Whatever was set, all but
+-- m nodes of it is kept, and n is not more
+pub record Laid (b₀ : List ℕ) (m n : ℕ) (known : Bool) (w b : List ℕ) : Type 0 where
+  pub few : n ≤ m
+  pub kept : Kept m b₀ b
+  pub laid : known ≡ true → bytesInNode * n ≤ length b₀ → (length w ≡ bytesInNode * n) × (b ≡ w ++ drop (bytesInNode * n) b₀)
+
+-- the room for an item's own nodes, before its first field a and behind it
+module _ (a : parts.Part) (o₁ o₂ : ℕ) (b₀ : List ℕ) where
+  abbrev pub gap₁ : List ℕ
+  gap₁ = take (bytesInNode * o₁) b₀
+
+  abbrev pub gap₂ : List ℕ
+  gap₂ = take (bytesInNode * o₂) (drop (bytesInNode * (o₁ + a .run .count)) b₀)
+
+-- of the item at the head of some bytes, in the buffer v, which was b₀
+module _ (F : Font) (s : Style) (kind : Kind) (bytes : List ℕ) where
+  abbrev firstPart : Part
+  firstPart = setField F (firstStyle kind s) (firstManner kind s) (fieldIn bytes (openingBytes kind))
+
+  abbrev secondPart : Part
+  secondPart = setField F (secondStyle kind s) Plain (fieldIn bytes (second bytes kind))
+
+  abbrev firstFits : Bool
+  firstFits = fieldFits F (firstStyle kind s) (firstManner kind s) (fieldIn bytes (openingBytes kind))
+
+  abbrev secondFits : Bool
+  secondFits = fieldFits F (secondStyle kind s) Plain (fieldIn bytes (second bytes kind))
+
+  -- the first field a
+  pub record One (o₁ o₂ : ℕ) (b₀ : List ℕ) (a : parts.Part) (v : List ℕ) : Type 0 where
+    pub noad : Noad bytes kind
+    pub own₁ : o₁ ≡ ownCounts (F .parameter) s kind (hasSigns F s kind) .before
+    pub own₂ : o₂ ≡ ownCounts (F .parameter) s kind (hasSigns F s kind) .behind
+    pub wx : FieldWhole F (firstStyle kind s) (firstManner kind s) (fieldIn bytes (openingBytes kind)) (openingBytes kind) (second bytes kind) a
+    pub so : Laid b₀ (second bytes kind) (o₁ + a .run .count + o₂) firstFits
+        ((gap₁ a o₁ o₂ b₀ ++ bytesOf (firstPart .nodes)) ++ gap₂ a o₁ o₂ b₀) v
+
+  -- and the second, b
+  pub record Two (o₁ o₂ : ℕ) (b₀ : List ℕ) (a b : parts.Part) (v : List ℕ) : Type 0 where
+    pub noad : Noad bytes kind
+    pub own₁ : o₁ ≡ ownCounts (F .parameter) s kind (hasSigns F s kind) .before
+    pub own₂ : o₂ ≡ ownCounts (F .parameter) s kind (hasSigns F s kind) .behind
+    pub wx : FieldWhole F (firstStyle kind s) (firstManner kind s) (fieldIn bytes (openingBytes kind)) (openingBytes kind) (second bytes kind) a
+    pub wy : FieldWhole F (secondStyle kind s) Plain (fieldIn bytes (second bytes kind)) (second bytes kind) (third bytes kind) b
+    pub so : Laid b₀ (third bytes kind) (o₁ + a .run .count + o₂ + b .run .count) (firstFits && secondFits)
+        (((gap₁ a o₁ o₂ b₀ ++ bytesOf (firstPart .nodes)) ++ gap₂ a o₁ o₂ b₀) ++ bytesOf (secondPart .nodes)) v
+
+-- the first field of the item that opens stands in the buffer v
+pub record SecondGiven (t u i j : List ℕ) (p : List (List ℕ)) (s : List ℕ) (kind : Kind) (l : lines.Line) (own : OwnCounts) (a : parts.Part) (v : List ℕ) : Type 0 where
+  pub opened : OpenedGiven t u i j p s (Fields kind) l
+  pub from : List ℕ
+  pub one : One (fontWith t u) (l .style) kind s (own .before) (own .behind) from a v
+
+-- and the second
+pub record ThirdGiven (t u i j : List ℕ) (p : List (List ℕ)) (s : List ℕ) (kind : Kind) (l : lines.Line) (own : OwnCounts) (a b : parts.Part) (v : List ℕ) : Type 0 where
+  pub opened : OpenedGiven t u i j p s (Fields kind) l
+  pub from : List ℕ
+  pub two : Two (fontWith t u) (l .style) kind s (own .before) (own .behind) from a b v
+
+abbrev pub SecondDone : Font → Neighbour → List ℕ → Kind → lines.Line → OwnCounts → parts.Part → List ℕ → ItemSet → List ℕ → Type 0
+SecondDone F beyond s kind l own a v r v′ =
+    (b₀ : List ℕ) → One F (l .style) kind s (own .before) (own .behind) b₀ a v → ItemDone F beyond s l b₀ r v′
+
+abbrev pub ThirdDone : Font → Neighbour → List ℕ → Kind → lines.Line → OwnCounts → parts.Part → parts.Part → List ℕ → ItemSet → List ℕ → Type 0
+ThirdDone F beyond s kind l own a b v r v′ =
+    (b₀ : List ℕ) → Two F (l .style) kind s (own .before) (own .behind) b₀ a b v → ItemDone F beyond s l b₀ r v′
