@@ -29,10 +29,10 @@ enum torfianka_number {
                                   both tables of more than sixteen steps */
     TORFIANKA_SHORT_INDEX = 19, /* fewer than 240 words are lent for either
                                   index */
-    TORFIANKA_UNREADABLE = 3,  /* the formula has over 4,096 bytes (place 0), or
-                                  an item can't be read (its first byte; the
+    TORFIANKA_UNREADABLE = 3,  /* the formula has over 131,072 bytes (place 0),
+                                  or an item can't be read (its first byte; the
                                   innermost such item) */
-    TORFIANKA_TOO_DEEP = 4,    /* a list at depth 17 (its kind byte) */
+    TORFIANKA_TOO_DEEP = 4,    /* a list at depth 33 (its kind byte) */
     TORFIANKA_NO_SYMBOL = 5,   /* a symbol, or a successor that the rules take,
                                   isn't in either table (the field's kind
                                   byte); of a root's sign, of a fence's

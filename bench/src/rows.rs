@@ -6,19 +6,26 @@ use crate::formulas::{
 use crate::tables::{Font, BENCH, CHAINED, CHAINED_HIDDEN, CM_HIDDEN, FONTS, UNCHAINED};
 use crate::work::{Call, Work};
 
-pub const LONGEST: usize = 4096;
-pub const DEEPEST: usize = 16;
+/// Of the rows that are held against those of earlier versions.
+pub const LONG: usize = 4096;
+pub const DEEP: usize = 16;
+/// What a formula may have.
+pub const LONGEST: usize = 131_072;
+pub const DEEPEST: usize = 32;
 
 type Formulas = fn(&Alphabet) -> Vec<Vec<u8>>;
 
 const PHRASE: Formulas = |letters| vec![flat(letters, PHRASE_BYTES)];
-const FLAT: Formulas = |letters| vec![flat(letters, LONGEST)];
-const NESTED: Formulas = |letters| vec![nested(letters, LONGEST, DEEPEST)];
-const EMPTY_CHOICES: Formulas = |_| vec![empty_choices(LONGEST)];
-const CHOSEN: Formulas = |letters| vec![chosen(letters, LONGEST, DEEPEST)];
+const FLAT: Formulas = |letters| vec![flat(letters, LONG)];
+const NESTED: Formulas = |letters| vec![nested(letters, LONG, DEEP)];
+const LONGEST_FLAT: Formulas = |letters| vec![flat(letters, LONGEST)];
+/// A phrase less, for each list takes two bytes more by its long head.
+const LONGEST_NESTED: Formulas = |letters| vec![nested(letters, LONGEST - PHRASE_BYTES, DEEPEST)];
+const EMPTY_CHOICES: Formulas = |_| vec![empty_choices(LONG)];
+const CHOSEN: Formulas = |letters| vec![chosen(letters, LONG, DEEP)];
 const NOTHING: Formulas = |_| vec![Vec::new()];
-const SEARCHES: Formulas = |_| vec![searches(LONGEST)];
-const DOUBLE_SEARCHES: Formulas = |_| vec![double_searches(LONGEST)];
+const SEARCHES: Formulas = |_| vec![searches(LONG)];
+const DOUBLE_SEARCHES: Formulas = |_| vec![double_searches(LONG)];
 
 type Row = (&'static str, Call, Formulas);
 type OneFont = fn() -> &'static Font;
@@ -34,7 +41,15 @@ const OVER_A_FONT: [Row; 6] = [
 ];
 
 /// Over one table each.
-const OVER_ONE: [(OneFont, Row); 11] = [
+const OVER_ONE: [(OneFont, Row); 13] = [
+    (
+        || &BENCH,
+        ("131,072 bytes, flat", Call::Set, LONGEST_FLAT),
+    ),
+    (
+        || &BENCH,
+        ("131,070 bytes, nested 32 deep", Call::Set, LONGEST_NESTED),
+    ),
     (
         || &BENCH,
         ("4,088 bytes, empty choices", Call::Set, EMPTY_CHOICES),

@@ -6,7 +6,7 @@
 
 use crate::figures::grouped;
 use crate::formulas::nested;
-use crate::rows::{DEEPEST, LONGEST};
+use crate::rows::{DEEPEST, LONG};
 use crate::tables::BENCH;
 use crate::work::{room, Call, DISPLAY};
 use std::arch::asm;
@@ -40,7 +40,7 @@ pub fn print() {
 /// its arguments are the caller's.
 fn stack_bytes(call: Call, depth: usize) -> usize {
     let (table, client) = (BENCH.table, BENCH.client);
-    let formula = nested(&BENCH.alphabet, LONGEST, depth);
+    let formula = nested(&BENCH.alphabet, LONG, depth);
     let mut nodes = vec![0; room(&BENCH, std::slice::from_ref(&formula))];
     let [mut index, mut client_index] = [[0_u64; sys::INDEX_WORDS]; 2];
     let mut answer = [0; sys::ANSWER_WORDS];

@@ -2,7 +2,7 @@
 
 use crate::figures::grouped;
 use crate::formulas::{chosen, empty_choices, flat, typical, PHRASE_BYTES};
-use crate::rows::{row, DEEPEST, LONGEST, ROWS};
+use crate::rows::{row, DEEP, LONG, LONGEST, ROWS};
 use crate::tables::{Font, BENCH, FONTS};
 use crate::timing::Job;
 use crate::work::{Call, Work};
@@ -101,15 +101,15 @@ fn print_growth(jobs: &[Job]) {
     }
 }
 
-/// The longest formula of each form, the flat one first.
+/// A long formula of each form, the flat one first.
 fn forms() -> [(&'static str, Vec<u8>); 3] {
     let letters = &BENCH.alphabet;
     [
-        ("flat", flat(letters, LONGEST)),
-        ("empty choices", empty_choices(LONGEST)),
+        ("flat", flat(letters, LONG)),
+        ("empty choices", empty_choices(LONG)),
         (
             "flat, in choices 16 deep",
-            chosen(letters, LONGEST, DEEPEST),
+            chosen(letters, LONG, DEEP),
         ),
     ]
 }

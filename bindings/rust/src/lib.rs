@@ -79,8 +79,8 @@ pub struct Measured {
 /// | 1 | the style is above 7 | 0 |
 /// | 2 | the font table breaks a rule of its format | 0 |
 /// | 8 | the client's table breaks a rule, has over 512 records, or makes a chain over both tables of more than sixteen steps | 0 |
-/// | 3 | the formula has over 4,096 bytes (place 0), or an item can't be read | the innermost such item's first byte |
-/// | 4 | a list at depth 17 | its kind byte |
+/// | 3 | the formula has over 131,072 bytes (place 0), or an item can't be read | the innermost such item's first byte |
+/// | 4 | a list at depth 33 | its kind byte |
 /// | 5 | a symbol, or a successor the rules take, isn't in either table; of a root's sign, of a fence's delimiters and of lists that a C4 doesn't take nothing is missed | the field's kind byte |
 /// | 6 | a list's size, or a node's x or y seen from a list around it, passes 1,073,741,823 | 0 |
 /// | 7 | setting only: the buffer is shorter than [`NODE_BYTES`] for each node | 0 |

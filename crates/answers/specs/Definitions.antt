@@ -7,10 +7,10 @@ use Rattle.font.specs.Font.{successorOf, metricsOf, isOf, lookup, fontOf, fontW
 use Rattle.font.specs.Index.{has, bits, tally, earlier, each, indexOf}
 use Rattle.font.specs.Chains.{next, goesOn, chainEnds}
 use Rattle.font.specs.Table.{goodTable, seenEnds, goodClient}
-use Rattle.formula.specs.Tree.{itemsBytes, itemBytes, fieldBytes}
+use Rattle.formula.specs.Tree.{listOpeningBytes, itemsBytes, itemBytes, fieldBytes}
 use Rattle.formula.specs.Marks.{markIn, markOf}
-use Rattle.formula.specs.Heads.{atomOf, atomOpening, fractionOf, fractionOpening, kernWithin, kernOpening, styleOpening, rootOf, behindDelimiter, rootOpening, fenceOf as fenceRead, fenceOpening, opens, openingOf, symbolHead, listHead, fieldHead}
-use Rattle.formula.specs.Reading.{listGot, fieldBy, onlyList, heldIn, fieldAt, firstAt, thirdAt, noadAt, listAt, choiceAt, openedBy, itemBy, before as beforeReading, restBy, listBy, readBy, read, readFormula}
+use Rattle.formula.specs.Heads.{atomOf, atomOpening, fractionOf, fractionOpening, kernWithin, kernOpening, styleOpening, rootOf, behindDelimiter, rootOpening, fenceOf as fenceRead, fenceOpening, opens, openingOf, symbolHead, sublistHead, listHead, longListHead, fieldHeadUnder}
+use Rattle.formula.specs.Reading.{listGot, fieldBy, onlyList, heldIn, fieldAt, firstAt, thirdAt, noadAt, listAt, choiceAt, openedBy, itemBy, before as beforeReading, restBy, listBy, readBy, readUnder, readFormulaUnder}
 use Rattle.boxes.specs.Styles.{styleOf}
 use Rattle.delimiters.specs.Delimiters.{chainBy, chain, inSizes, ofPair, candidates, extent, firstEnough, taller, tallest, taken, signFor, hasAny, hasSign}
 use Rattle.roots.specs.Roots.{root}
@@ -30,5 +30,5 @@ use Rattle.answers.specs.Lent.{enough, builds, builtIf}
 use Rattle.answers.specs.Answers.{ifFits, ifPresent, ifRead, ifEnough, ifClient, ifGood, ifStyle, resultBetween, measuredBy, measuredBetween, hasRoom, setBy, settingBetween, bufferBy, bufferBetween}
 
 unfoldable pub definitions : Unit {0}
-unfolding pick maxℤ minℤ half atQuad littleEndian signedWord wordOf fourBytes pieces characterCount parameterRecords characterRecords clientCount clientRecords words marked parameterWords metricWords every goodParameters goodCharacter before rising goodLength goodRecords goodClientLength goodClientRecords successorOf metricsOf isOf lookup fontOf fontWith has bits tally earlier each indexOf next goesOn chainEnds goodTable seenEnds goodClient itemsBytes itemBytes fieldBytes markIn markOf atomOf atomOpening fractionOf fractionOpening kernWithin kernOpening styleOpening rootOf behindDelimiter rootOpening fenceRead fenceOpening opens openingOf symbolHead listHead fieldHead listGot fieldBy onlyList heldIn fieldAt firstAt thirdAt noadAt listAt choiceAt openedBy itemBy beforeReading restBy listBy readBy read readFormula styleOf chainBy chain inSizes ofPair candidates extent firstEnough taller tallest taken signFor hasAny hasSign root fenceOf changedClass row chart spaceBefore limited drops greatest subscriptCandidates leastUp superscriptCandidates pairCandidates gapDown ψOf lifted spread pairShifts reach scripted fractionShifts parted shiftsWithoutBar cleared shiftsWithBar fraction nucleusOf arrange moved signedBytes nodeBytes bytesOf found successor enlarged symbolIn symbolPart signsIn hasSigns ownNodes itemNodes itemBox styleAfter styleBehind nextClass classAt placed setItems setItem setField setList later absentAt missingItems missingItem missingField nodesFit boxFits itemsFit itemFits fieldFits listFits enough builds builtIf ifFits ifPresent ifRead ifEnough ifClient ifGood ifStyle resultBetween measuredBy measuredBetween hasRoom setBy settingBetween bufferBy bufferBetween
+unfolding pick maxℤ minℤ half atQuad littleEndian signedWord wordOf fourBytes pieces characterCount parameterRecords characterRecords clientCount clientRecords words marked parameterWords metricWords every goodParameters goodCharacter before rising goodLength goodRecords goodClientLength goodClientRecords successorOf metricsOf isOf lookup fontOf fontWith has bits tally earlier each indexOf next goesOn chainEnds goodTable seenEnds goodClient listOpeningBytes itemsBytes itemBytes fieldBytes markIn markOf atomOf atomOpening fractionOf fractionOpening kernWithin kernOpening styleOpening rootOf behindDelimiter rootOpening fenceRead fenceOpening opens openingOf symbolHead sublistHead listHead longListHead fieldHeadUnder listGot fieldBy onlyList heldIn fieldAt firstAt thirdAt noadAt listAt choiceAt openedBy itemBy beforeReading restBy listBy readBy readUnder readFormulaUnder styleOf chainBy chain inSizes ofPair candidates extent firstEnough taller tallest taken signFor hasAny hasSign root fenceOf changedClass row chart spaceBefore limited drops greatest subscriptCandidates leastUp superscriptCandidates pairCandidates gapDown ψOf lifted spread pairShifts reach scripted fractionShifts parted shiftsWithoutBar cleared shiftsWithBar fraction nucleusOf arrange moved signedBytes nodeBytes bytesOf found successor enlarged symbolIn symbolPart signsIn hasSigns ownNodes itemNodes itemBox styleAfter styleBehind nextClass classAt placed setItems setItem setField setList later absentAt missingItems missingItem missingField nodesFit boxFits itemsFit itemFits fieldFits listFits enough builds builtIf ifFits ifPresent ifRead ifEnough ifClient ifGood ifStyle resultBetween measuredBy measuredBetween hasRoom setBy settingBetween bufferBy bufferBetween
 definitions = tt

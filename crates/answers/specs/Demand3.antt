@@ -26,10 +26,12 @@ use Prim.Native.Nat.{ℕ, _+_, _*_, _≤_, _<_}
 use native.Mathlib.Omega.{arith}
 use lib.ListN.{length, take, drop, length-append}
 use Rattle.font.specs.Font.{Font, fontWith}
+use Rattle.formula.specs.Format.{longFormat}
 use Rattle.formula.specs.Tree.{Items, list, listOpeningBytes}
 use Rattle.formula.specs.Reading.{good}
 use Rattle.formula.specs.Places.{treeOf}
 use Rattle.formula.specs.PlacesLaws.{readable-of, tree-is, items-bytes}
+use Rattle.formula.specs.FormatLaws.{reads-so}
 use Rattle.boxes.specs.declared.styles.Level.{Level}
 use Rattle.boxes.specs.declared.styles.Level.the-variants.{Display, Text, Script, Scriptscript}
 use Rattle.boxes.specs.declared.styles.Style.{Style}
@@ -48,7 +50,7 @@ use Rattle.answers.specs.Answers.{Answered, acceptedNumber, accepted, me
 use Rattle.answers.specs.AnswersLaws.{measured-boxed, set-boxed, buffer-boxed}
 use Rattle.answers.specs.Accepting.{Accepted, accepted-reads, Passed, passed, boxed-of}
 use Rattle.answers.specs.MovedBytes.{OnlyPlaceMoved, nodeAt, nodes-passed, moved-as, moved-at}
-use Rattle.answers.specs.FieldBytes.{fieldPart, read-formula, field-reads}
+use Rattle.answers.specs.FieldBytes.{fieldPart, field-reads}
 use Rattle.answers.specs.ListFields.{ListFieldAt, reached}
 
 -- ---- the number of a style
@@ -265,7 +267,7 @@ pub record ListFieldAsAlone (style : ℕ) (table client : List ℕ) (lent : Lent
   pub p : Path
   pub t : Step
   pub reads : Accepted style table client lent formula s (fill s (into p t) (treeOf field))
-  pub place-is : placeOf s (into p t) ≡ place + listOpeningBytes
+  pub place-is : placeOf s (into p t) (treeOf field) ≡ place + listOpeningBytes (length field)
   pub style-is : styleAt s (into p t) ≡ v
   pub sides-are : sidesAt s (into p t) ≡ sides
   pub part-is : fieldPart s (into p t) (treeOf field) formula ≡ field
@@ -277,7 +279,7 @@ pub demand-3-at : (style : ℕ) (table client : List ℕ) (lent : Lent) (formula
 demand-3-at style table client lent formula room e s is place v sides field f =
     let a = accepted-reads style table client lent formula room e in
     let h = a .2 in
-    let read = read-formula formula (a .1) (h .reads) .1 in
+    let read = reads-so longFormat formula (a .1) (h .reads) .1 in
     let w = reached s formula (readable-of formula _ (a .1) read) f in
     let tree : a .1 ≡ fill s (into (w .p) (w .t)) (treeOf field) = sym (tree-is formula _ (a .1) read) ∙ w .tree in
     let reads : Accepted style table client lent formula s (fill s (into (w .p) (w .t)) (treeOf field)) =
@@ -290,6 +292,6 @@ demand-3-at style table client lent formula room e s is place v sides field f =
       place-is = w .there;
       style-is = w .style;
       sides-are = w .between;
-      part-is = ap (λ (n : ℕ). take n (drop (placeOf s (into (w .p) (w .t))) formula)) (items-bytes field (w .readable)) ∙ sym (w .part);
+      part-is = ap (λ (n : ℕ). take n (drop (placeOf s (into (w .p) (w .t)) (treeOf field)) formula)) (items-bytes field (w .readable)) ∙ sym (w .part);
       as-alone = demand-3 style table client lent formula s (w .p) (w .t) (treeOf field) reads;
     }

@@ -1,7 +1,6 @@
 -- The bytes of a list field, as a formula: they read to the field's list.
 --     PartAt           bytes that stand at a place of a list; `part-within`: a part of a part is a part
 --     fieldPart        the bytes of the formula from the field's place on, as many as its list is written in
---     read-formula     a formula that reads is short enough, and reads with the levels below the first
 --     field-reads      if the formula reads to the tree that has the list l at the path p, those bytes read to l
 -- A list at the path's end is read with fewer levels than the formula, and reads to the same tree with as many (`agree`). So is the
 -- list that a choice takes, on the way to it.
@@ -11,23 +10,22 @@ use mathlib.Core.Bool.{Bool, true, false}
 use mathlib.Core.List.{List, [], _∷_}
 use Prim.Native.Nat.{ℕ, zero, suc, _+_, _-_, _≤_, _<_}
 use native.Mathlib.Omega.{arith}
-use lib.Dec.{ltb}
 use lib.ListN.{length, take, drop, length-take, length-drop}
 use lib.Seq.{take-all, take-take, drop-drop}
-use borrow.Author.Tests.{ltb-false, le-ltb}
 use Rattle.formula.specs.declared.Kind.{Kind}
 use Rattle.formula.specs.declared.Opening.{Opening}
 use Rattle.formula.specs.declared.Opening.the-variants.{NoItem, Fields, Kern, Restyle, Choice}
 use Rattle.formula.specs.declared.FieldHead.{FieldHead}
 use Rattle.formula.specs.declared.FieldHead.the-variants.{NoField, Empty, Symbol, Sublist, CutSublist}
-use Rattle.formula.specs.declared.Fault.the-variants.{Unreadable}
+use Rattle.formula.specs.Format.{longFormat}
 use Rattle.formula.specs.Tree.{Items, Item, Field, nil, cons, noad, kern, restyle, choice, list, openingBytes, listOpeningBytes, itemsBytes, itemBytes, fieldBytes}
 use Rattle.formula.specs.Heads.{openingOf, fieldHead}
-use Rattle.formula.specs.Reading.{good, fault, read, formulaLimit, depthLimit, readFormula}
+use Rattle.formula.specs.Reading.{good, read, formulaLimit, depthLimit, readFormula}
 use Rattle.formula.specs.Places.{headBytes, contents, hasThird, headAt, second, third, listPlace, itemSize}
 use Rattle.formula.specs.HeadLaws.{list-opening, contents-shorter}
 use Rattle.formula.specs.ReadingLaws.{FieldIs, FieldAtIs, ThirdIs, ItemIs, Below, size-fits, read-none, list-good, agree}
 use Rattle.formula.specs.PlacesLaws.{readable-of, tree-is, items-bytes}
+use Rattle.formula.specs.FormatLaws.{reads-so, so-reads}
 use Rattle.boxes.specs.declared.styles.Level.{Level}
 use Rattle.boxes.specs.declared.styles.Level.the-variants.{Display, Text, Script, Scriptscript}
 use Rattle.boxes.specs.declared.styles.Style.{Style}
@@ -35,7 +33,7 @@ use Rattle.setting.specs.Setting.{styleAfter}
 use Rattle.setting.specs.Paths.{Arm, inFirst, inSecond, inThird, holding, fieldPlace, join, choiceWith, listPlace as takenPlace, Spot, among, within, put, spotPlace, Step, holder, listWith, stepPlace, Path, whole, into, fill, styleAt, placeOf}
 
 abbrev pub fieldPart : Style → Path → Items → List ℕ → List ℕ
-fieldPart s p l formula = take (itemsBytes l) (drop (placeOf s p) formula)
+fieldPart s p l formula = take (itemsBytes l) (drop (placeOf s p l) formula)
 
 -- ---- a part of a list
 
@@ -104,22 +102,21 @@ module _ (levels : ℕ) where
       let long : n ≡ itemsBytes (i .0) =
       omega (arith, contents-shorter s opening n e, written levels inner (i .0) (inner-reads levels inner (i .0) (i .1)))
       in
-      ap₂ _+_ (list-opening s opening n e) long ∙ ap fieldBytes (sym (i .2))
+      ap₂ _+_ (list-opening s opening n e ∙ ap listOpeningBytes long) long ∙ ap fieldBytes (sym (i .2))
   field-length s CutSublist f e i = absurd i
 
   list-inside : (s : List ℕ) (h : FieldHead) (l : Items) → fieldHead s ≡ h → FieldIs (Below read levels) s h (list l) →
-      ReadAt s listOpeningBytes l
+      ReadAt s (listOpeningBytes (itemsBytes l)) l
   list-inside s NoField l e i = absurd i
   list-inside s Empty l e i = let z : _≡_ {A = ℕ} 0 1 = cc in absurd (omega arith)
   list-inside s (Symbol family code) l e i = let z : _≡_ {A = ℕ} 0 1 = cc in absurd (omega arith)
   list-inside s (Sublist opening n) l e i =
       let inner = contents opening n s in
       let same : i .0 ≡ l = cc in
-      record {
-        bytes = inner;
-        part = ap₂ (λ (o k : ℕ). contents o k s) (list-opening s opening n e) (sym (contents-shorter s opening n e .0));
-        reads = inner-reads levels inner (i .0) (i .1) ∙ ap good same;
-      }
+      let reads = inner-reads levels inner (i .0) (i .1) ∙ ap good same in
+      let long : length inner ≡ n = contents-shorter s opening n e .0 in
+      let opens = list-opening s opening n e ∙ ap listOpeningBytes (sym (written levels inner l reads ∙ long)) in
+      record { bytes = inner; part = ap₂ (λ (o k : ℕ). contents o k s) opens (sym long); reads = reads }
   list-inside s CutSublist l e i = absurd i
 
   -- ---- an item, from its first byte on
@@ -128,16 +125,18 @@ module _ (levels : ℕ) where
     abbrev StandsAt : ℕ → Field → Type 0
     StandsAt at f = FieldAtIs (Below read levels) s at f
 
-    list-at : (at place : ℕ) (l : Items) → StandsAt at (list l) → at ≡ place → ReadAt s (place + listOpeningBytes) l
+    list-at : (at place : ℕ) (l : Items) → StandsAt at (list l) → at ≡ place →
+        ReadAt s (place + listOpeningBytes (itemsBytes l)) l
     list-at at place l i there =
-        subst (λ (k : ℕ). ReadAt s (k + listOpeningBytes) l) there
-        (read-within s (drop at s) at listOpeningBytes l (part-behind s at) (list-inside (drop at s) (headAt s at) l refl i))
+        let opening = listOpeningBytes (itemsBytes l) in
+        subst (λ (k : ℕ). ReadAt s (k + opening) l) there
+        (read-within s (drop at s) at opening l (part-behind s at) (list-inside (drop at s) (headAt s at) l refl i))
 
     length-at : (at : ℕ) (f : Field) → StandsAt at f → headBytes (headAt s at) ≡ fieldBytes f
     length-at at f i = field-length (drop at s) (headAt s at) f refl i
 
     third-at : (there : Bool) (at place : ℕ) (l : Items) → ThirdIs (Below read levels) s there at (list l) → at ≡ place →
-        ReadAt s (place + listOpeningBytes) l
+        ReadAt s (place + listOpeningBytes (itemsBytes l)) l
     third-at true at place l i e = list-at at place l i e
     third-at false at place l i e = let z : _≡_ {A = ℕ} 0 1 = cc in absurd (omega arith)
 
@@ -165,7 +164,7 @@ module _ (levels : ℕ) where
         (h .are 0 (omega arith), h .are 1 (omega arith), h .are 2 (omega arith), h .are 3 (omega arith))
 
     item-inside : (kind : Kind) (g : Arm) (l : Items) → Stands (holding kind g l) →
-        ReadAt s (fieldPlace kind g + listOpeningBytes) l
+        ReadAt s (fieldPlace kind g + listOpeningBytes (itemsBytes l)) l
     item-inside kind (inFirst y z) l h = list-at (openingBytes kind) _ l (h .0) refl
     item-inside kind (inSecond x z) l h = list-at (second s kind) _ l (h .1) (omega (arith, length-at (openingBytes kind) x (h .0)))
     item-inside kind (inThird x y) l h =
@@ -173,7 +172,7 @@ module _ (levels : ℕ) where
         (omega (arith, length-at (openingBytes kind) x (h .0), length-at (second s kind) y (h .1)))
 
     choice-inside : (level : Level) (l a b c : Items) → Stands (choiceWith level l a b c) →
-        ReadAt s (takenPlace level a b c + listOpeningBytes) l
+        ReadAt s (takenPlace level a b c + listOpeningBytes (itemsBytes l)) l
     unfolding fieldBytes
     choice-inside Display l a b c h = list-at (listPlace s 0) _ l (h .0) refl
     choice-inside Text l a b c h = list-at (listPlace s 1) _ l (h .1) (omega (arith, length-at (listPlace s 0) (list a) (h .0)))
@@ -196,7 +195,7 @@ module _ (levels : ℕ) where
     where
       go : (n : ℕ) → length s ≡ n → 0 < length s
       go zero z =
-          let nothing = read-none levels s z in
+          let nothing = read-none longFormat levels s z in
           let y : _≡_ {A = ℕ} 0 1 = cc in
           absurd (omega arith)
       go (suc n) z = omega arith
@@ -230,7 +229,7 @@ module _ (levels : ℕ) where
 
   -- an item at a spot, with what stands behind it in its own list
   spot-reads : (u : Style) (spot : Spot) (i : Item) (s : List ℕ) → read levels s ≡ good (put u spot i) →
-      (after : Items) × ReadAt s (spotPlace u spot) (cons i after)
+      (after : Items) × ReadAt s (spotPlace u spot i) (cons i after)
   spot-reads u (among before after) i s e = (
     after,
     record {
@@ -243,59 +242,45 @@ module _ (levels : ℕ) where
       let t = styleAfter u before in
       let l = put t spot i in
       let q = drop (itemsBytes before) s in
-      let place = takenPlace (t .level) a b c + listOpeningBytes in
+      let place = takenPlace (t .level) a b c + listOpeningBytes (itemsBytes l) in
       let first = first-item q (choiceWith (t .level) l a b c) after (items-passed before _ s e) .0 in
       let inner = read-within s q (itemsBytes before) place l (part-behind s (itemsBytes before)) (choice-inside q (t .level) l a b c first) in
       let item = spot-reads t spot i (inner .bytes) (inner .reads) in
-      (item .0, read-within s (inner .bytes) (itemsBytes before + place) (spotPlace t spot) (cons i (item .0)) (inner .part) (item .1))
+      (item .0, read-within s (inner .bytes) (itemsBytes before + place) (spotPlace t spot i) (cons i (item .0)) (inner .part) (item .1))
 
   -- ---- a list at a path
 
   step-reads : (u : Style) (t : Step) (s : List ℕ) (l : Items) → read levels s ≡ good (listWith u t l) →
-      ReadAt s (stepPlace u t) l
+      ReadAt s (stepPlace u t l) l
   step-reads u t s l e =
       let item = spot-reads u (t .spot) (holder t l) s e in
       let q = item .1 .bytes in
       let first = first-item q (holder t l) (item .0) (item .1 .reads) .0 in
-      read-within s q (spotPlace u (t .spot)) _ l (item .1 .part) (item-inside q (t .kind) (t .arm) l first)
+      read-within s q (spotPlace u (t .spot) (holder t l)) _ l (item .1 .part) (item-inside q (t .kind) (t .arm) l first)
 
   path-reads : (formula : List ℕ) (u : Style) (p : Path) (l : Items) → read levels formula ≡ good (fill u p l) →
-      ReadAt formula (placeOf u p) l
+      ReadAt formula (placeOf u p l) l
   path-reads formula u whole l e = record { bytes = formula; part = part-behind formula 0; reads = e }
   path-reads formula u (into p t) l e =
       let v = styleAt u p in
-      let outer = path-reads formula u p (listWith v t l) e in
-      read-within formula (outer .bytes) (placeOf u p) (stepPlace v t) l (outer .part)
+      let around = listWith v t l in
+      let outer = path-reads formula u p around e in
+      read-within formula (outer .bytes) (placeOf u p around) (stepPlace v t l) l (outer .part)
       (step-reads v t (outer .bytes) l (outer .reads))
 
 -- ---- a formula
-
-pub read-formula : (s : List ℕ) (l : Items) → readFormula s ≡ good l →
-    (length s ≤ formulaLimit) × (read (depthLimit - 1) s ≡ good l)
-unfolding readFormula
-read-formula s l e = go (ltb formulaLimit (length s)) refl e
-  where
-    go : (t : Bool) → ltb formulaLimit (length s) ≡ t →
-        elim t [ true ↦ fault Unreadable 0 | false ↦ read (depthLimit - 1) s ] ≡ good l →
-        (length s ≤ formulaLimit) × (read (depthLimit - 1) s ≡ good l)
-    go true q e = let z : _≡_ {A = ℕ} 0 1 = cc in absurd (omega arith)
-    go false q e = (ltb-false formulaLimit (length s) q, e)
-
-formula-read : (s : List ℕ) (l : Items) → length s ≤ formulaLimit → read (depthLimit - 1) s ≡ good l → readFormula s ≡ good l
-unfolding readFormula
-formula-read s l h e = rw (le-ltb formulaLimit (length s) h, readFormula) e
 
 pub field-reads : (formula : List ℕ) (s : Style) (p : Path) (l : Items) → readFormula formula ≡ good (fill s p l) →
     readFormula (fieldPart s p l formula) ≡ good l
 field-reads formula s p l e =
     let levels = depthLimit - 1 in
-    let r = read-formula formula (fill s p l) e in
+    let r = reads-so longFormat formula (fill s p l) e in
     let h = path-reads levels formula s p l (r .1) in
-    let rest = drop (placeOf s p) formula in
+    let rest = drop (placeOf s p l) formula in
     let same : fieldPart s p l formula ≡ h .bytes =
     ap (λ (k : ℕ). take k rest) (written levels (h .bytes) l (h .reads)) ∙ sym (h .part)
     in
     let short : length (fieldPart s p l formula) ≤ formulaLimit =
-    omega (arith, r .0, length-take (itemsBytes l) rest, length-drop (placeOf s p) formula)
+    omega (arith, r .0, length-take (itemsBytes l) rest, length-drop (placeOf s p l) formula)
     in
-    formula-read (fieldPart s p l formula) l short (ap (read levels) same ∙ h .reads)
+    so-reads longFormat (fieldPart s p l formula) l short (ap (read levels) same ∙ h .reads)

@@ -7,22 +7,21 @@
 --     SetItem        an item that is set: an item of the list, or one of the list that a C4 takes
 --     FieldAt        an item's fields stand one behind the other, the first behind the opening; each has its style, and its sides, which
 --                    are none but for the first field of an item that holds a list, a fence (`field-sides`, `step-sides`)
---     ListField      a list field is the byte 2, two bytes of length and that many bytes of items
+--     ListField      a list field is the byte 2 and two bytes of length, or the byte 3 and four, and that many bytes of items
 --     OwnListField   a list field of an item that is set in the list itself
 --     ListFieldAt    a list field at any depth: the items within a list field are looked at in the same way
 -- Every one of them is reached by a path (`reached`): the formula's tree is the path filled with the tree of the field's bytes, and the
 -- path leads to the place of these bytes, and gives them this style and these sides.
 -- Assumes nothing.
-use mathlib.Core.Path.{_≡_, refl, sym, subst, ap, _∙_}
-use mathlib.Core.Bool.{Bool, true, false}
+use mathlib.Core.Path.{_≡_, refl, sym, subst, ap, ap₂, _∙_}
+use mathlib.Core.Bool.{Bool, true, false, _&&_}
 use mathlib.Core.List.{List, [], _∷_}
 use mathlib.Core.Option.{Option, none, some}
 use Prim.Native.Nat.{ℕ, _+_, _<_}
 use native.Mathlib.Omega.{arith}
-use lib.Dec.{leb}
-use lib.ListN.{length, take, drop, length-take, length-drop}
+use lib.Dec.{leb, eqb}
+use lib.ListN.{length, take, drop, length-drop}
 use lib.Seq.{drop-drop}
-use borrow.Author.Tests.{leb-true}
 use Rattle.scaled.specs.declared.Sp.{Sp}
 use Rattle.words.specs.Words.{littleEndian}
 use Rattle.formula.specs.declared.Kind.{Kind}
@@ -30,11 +29,11 @@ use Rattle.formula.specs.declared.Opening.{Opening}
 use Rattle.formula.specs.declared.Opening.the-variants.{Fields, Kern, Restyle, Choice}
 use Rattle.formula.specs.declared.FieldHead.{FieldHead}
 use Rattle.formula.specs.declared.FieldHead.the-variants.{Sublist, CutSublist}
-use Rattle.formula.specs.Tree.{Items, Item, Field, nil, cons, noad, list, openingBytes, holdsList, listOpeningBytes, sublistBytes, itemsBytes}
-use Rattle.formula.specs.Heads.{openingOf, listHead, fieldHead}
-use Rattle.formula.specs.HeadLaws.{opening-fits}
-use Rattle.formula.specs.Places.{Readable, treeOf, headBytes, fieldOf, GoodField, listOf, choiceLists, hasThird, openedBytes, headAt, second, third, listPlace, itemSize, fieldIn, thirdIn, listIn, itemOf}
-use Rattle.formula.specs.PlacesLaws.{tree-none, Noad, noad-at, choice-at, step, third-good, list-good-field, item-bytes, field-bytes, list-bytes}
+use Rattle.formula.specs.Tree.{Items, Item, Field, nil, cons, noad, list, openingBytes, holdsList, shortOpeningBytes, longOpeningBytes, listOpeningBytes, sublistBytes, itemsBytes}
+use Rattle.formula.specs.Heads.{openingOf, sublistHead, listHead, longListHead, fieldHeadUnder, fieldHead}
+use Rattle.formula.specs.HeadLaws.{list-opening, contents-shorter, opening-fits}
+use Rattle.formula.specs.Places.{Readable, treeOf, headBytes, contents, fieldOf, GoodField, listOf, choiceLists, hasThird, openedBytes, headAt, second, third, listPlace, itemSize, fieldIn, thirdIn, listIn, itemOf}
+use Rattle.formula.specs.PlacesLaws.{tree-none, items-bytes, Noad, noad-at, choice-at, step, third-good, list-good-field, item-bytes, field-bytes, list-bytes}
 use Rattle.boxes.specs.declared.styles.Level.{Level}
 use Rattle.boxes.specs.declared.styles.Level.the-variants.{Display, Text, Script, Scriptscript}
 use Rattle.boxes.specs.declared.styles.Style.{Style}
@@ -50,8 +49,9 @@ use Rattle.answers.specs.FieldBytes.{PartAt, part-behind, part-within}
 
 -- bytes that begin with a list field, and the bytes that the field holds
 pub data ListField : List ℕ → List ℕ → Type 0 where
-  listField : (low high : ℕ) (rest : List ℕ) →
-      ListField (2 ∷ low ∷ high ∷ rest) (take (littleEndian 2 (low ∷ high ∷ [])) rest)
+  listField : (a b : ℕ) (rest : List ℕ) → ListField (2 ∷ a ∷ b ∷ rest) (take (littleEndian 2 (a ∷ b ∷ [])) rest)
+  longListField : (a b c d : ℕ) (rest : List ℕ) →
+      ListField (3 ∷ a ∷ b ∷ c ∷ d ∷ rest) (take (littleEndian 4 (a ∷ b ∷ c ∷ d ∷ [])) rest)
 
 -- a choice's lists are for D, T, S, SS: so many stand before the one that the style takes
 abbrev pub takenNumber : Style → ℕ
@@ -79,7 +79,7 @@ pub data SetItem : Style → List ℕ → ℕ → Style → List ℕ → Type 0 
   inList : {u v : Style} {s : List ℕ} {at : ℕ} → ItemAt u s at v → SetItem u s at v (drop at s)
   inTaken : {u v w : Style} {s inner item : List ℕ} {at k : ℕ} → ItemAt u s at v → openingOf (drop at s) ≡ Choice →
       ListField (drop (takenPlace v (drop at s)) (drop at s)) inner → SetItem v inner k w item →
-      SetItem u s (at + (takenPlace v (drop at s) + listOpeningBytes) + k) w item
+      SetItem u s (at + (takenPlace v (drop at s) + listOpeningBytes (length inner)) + k) w item
 
 -- a place of a field of the item that s begins with, which is of this kind and in the style u, the field's style, and its
 -- sides
@@ -108,7 +108,7 @@ pub data ListFieldAt (u : Style) (s : List ℕ) : ℕ → Style → Sides → Li
   own : {place : ℕ} {v : Style} {sides : Sides} {field : List ℕ} → OwnListField u s place v sides field →
       ListFieldAt u s place v sides field
   deeper : {outer inner : ℕ} {v w : Style} {beside sides : Sides} {around field : List ℕ} → ListFieldAt u s outer v beside around →
-      OwnListField v around inner w sides field → ListFieldAt u s (outer + listOpeningBytes + inner) w sides field
+      OwnListField v around inner w sides field → ListFieldAt u s (outer + listOpeningBytes (length around) + inner) w sides field
 
 -- ---- the fields that have sides
 
@@ -133,27 +133,36 @@ record ListRead (s field : List ℕ) : Type 0 where
   readable : Readable field
   is : fieldOf s (fieldHead s) ≡ list (treeOf field)
   items-are : listOf s (fieldHead s) ≡ treeOf field
-  part : PartAt s listOpeningBytes field
+  part : PartAt s (listOpeningBytes (length field)) field
+
+-- of n bytes, behind an opening of so many
+sublist-read : (s : List ℕ) (opening n : ℕ) → fieldHead s ≡ sublistHead opening n (drop opening s) → GoodField s (fieldHead s) →
+    ListRead s (contents opening n s)
+unfolding sublistHead
+sublist-read s opening n says good =
+    let is = says ∙ go (eqb opening (listOpeningBytes n) && leb n (length (drop opening s))) (rw says at good) in
+    let long : length (contents opening n s) ≡ n = contents-shorter s opening n is .0 in
+    let opens = list-opening s opening n is ∙ ap listOpeningBytes (sym long) in
+    record {
+      readable = rw is at good;
+      is = ap (fieldOf s) is;
+      items-are = ap (listOf s) is;
+      part = ap₂ (λ (o k : ℕ). contents o k s) opens (sym long);
+    }
+  where
+    head : Bool → FieldHead
+    head t = elim t [ true ↦ Sublist opening n | false ↦ CutSublist ]
+
+    go : (t : Bool) → GoodField s (head t) → head t ≡ Sublist opening n
+    go true good = refl
+    go false good = absurd good
 
 list-read : (s field : List ℕ) → ListField s field → GoodField s (fieldHead s) → ListRead s field
-unfolding fieldHead listHead
-list-read s field (listField low high rest) good =
-    let g = go (leb n (length rest)) refl good in
-    record { readable = g .0; is = g .1; items-are = g .2; part = ap (λ (k : ℕ). take k rest) (g .3) }
-  where
-    n : ℕ
-    n = littleEndian 2 (low ∷ high ∷ [])
-
-    head : Bool → FieldHead
-    head t = elim t [ true ↦ Sublist listOpeningBytes n | false ↦ CutSublist ]
-
-    go : (t : Bool) → leb n (length rest) ≡ t → GoodField (2 ∷ low ∷ high ∷ rest) (head t) →
-        Readable (take n rest)
-        × (fieldOf (2 ∷ low ∷ high ∷ rest) (head t) ≡ list (treeOf (take n rest)))
-        × (listOf (2 ∷ low ∷ high ∷ rest) (head t) ≡ treeOf (take n rest))
-        × (n ≡ length (take n rest))
-    go true e good = (good, refl, refl, omega (arith, leb-true n (length rest) e, length-take n rest))
-    go false e good = absurd good
+unfolding fieldHeadUnder listHead longListHead
+list-read s field (listField a b rest) good =
+    sublist-read (2 ∷ a ∷ b ∷ rest) shortOpeningBytes (littleEndian 2 (a ∷ b ∷ [])) refl good
+list-read s field (longListField a b c d rest) good =
+    sublist-read (3 ∷ a ∷ b ∷ c ∷ d ∷ rest) longOpeningBytes (littleEndian 4 (a ∷ b ∷ c ∷ d ∷ [])) refl good
 
 -- ---- the list that a choice takes
 
@@ -165,7 +174,7 @@ record TakenRead (u : Style) (s inner : List ℕ) : Type 0 where
   c : Items
   is : itemOf s Choice ≡ choiceWith (u .level) (treeOf inner) a b c
   place : placeAmong (u .level) a b c ≡ takenPlace u s
-  part : PartAt s (takenPlace u s + listOpeningBytes) inner
+  part : PartAt s (takenPlace u s + listOpeningBytes (length inner)) inner
 
 taken-read : (u : Style) (s inner : List ℕ) → openingOf s ≡ Choice → Readable s → ListField (drop (takenPlace u s) s) inner →
     TakenRead u s inner
@@ -182,7 +191,7 @@ taken-read u s inner e r f =
       c = k .2;
       is = k .3 ∙ ap (λ (x : Items). choiceWith (u .level) x (k .0) (k .1) (k .2)) (l .items-are);
       place = k .4;
-      part = part-within s (drop at s) inner at listOpeningBytes (part-behind s at) (l .part);
+      part = part-within s (drop at s) inner at (listOpeningBytes (length inner)) (part-behind s at) (l .part);
     }
   where
     long : (n : ℕ) → n < choiceLists → sublistBytes (itemsBytes (listIn s n)) ≡ headBytes (headAt s (listPlace s n))
@@ -260,13 +269,13 @@ record SpotOf (u : Style) (s : List ℕ) (at : ℕ) (v : Style) (item : List ℕ
   noad : Noad item kind
   tree : treeOf s ≡ put u spot (itemOf item (Fields kind))
   style : styleAfter u (itemsBefore spot) ≡ v
-  place : spotPlace u spot ≡ at
+  place : spotPlace u spot (itemOf item (Fields kind)) ≡ at
   part : PartAt s at item
 
 -- in the list that a choice takes
 spot-within : (u v w : Style) (s inner item : List ℕ) (at k : ℕ) (kind : Kind) → Behind u s at v → openingOf (drop at s) ≡ Choice →
     TakenRead v (drop at s) inner → SpotOf v inner k w item kind →
-    SpotOf u s (at + (takenPlace v (drop at s) + listOpeningBytes) + k) w item kind
+    SpotOf u s (at + (takenPlace v (drop at s) + listOpeningBytes (length inner)) + k) w item kind
 spot-within u v w s inner item at k kind h e t m =
     let q = drop at s in
     let p = step q Choice e (h .readable) (omega (arith, opening-fits q Choice e)) in
@@ -274,13 +283,14 @@ spot-within u v w s inner item at k kind h e t m =
     let chosen : treeOf q ≡ cons (choiceWith (v .level) (put v (m .spot) (itemOf item (Fields kind))) (t .a) (t .b) (t .c)) after =
     p .tree ∙ ap (λ (x : Item). cons x after) (t .is ∙ ap (λ (l : Items). choiceWith (v .level) l (t .a) (t .b) (t .c)) (m .tree))
     in
-    let place = takenPlace v q + listOpeningBytes in
+    let place = takenPlace v q + listOpeningBytes (length inner) in
+    let opens = ap listOpeningBytes (ap itemsBytes (sym (m .tree)) ∙ items-bytes inner (t .readable)) in
     record {
       spot = within (h .before) (t .a) (t .b) (t .c) (m .spot) after;
       noad = m .noad;
       tree = rw (h .style) (h .tree ∙ ap (join (h .before)) chosen);
       style = rw (styleAfter-join, h .style) (m .style);
-      place = rw (h .style) (omega (arith, h .long, t .place, m .place));
+      place = rw (h .style) (omega (arith, h .long, t .place, m .place, opens));
       part = part-within s inner item (at + place) k (part-within s q inner at place (part-behind s at) (t .part)) (m .part);
     }
 
@@ -361,29 +371,31 @@ record Entered (u : Style) (s : List ℕ) (place : ℕ) (v : Style) (sides : Sid
   tree : treeOf s ≡ listWith u by (treeOf field)
   style : stepStyle u by ≡ v
   between : stepSides u by ≡ sides
-  there : stepPlace u by ≡ place + listOpeningBytes
-  part : PartAt s (stepPlace u by) field
+  there : stepPlace u by (treeOf field) ≡ place + listOpeningBytes (length field)
+  part : PartAt s (stepPlace u by (treeOf field)) field
 
 entered : (u : Style) (s : List ℕ) (place : ℕ) (v : Style) (sides : Sides) (field : List ℕ) → Readable s →
     OwnListField u s place v sides field → Entered u s place v sides field
 entered u s place v sides field r f =
     let h = spot-of (f .is-set) r (f .kind) (f .opens) in
     let g = held (f .item) (f .kind) (f .item-style) (f .field-place) v sides field (h .noad) (f .in-item) (f .is-list) in
-    let k = f .field-place + listOpeningBytes in
-    let there : f .item-place + k ≡ spotPlace u (h .spot) + (fieldPlace (f .kind) (g .arm) + listOpeningBytes) =
-    omega (arith, h .place, g .place)
-    in
+    let l = treeOf field in
+    let by : Step = record { spot = h .spot; kind = f .kind; arm = g .arm } in
+    let opening = listOpeningBytes (length field) in
+    let opens = ap listOpeningBytes (items-bytes field (g .read .readable)) in
+    let spot = ap (spotPlace u (h .spot)) (sym (g .is)) ∙ h .place in
+    let there : f .item-place + (f .field-place + opening) ≡ stepPlace u by l = omega (arith, spot, g .place, opens) in
     record {
-      by = record { spot = h .spot; kind = f .kind; arm = g .arm };
+      by = by;
       readable = g .read .readable;
       tree = h .tree ∙ ap (put u (h .spot)) (g .is);
       style = ap (fieldStyle (f .kind) (g .arm)) (h .style) ∙ g .style;
       between = ap (λ (w : Style). sidesOf (fieldManner (f .kind) (g .arm) w)) (h .style) ∙ g .between;
-      there = omega (arith, h .place, g .place, f .place-is);
+      there = omega (arith, there, f .place-is);
       part =
           subst (λ (x : ℕ). PartAt s x field) there
-          (part-within s (f .item) field (f .item-place) k (h .part)
-          (part-within (f .item) (drop (f .field-place) (f .item)) field (f .field-place) listOpeningBytes
+          (part-within s (f .item) field (f .item-place) (f .field-place + opening) (h .part)
+          (part-within (f .item) (drop (f .field-place) (f .item)) field (f .field-place) opening
           (part-behind (f .item) (f .field-place)) (g .read .part)));
     }
 
@@ -396,15 +408,15 @@ pub record Reached (u : Style) (formula : List ℕ) (place : ℕ) (v : Style) (s
   pub tree : treeOf formula ≡ fill u (into p t) (treeOf field)
   pub style : styleAt u (into p t) ≡ v
   pub between : sidesAt u (into p t) ≡ sides
-  pub there : placeOf u (into p t) ≡ place + listOpeningBytes
-  pub part : PartAt formula (placeOf u (into p t)) field
+  pub there : placeOf u (into p t) (treeOf field) ≡ place + listOpeningBytes (length field)
+  pub part : PartAt formula (placeOf u (into p t) (treeOf field)) field
 
 module _ (u : Style) (formula : List ℕ) (r : Readable formula) where
   pub reached : {place : ℕ} {v : Style} {sides : Sides} {field : List ℕ} → ListFieldAt u formula place v sides field →
       Reached u formula place v sides field
   reached (own {place} {v} {sides} {field} h) =
       let e = entered u formula place v sides field r h in
-      let start : stepPlace u (e .by) ≡ placeOf u (into whole (e .by)) = omega arith in
+      let start : stepPlace u (e .by) (treeOf field) ≡ placeOf u (into whole (e .by)) (treeOf field) = omega arith in
       record {
         p = whole;
         t = e .by;
@@ -419,6 +431,8 @@ module _ (u : Style) (formula : List ℕ) (r : Readable formula) where
       let o = reached h in
       let p = into (o .p) (o .t) in
       let e = entered (styleAt u p) around inner w sides field (o .readable) (rw (o .style) g) in
+      let outer = ap (placeOf u p) (e .tree) in
+      let step = stepPlace (styleAt u p) (e .by) (treeOf field) in
       record {
         p = p;
         t = e .by;
@@ -426,6 +440,8 @@ module _ (u : Style) (formula : List ℕ) (r : Readable formula) where
         tree = o .tree ∙ ap (fill u p) (e .tree);
         style = e .style;
         between = e .between;
-        there = omega (arith, o .there, e .there);
-        part = part-within formula around field (placeOf u p) (stepPlace (styleAt u p) (e .by)) (o .part) (e .part);
+        there = omega (arith, o .there, e .there, outer);
+        part =
+            subst (λ (k : ℕ). PartAt formula (k + step) field) outer
+            (part-within formula around field (placeOf u p (treeOf around)) step (o .part) (e .part));
       }

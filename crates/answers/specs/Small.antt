@@ -18,7 +18,7 @@ use Rattle.font.specs.Font.{Font, fontWith}
 use Rattle.formula.specs.declared.Fault.the-variants.{Unreadable}
 use Rattle.formula.specs.declared.Kind.{Kind}
 use Rattle.formula.specs.Tree.{Items, Item, Field, cons, noad, kern, restyle, choice, empty, symbol, list, openingBytes, kernBytes, restyleBytes, choiceOpeningBytes, listOpeningBytes, sublistBytes, thirdBytes, itemsBytes, itemBytes, fieldBytes}
-use Rattle.formula.specs.Reading.{Read, good, fault, formulaLimit, depthLimit, read, readFormula}
+use Rattle.formula.specs.Reading.{Read, good, fault, formulaLimit, depthLimit, read, readFormulaUnder, readFormula}
 use Rattle.formula.specs.ReadIn.{Parts, Closed, ReadIn, read-in}
 use Rattle.formula.specs.PlacesLaws.{opening-long}
 use Rattle.boxes.specs.declared.styles.Level.{Level}
@@ -110,12 +110,13 @@ closed-nodes : (F : Font) (s : Style) (right : Neighbour) (line : Line) → clos
 closed-nodes F s none line = refl
 closed-nodes F s (some class) line = refl
 
-list-in : (at n : ℕ) (l : Items) → ItemsIn n l → FieldIn at (at + 3 + n) (fieldBytes (list l)) (list l)
+list-in : (at n : ℕ) (l : Items) → ItemsIn n l → FieldIn at (at + listOpeningBytes n + n) (fieldBytes (list l)) (list l)
 unfolding missingField setField fieldBytes
 list-in at n l h =
+    let opens = ap listOpeningBytes (h .bytes) in
     record {
-      bytes = omega (arith, h .bytes);
-      missing = λ F s manner place q. later-place (at + 3) n place (missingItems F s l) (h .missing F s) q;
+      bytes = omega (arith, h .bytes, opens);
+      missing = λ F s manner place q. omega (arith, opens, later-place _ n place (missingItems F s l) (h .missing F s) q);
       few = λ F s manner.
           let sides = sidesOf manner in
           let line = setItems F (sides .right) (start (sides .left) s) l in
@@ -196,7 +197,7 @@ module _ (d t sc ss : Items) (n : ℕ) (bytes : itemBytes (choice d t sc ss) ≡
       let third = second + sublistBytes (itemsBytes t) in
       let fourth = third + sublistBytes (itemsBytes sc) in
       let l = taken s d t sc ss in
-      ItemsIn (itemsBytes l) l × (taken s choiceOpeningBytes second third fourth + listOpeningBytes + itemsBytes l ≤ n)
+      ItemsIn (itemsBytes l) l × (taken s choiceOpeningBytes second third fourth + listOpeningBytes (itemsBytes l) + itemsBytes l ≤ n)
 
   taken-in : (s : Style) → TakenIn s
   unfolding itemBytes
@@ -293,7 +294,7 @@ module _ (F : Font) (s : Style) where
   reading-small n (fault why place) short h = omega arith
 
   formula-small : (formula : List ℕ) → FoundSmall (ifRead F noSides s (readFormula formula))
-  unfolding readFormula ifRead
+  unfolding readFormulaUnder ifRead
   formula-small formula = go (ltb formulaLimit (length formula)) refl
     where
       go : (t : Bool) → ltb formulaLimit (length formula) ≡ t →

@@ -146,9 +146,9 @@ module _ (words : List ℕ) (r : List ℕ) (l : List (List ℕ)) (w : Within r) 
     no-bit other =
         bits-same (has size family l) (has size family (r ∷ l)) (codesInWord * k) codesInWord
         (λ c g j.
-          ap (λ (t : Bool). t || has size family l c)
-          (not-of r size family c
-          (λ (s : sizeByte r ≡ size) (f : familyByte r ≡ family) (e : codeByte r ≡ c). other (let k : codeByte r / codesInWord ≡ k = omega arith in omega arith))))
+        ap (λ (t : Bool). t || has size family l c)
+        (not-of r size family c
+        (λ (s : sizeByte r ≡ size) (f : familyByte r ≡ family) (e : codeByte r ≡ c). other (let k : codeByte r / codesInWord ≡ k = omega arith in omega arith))))
 
     coded-by : (t : Bool) → eqb at place ≡ t → getD bitten at 0 ≡ codeWord (r ∷ l) size family k
     coded-by true is =

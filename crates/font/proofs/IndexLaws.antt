@@ -114,17 +114,17 @@ module _ (words : List ℕ) (l : List (List ℕ)) where
       let whole = length-take-le indexWords words long in
       ext-getD 0 (take indexWords words) (indexOf l) (whole ∙ sym (index-length l))
       (λ i h.
-        let size = i / 80 in
-        let family = i / 5 % 16 in
-        let at : i ≡ groupWords * (familyCount * size + family) + i % 5 = omega arith in
-        let s : size < 3 = omega (arith, whole) in
-        let f : family < 16 = omega arith in
-        let k : i % 5 < 5 = omega arith in
-        getD-take indexWords words i 0 (omega (arith, whole))
-        ∙ ap (λ (j : ℕ). getD words j 0) at
-        ∙ right size family (i % 5) s f k
-        ∙ sym (index-at l size family (i % 5) s f k)
-        ∙ ap (λ (j : ℕ). getD (indexOf l) j 0) (sym at))
+      let size = i / 80 in
+      let family = i / 5 % 16 in
+      let at : i ≡ groupWords * (familyCount * size + family) + i % 5 = omega arith in
+      let s : size < 3 = omega (arith, whole) in
+      let f : family < 16 = omega arith in
+      let k : i % 5 < 5 = omega arith in
+      getD-take indexWords words i 0 (omega (arith, whole))
+      ∙ ap (λ (j : ℕ). getD words j 0) at
+      ∙ right size family (i % 5) s f k
+      ∙ sym (index-at l size family (i % 5) s f k)
+      ∙ ap (λ (j : ℕ). getD (indexOf l) j 0) (sym at))
 
 -- ---- what an index says of a symbol, as it is asked
 

@@ -176,13 +176,13 @@ module _ (l : List (List ℕ)) (bytes : AllInBytes l) (up : rising l ≡ true) (
   rank-start =
       tally-same (λ r. ltb (keyIn r) (keyOf size family 0)) (earlier size family) l
       (λ i h.
-        let r = getD l i [] in
-        let byte = bytes i in
-        sym
-        (in-order (sizeByte r) size (familyByte r) family (byte .family-byte) family-byte
-        ∙ alike (sizeByte r * 256 + familyByte r) (size * 256 + family) (keyIn r) (keyOf size family 0)
-        (λ (g : sizeByte r * 256 + familyByte r < size * 256 + family). omega (arith, byte .code-byte))
-        (λ (g : size * 256 + family ≤ sizeByte r * 256 + familyByte r). omega arith)))
+      let r = getD l i [] in
+      let byte = bytes i in
+      sym
+      (in-order (sizeByte r) size (familyByte r) family (byte .family-byte) family-byte
+      ∙ alike (sizeByte r * 256 + familyByte r) (size * 256 + family) (keyIn r) (keyOf size family 0)
+      (λ (g : sizeByte r * 256 + familyByte r < size * 256 + family). omega (arith, byte .code-byte))
+      (λ (g : size * 256 + family ≤ sizeByte r * 256 + familyByte r). omega arith)))
 
   pub rank-code : (code : ℕ) → code < 256 → startOf l size family + presentIn (has size family l) 0 code ≡ rank (keyOf size family code) l
   rank-code code h =

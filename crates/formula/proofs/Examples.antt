@@ -1,4 +1,5 @@
--- Short lists with a style, with a choice, with a root and with a fence, as the definition reads them: one table under one statement, `examples-hold`.
+-- Short lists with a style, with a choice, with a root, with a fence and with a list of kind 3, as the definition reads them in either format:
+-- one table under one statement, `examples-hold`.
 -- Assumes nothing.
 use mathlib.Core.Path.{_≡_, refl}
 use mathlib.Core.List.{List, [], _∷_, _++_, map}
@@ -7,10 +8,11 @@ use Rattle.words.specs.Words.{littleEndian}
 use Rattle.formula.specs.declared.Fault.the-variants.{Unreadable, TooDeep}
 use Rattle.formula.specs.declared.Base.the-variants.{Root, Fence}
 use Rattle.formula.specs.declared.Kind.the-variants.{Scripted}
-use Rattle.formula.specs.Tree.{Items, Item, nil, cons, noad, restyle, choice, empty, symbol, list}
+use Rattle.formula.specs.Format.{Format, shortFormat, longFormat}
+use Rattle.formula.specs.Tree.{Items, Item, nil, cons, noad, restyle, choice, empty, symbol, list, listOpeningBytes}
 use Rattle.formula.specs.Marks.{markIn, markOf}
-use Rattle.formula.specs.Heads.{styleOpening, delimiter, rootOf, behindDelimiter, rootOpening, fenceOf, fenceOpening, opens, openingOf, symbolHead, listHead, fieldHead}
-use Rattle.formula.specs.Reading.{Read, good, fault, listGot, fieldBy, onlyList, heldIn, fieldAt, firstAt, thirdAt, noadAt, listAt, choiceAt, openedBy, itemBy, before, restBy, listBy, readBy, read}
+use Rattle.formula.specs.Heads.{styleOpening, delimiter, rootOf, behindDelimiter, rootOpening, fenceOf, fenceOpening, opens, openingOf, symbolHead, sublistHead, listHead, longListHead, fieldHeadUnder}
+use Rattle.formula.specs.Reading.{Read, good, fault, listGot, fieldBy, onlyList, heldIn, fieldAt, firstAt, thirdAt, noadAt, listAt, choiceAt, openedBy, itemBy, before, restBy, listBy, readBy, readUnder}
 
 -- a style by its number; a choice by its four fields
 abbrev style : ℕ → List ℕ
@@ -33,6 +35,10 @@ letter = 1 ∷ 1 ∷ 97 ∷ []
 abbrev listOf : ℕ → List ℕ → List ℕ
 listOf n s = 2 ∷ n ∷ 0 ∷ s
 
+-- a list of kind 3 by the bytes of its length, of whose items there is none
+abbrev longOf : ℕ → ℕ → ℕ → ℕ → List ℕ
+longOf a b c d = 3 ∷ a ∷ b ∷ c ∷ d ∷ []
+
 abbrev none : List ℕ
 none = listOf 0 []
 
@@ -43,14 +49,18 @@ fenceOn n held = (70 ∷ 69 ∷ 0 ∷ 40 ∷ 3 ∷ 0 ∷ 0 ∷ 41 ∷ n ∷ 1 �
 one : Item → Items
 one i = cons i nil
 
--- the levels that may be entered, the bytes, and what they read to
+-- the format, the levels that may be entered, the bytes, and what they read to
 record Row : Type 0 where
+  format : Format
   levels : ℕ
   bytes : List ℕ
   reading : Read
 
 abbrev row : ℕ → List ℕ → Read → Row
-row levels bytes reading = record { levels = levels; bytes = bytes; reading = reading }
+row levels bytes reading = record { format = longFormat; levels = levels; bytes = bytes; reading = reading }
+
+abbrev shortRow : ℕ → List ℕ → Read → Row
+shortRow levels bytes reading = record { format = shortFormat; levels = levels; bytes = bytes; reading = reading }
 
 rows : List Row
 rows =
@@ -85,8 +95,18 @@ rows =
     ∷ row 0 (fenceOn 15 letter) (fault Unreadable 0)
     ∷ row 0 (fenceOn 15 none) (fault TooDeep 10)
     ∷ row 1 (fenceOn 15 (listOf 3 (style 8))) (fault Unreadable 13)
+    -- a list of kind 3: the depth comes before a length that is too short for it, and before one that is cut off or passes the end
+    ∷ row 1 (style 0 ++ choiceOf none none (longOf 255 255 0 0) []) (fault Unreadable 3)
+    ∷ row 0 (style 0 ++ choiceOf (longOf 255 255 0 0) none none none) (fault TooDeep 5)
+    ∷ row 1 (style 0 ++ choiceOf none (3 ∷ 0 ∷ 0 ∷ 1 ∷ []) [] []) (fault Unreadable 3)
+    ∷ row 1 (style 0 ++ choiceOf none none none (longOf 0 0 1 0)) (fault Unreadable 3)
+    ∷ row 0 (style 0 ++ (67 ∷ 52 ∷ 3 ∷ [])) (fault TooDeep 5)
+    -- in the short format it is no list, at whatever depth; all else is read as in the long one
+    ∷ shortRow 0 (style 0 ++ choiceOf (longOf 255 255 0 0) none none none) (fault Unreadable 3)
+    ∷ shortRow 1 (style 0 ++ choiceOf none none (longOf 0 0 1 0) none) (fault Unreadable 3)
+    ∷ shortRow 1 (choiceOf none (listOf 3 (style 2)) none none) (good (one (choice nil (one (restyle 2)) nil nil)))
     ∷ []
 
-examples-hold : map (λ (r : Row). read (r .levels) (r .bytes)) rows ≡ map (λ (r : Row). r .reading) rows
-unfolding rows one littleEndian markIn markOf styleOpening rootOf behindDelimiter rootOpening fenceOf fenceOpening opens openingOf symbolHead listHead fieldHead listGot fieldBy onlyList heldIn fieldAt firstAt thirdAt noadAt listAt choiceAt openedBy itemBy before restBy listBy readBy read
+examples-hold : map (λ (r : Row). readUnder (r .format) (r .levels) (r .bytes)) rows ≡ map (λ (r : Row). r .reading) rows
+unfolding rows one littleEndian markIn markOf styleOpening rootOf behindDelimiter rootOpening fenceOf fenceOpening opens openingOf listOpeningBytes symbolHead sublistHead listHead longListHead fieldHeadUnder listGot fieldBy onlyList heldIn fieldAt firstAt thirdAt noadAt listAt choiceAt openedBy itemBy before restBy listBy readBy readUnder
 examples-hold = refl

@@ -24,13 +24,14 @@ use Rattle.formula.specs.declared.Verdict.{Verdict}
 use Rattle.formula.specs.declared.Verdict.the-variants.{Good, Faulty}
 use Rattle.formula.specs.declared.PartRead.{PartRead}
 use Rattle.formula.specs.declared.PartRead.the-variants.{Next, Stop}
+use Rattle.formula.specs.Format.{longFormat}
 use Rattle.formula.specs.Tree.{Item, Field, noad, empty, symbol, list, openingBytes, holdsList, choiceOpeningBytes}
 use Rattle.formula.specs.Heads.{openingOf, fieldHead, isList}
 use Rattle.formula.specs.Reading.{Read, good, fault, Got, got, stopped, _thenAt_, listGot, fieldBy, onlyList, heldIn, fieldAt, firstAt, thirdAt, noadAt, listAt, choiceAt, openedBy, itemBy, before, restBy, read}
 use Rattle.formula.specs.Values.{told, partReadOf}
 use Rattle.formula.specs.Places.{headBytes, contents, choiceLists, hasThird}
 use Rattle.formula.specs.Slices.{tail-part, field-part}
-use Rattle.formula.specs.HeadLaws.{head-fits}
+use Rattle.formula.specs.HeadLaws.{head-fits, opening-some}
 use Rattle.formula.specs.ReadIn.{Parts, Closed, ReadIn, GotIn, read-in, field-in, item-in}
 use Rattle.formula.specs.ReadingLaws.{read-none, read-some}
 
@@ -50,9 +51,9 @@ told-before i size (good l) = refl
 told-before i size (fault why place) = refl
 
 verdict-step : (levels : ℕ) (s : List ℕ) → 0 < length s →
-    told (read levels s) ≡ goOn levels s (partReadOf (itemBy read levels s))
+    told (read levels s) ≡ goOn levels s (partReadOf (itemBy longFormat read levels s))
 unfolding told partReadOf restBy
-verdict-step levels s pos = ap told (read-some levels s pos) ∙ go (itemBy read levels s)
+verdict-step levels s pos = ap told (read-some longFormat levels s pos) ∙ go (itemBy longFormat read levels s)
   where
     go : (g : Got Item) → told (restBy read levels s g) ≡ goOn levels s (partReadOf g)
     go (got i size) = told-before i size (read levels (drop size s))
@@ -80,7 +81,7 @@ ends-so =
     record {
       empty-is = λ at. omega arith;
       symbol-is = λ at family code. omega arith;
-      list-is = λ at n l h. omega arith;
+      list-is = λ at n l h. omega (arith, opening-some n);
       third-is = λ base at end f h. omega arith;
       no-third = λ bar at. omega arith;
       noad-is = λ kind x y z m₁ m₂ m₃ a b c. omega arith;
@@ -96,8 +97,8 @@ unfolding partReadOf
 step-in lo hi (got a m) h = h
 step-in lo hi (stopped why place) h = h
 
-item-bound : (s : List ℕ) (levels : ℕ) → StepIn 0 (length s) (partReadOf (itemBy read levels s))
-item-bound s levels = step-in 0 (length s) (itemBy read levels s) (item-in ends ends-so levels s)
+item-bound : (s : List ℕ) (levels : ℕ) → StepIn 0 (length s) (partReadOf (itemBy longFormat read levels s))
+item-bound s levels = step-in 0 (length s) (itemBy longFormat read levels s) (item-in ends ends-so levels s)
 
 pub fault-in : (s : List ℕ) (levels : ℕ) (why : Fault) (place : ℕ) → told (read levels s) ≡ Faulty why place → place ≤ length s
 unfolding told
@@ -107,9 +108,9 @@ fault-in s levels why place e = go (read levels s) (read-in ends ends-so levels 
     go (good l) h e = let z : _≡_ {A = ℕ} 0 1 = cc in absurd (omega arith)
     go (fault n q) h e = let same : q ≡ place = cc in omega arith
 
-pub next-in : (s : List ℕ) (levels at m : ℕ) → at ≤ length s → partReadOf (fieldAt read levels s at) ≡ Next m → m ≤ length s
+pub next-in : (s : List ℕ) (levels at m : ℕ) → at ≤ length s → partReadOf (fieldAt longFormat read levels s at) ≡ Next m → m ≤ length s
 next-in s levels at m l e =
-    let g = fieldAt read levels s at in
+    let g = fieldAt longFormat read levels s at in
     let b : StepIn at (length s) (Next m) =
     subst (StepIn at (length s)) e (step-in at (length s) g (field-in ends ends-so levels s at l)) in
     b .1
@@ -132,7 +133,7 @@ module _ (levels at : ℕ) (s : List ℕ) where
   rest = take (length s - at) (drop at s)
 
   pub field-step : (h : FieldHead) → fieldHead rest ≡ h →
-      partReadOf (fieldAt read levels s at) ≡ partReadOf (fieldBy read levels at (drop at s) h)
+      partReadOf (fieldAt longFormat read levels s at) ≡ partReadOf (fieldBy read levels at (drop at s) h)
   unfolding fieldAt
   field-step h e =
       ap (λ (h : FieldHead). partReadOf (fieldBy read levels at (drop at s) h)) (ap fieldHead (sym (tail-part s at)) ∙ e)
@@ -141,15 +142,15 @@ module _ (levels at : ℕ) (s : List ℕ) where
   field-fits h e l = omega (arith, head-fits (drop at s) h (ap fieldHead (sym (tail-part s at)) ∙ e), length-drop at s)
 
   pub field-deep : (opening n : ℕ) → fieldHead rest ≡ Sublist opening n → levels ≡ 0 →
-      partReadOf (fieldAt read levels s at) ≡ Stop TooDeep at
+      partReadOf (fieldAt longFormat read levels s at) ≡ Stop TooDeep at
   unfolding fieldBy partReadOf
   field-deep opening n e z = field-step (Sublist opening n) e ∙ ap (λ (d : ℕ). partReadOf (fieldBy read d at (drop at s) (Sublist opening n))) z
 
-  pub cut-deep : fieldHead rest ≡ CutSublist → levels ≡ 0 → partReadOf (fieldAt read levels s at) ≡ Stop TooDeep at
+  pub cut-deep : fieldHead rest ≡ CutSublist → levels ≡ 0 → partReadOf (fieldAt longFormat read levels s at) ≡ Stop TooDeep at
   unfolding fieldBy partReadOf
   cut-deep e z = field-step CutSublist e ∙ ap (λ (d : ℕ). partReadOf (fieldBy read d at (drop at s) CutSublist)) z
 
-  pub cut-short : fieldHead rest ≡ CutSublist → 0 < levels → partReadOf (fieldAt read levels s at) ≡ Stop Unreadable 0
+  pub cut-short : fieldHead rest ≡ CutSublist → 0 < levels → partReadOf (fieldAt longFormat read levels s at) ≡ Stop Unreadable 0
   unfolding fieldBy partReadOf
   cut-short e pos = field-step CutSublist e ∙ go levels pos
     where
@@ -160,7 +161,7 @@ module _ (levels at : ℕ) (s : List ℕ) where
   pub field-list : (opening n : ℕ) (v : Verdict) → fieldHead rest ≡ Sublist opening n → 0 < levels →
       let start = at + opening in
       told (read (levels - 1) (take (start + n - start) (drop start s))) ≡ v →
-      partReadOf (fieldAt read levels s at) ≡ inside start n v
+      partReadOf (fieldAt longFormat read levels s at) ≡ inside start n v
   unfolding fieldBy partReadOf
   field-list opening n v e pos h = field-step (Sublist opening n) e ∙ go levels pos (rw field-part at h)
     where
@@ -173,7 +174,7 @@ module _ (levels at : ℕ) (s : List ℕ) where
 
   -- ---- a field that must be a list
 
-  list-yes : isList (fieldHead rest) ≡ true → partReadOf (listAt read levels s at) ≡ partReadOf (fieldAt read levels s at)
+  list-yes : isList (fieldHead rest) ≡ true → partReadOf (listAt longFormat read levels s at) ≡ partReadOf (fieldAt longFormat read levels s at)
   unfolding listAt fieldAt fieldBy listGot onlyList partReadOf
   list-yes e = go levels (fieldHead (drop at s)) (rw tail-part at e)
     where
@@ -191,7 +192,7 @@ module _ (levels at : ℕ) (s : List ℕ) where
       go zero CutSublist e = refl
       go (suc d) CutSublist e = refl
 
-  list-no : isList (fieldHead rest) ≡ false → partReadOf (listAt read levels s at) ≡ Stop Unreadable 0
+  list-no : isList (fieldHead rest) ≡ false → partReadOf (listAt longFormat read levels s at) ≡ Stop Unreadable 0
   unfolding listAt fieldAt fieldBy onlyList partReadOf
   list-no e = go (fieldHead (drop at s)) (rw tail-part at e)
     where
@@ -223,17 +224,17 @@ then-last (stopped why place) k = refl
 
 module _ (levels : ℕ) (s : List ℕ) where
   abbrev pub fieldSays : ℕ → PartRead
-  fieldSays at = partReadOf (fieldAt read levels s at)
+  fieldSays at = partReadOf (fieldAt longFormat read levels s at)
 
   abbrev pub listSays : ℕ → PartRead
-  listSays at = partReadOf (listAt read levels s at)
+  listSays at = partReadOf (listAt longFormat read levels s at)
 
   abbrev pub heldSays : Bool → ℕ → PartRead
-  heldSays listed at = partReadOf (fieldAt read levels s at thenAt heldIn listed)
+  heldSays listed at = partReadOf (fieldAt longFormat read levels s at thenAt heldIn listed)
 
   pub held-list : (at : ℕ) → heldSays true at ≡ listSays at
   unfolding listAt heldIn partReadOf
-  held-list at = go (fieldAt read levels s at)
+  held-list at = go (fieldAt longFormat read levels s at)
     where
       go : (g : Got Field) → partReadOf (g thenAt heldIn true) ≡ partReadOf (g thenAt onlyList)
       go (got f m) = then-last (onlyList f m) list
@@ -244,7 +245,7 @@ module _ (levels : ℕ) (s : List ℕ) where
   unfolding heldIn
   held-yes at true true test e = held-list at ∙ list-yes levels at s test
   held-yes at true false test e = let z : _≡_ {A = ℕ} 0 1 = cc in absurd (omega arith)
-  held-yes at false is test e = then-last (fieldAt read levels s at) (λ f. f)
+  held-yes at false is test e = then-last (fieldAt longFormat read levels s at) (λ f. f)
 
   pub held-no : (at : ℕ) (listed is : Bool) → isList (fieldHead (rest levels at s)) ≡ is → (listed && not is) ≡ true →
       heldSays listed at ≡ Stop Unreadable 0
@@ -254,7 +255,7 @@ module _ (levels : ℕ) (s : List ℕ) where
 
   pub held-next : (listed : Bool) (at m : ℕ) → at ≤ length s → heldSays listed at ≡ Next m → m ≤ length s
   unfolding heldIn onlyList partReadOf
-  held-next listed at m l e = next-in s levels at m l (go listed (fieldAt read levels s at) e)
+  held-next listed at m l e = next-in s levels at m l (go listed (fieldAt longFormat read levels s at) e)
     where
       go : (listed : Bool) (g : Got Field) → partReadOf (g thenAt heldIn listed) ≡ Next m → partReadOf g ≡ Next m
       go true (got empty k) e = let z : _≡_ {A = ℕ} 0 1 = cc in absurd (omega arith)
@@ -271,7 +272,7 @@ module _ (levels : ℕ) (s : List ℕ) where
   lastSays true at = fieldSays levels s at
   lastSays false at = Next at
 
-  third-said : (kind : Kind) (at : ℕ) → partReadOf (thirdAt read levels s kind at) ≡ lastSays (hasThird kind) at
+  third-said : (kind : Kind) (at : ℕ) → partReadOf (thirdAt longFormat read levels s kind at) ≡ lastSays (hasThird kind) at
   unfolding thirdAt partReadOf
   third-said (Scripted base) at = refl
   third-said (Fraction bar) at = refl
@@ -281,25 +282,25 @@ module _ (levels : ℕ) (s : List ℕ) where
     abbrev pub firstSays : PartRead
     firstSays = heldSays levels s (holdsList kind) (openingBytes kind)
 
-    noad-said : partReadOf (noadAt read levels s kind) ≡
+    noad-said : partReadOf (noadAt longFormat read levels s kind) ≡
         onFrom firstSays (λ m. onFrom (fieldSays levels s m) (lastSays (hasThird kind)))
     unfolding noadAt firstAt
     noad-said =
-        then-said (firstAt read levels s kind) _ _ (λ a m₁.
-        then-said (fieldAt read levels s m₁) _ _ (λ b m₂.
-        then-last (thirdAt read levels s kind m₂) (noad kind a b) ∙ third-said kind m₂))
+        then-said (firstAt longFormat read levels s kind) _ _ (λ a m₁.
+        then-said (fieldAt longFormat read levels s m₁) _ _ (λ b m₂.
+        then-last (thirdAt longFormat read levels s kind m₂) (noad kind a b) ∙ third-said kind m₂))
 
     pub noad-first : (why : Fault) (place : ℕ) → firstSays ≡ Stop why place →
-        partReadOf (noadAt read levels s kind) ≡ Stop why place
+        partReadOf (noadAt longFormat read levels s kind) ≡ Stop why place
     noad-first why place first = noad-said ∙ rw first
 
     module _ (m : ℕ) (first : firstSays ≡ Next m) where
       pub noad-second : (why : Fault) (place : ℕ) → fieldSays levels s m ≡ Stop why place →
-          partReadOf (noadAt read levels s kind) ≡ Stop why place
+          partReadOf (noadAt longFormat read levels s kind) ≡ Stop why place
       noad-second why place second = noad-said ∙ rw (first, second)
 
       pub noad-third : (e : ℕ) (has : Bool) → fieldSays levels s m ≡ Next e → hasThird kind ≡ has →
-          partReadOf (noadAt read levels s kind) ≡ lastSays has e
+          partReadOf (noadAt longFormat read levels s kind) ≡ lastSays has e
       noad-third e has second h = noad-said ∙ rw (first, second, h)
 
 -- ---- a choice, by its lists
@@ -310,13 +311,13 @@ inTurn says zero at = Next at
 inTurn says (suc n) at = onFrom (says at) (inTurn says n)
 
 pub choice-said : (levels : ℕ) (s : List ℕ) →
-    partReadOf (choiceAt read levels s) ≡ inTurn (listSays levels s) choiceLists choiceOpeningBytes
+    partReadOf (choiceAt longFormat read levels s) ≡ inTurn (listSays levels s) choiceLists choiceOpeningBytes
 unfolding choiceAt inTurn partReadOf
 choice-said levels s =
-    then-said (listAt read levels s choiceOpeningBytes) _ _ (λ d m₁.
-    then-said (listAt read levels s m₁) _ _ (λ t m₂.
-    then-said (listAt read levels s m₂) _ _ (λ sc m₃.
-    then-said (listAt read levels s m₃) _ _ (λ ss m₄. refl))))
+    then-said (listAt longFormat read levels s choiceOpeningBytes) _ _ (λ d m₁.
+    then-said (listAt longFormat read levels s m₁) _ _ (λ t m₂.
+    then-said (listAt longFormat read levels s m₂) _ _ (λ sc m₃.
+    then-said (listAt longFormat read levels s m₃) _ _ (λ ss m₄. refl))))
 
 module _ (says : ℕ → PartRead) (at : ℕ) where
   pub turn-next : (n m : ℕ) → 0 < n → says at ≡ Next m → inTurn says n at ≡ inTurn says (n - 1) m
@@ -337,9 +338,9 @@ module _ (says : ℕ → PartRead) (at : ℕ) where
   turn-done (suc n) e = absurd (omega arith)
 
 pub item-step : (levels : ℕ) (s : List ℕ) (o : Opening) → openingOf s ≡ o →
-    partReadOf (itemBy read levels s) ≡ partReadOf (openedBy read levels s o)
+    partReadOf (itemBy longFormat read levels s) ≡ partReadOf (openedBy longFormat read levels s o)
 unfolding itemBy
-item-step levels s o e = ap (λ (o : Opening). partReadOf (openedBy read levels s o)) e
+item-step levels s o e = ap (λ (o : Opening). partReadOf (openedBy longFormat read levels s o)) e
 
 -- ---- a turn of the loop over a list's items
 
@@ -353,8 +354,8 @@ later-zero (Faulty why place) = ap (Faulty why) (omega arith)
 
 module _ (levels : ℕ) (s : List ℕ) (at : ℕ) (low : at < length s)
     (inv : told (read levels s) ≡ later at (told (read levels (drop at s)))) (x : PartRead)
-    (said : x ≡ partReadOf (itemBy read levels (take (length s - at) (drop at s)))) where
-  item-said : partReadOf (itemBy read levels (drop at s)) ≡ x
+    (said : x ≡ partReadOf (itemBy longFormat read levels (take (length s - at) (drop at s)))) where
+  item-said : partReadOf (itemBy longFormat read levels (drop at s)) ≡ x
   item-said = sym (rw tail-part at said)
 
   item-bounds : StepIn 0 (length (drop at s)) x
@@ -388,5 +389,5 @@ pub list-done : (levels : ℕ) (s : List ℕ) (at : ℕ) → length s ≤ at →
     told (read levels s) ≡ later at (told (read levels (drop at s))) → told (read levels s) ≡ Good
 unfolding told
 list-done levels s at h inv =
-    let none = read-none levels (drop at s) (omega (arith, length-drop at s)) in
+    let none = read-none longFormat levels (drop at s) (omega (arith, length-drop at s)) in
     inv ∙ ap (λ (x : Read). later at (told x)) none

@@ -1,13 +1,16 @@
 -- What a head speaks of lies in its list, and within its bounds.
 --     head-fits            the bytes of a field
+--     opening-short, opening-long     the bytes of a list's opening, by its length; opening-some    three at least
 --     list-opening         a list field opens with its kind byte and its length
 --     contents-shorter     the items of a list field have as many bytes as it says, and fewer than what holds it
+--     head-under, list-under     what a field is under another format
 --     opening-fits         the bytes of an item before its fields
 --     kern-small, style-small     a kern and a style's number are within their bounds
 -- Each goes by the cases of the definition, whose tests `either` takes apart.
 -- Assumes nothing.
-use mathlib.Core.Path.{_≡_, refl, subst}
-use mathlib.Core.Bool.{Bool, true, false, _&&_, _||_}
+use mathlib.Core.Path.{_≡_, refl, sym, subst, _∙_}
+use mathlib.Core.Logic.{_⊎_, inl, inr, ⊎-elim}
+use mathlib.Core.Bool.{Bool, true, false, _&&_, _||_, and-eq-true-iff}
 use mathlib.Core.List.{List, [], _∷_}
 use mathlib.Core.Option.{Option, none, some}
 use Prim.Native.Nat.{ℕ, _+_, _≤_, _<_}
@@ -15,7 +18,7 @@ use native.Mathlib.Omega.{arith}
 use lib.Dec.{leb, eqb}
 use lib.IntN.{ℤ, pos, negsuc, natAbs}
 use lib.ListN.{length, drop, getElem?, length-take, length-drop}
-use borrow.Author.Tests.{leb-true}
+use borrow.Author.Tests.{leb-true, eqb-true, le-leb, lt-leb}
 use Rattle.scaled.specs.declared.Sp.{Sp}
 use Rattle.scaled.specs.Signed.{Within}
 use Rattle.words.specs.Words.{littleEndian, signedWord}
@@ -32,9 +35,10 @@ use Rattle.formula.specs.declared.Opening.{Opening}
 use Rattle.formula.specs.declared.Opening.the-variants.{NoItem, Fields, Kern, Restyle, Choice}
 use Rattle.formula.specs.declared.FieldHead.{FieldHead}
 use Rattle.formula.specs.declared.FieldHead.the-variants.{NoField, Empty, Symbol, Sublist, CutSublist}
-use Rattle.formula.specs.Tree.{openingBytes, kernBytes, restyleBytes, listOpeningBytes}
+use Rattle.formula.specs.Format.{Format}
+use Rattle.formula.specs.Tree.{openingBytes, kernBytes, restyleBytes, greatestShort, shortOpeningBytes, longOpeningBytes, listOpeningBytes}
 use Rattle.formula.specs.Marks.{markOf}
-use Rattle.formula.specs.Heads.{classes, limitKinds, bars, isOp, isDisplayOnly, atomOf, atomOpening, fractionOf, fractionOpening, greatestKern, kernWithin, kernOpening, greatestStyle, styleOpening, greatestFamily, goodDelimiter, rootOf, delimiter, behindDelimiter, rootOpening, fenceOf, fenceOpening, opens, openingOf, symbolHead, listHead, fieldHead}
+use Rattle.formula.specs.Heads.{classes, limitKinds, bars, isOp, isDisplayOnly, atomOf, atomOpening, fractionOf, fractionOpening, greatestKern, kernWithin, kernOpening, greatestStyle, styleOpening, greatestFamily, goodDelimiter, rootOf, delimiter, behindDelimiter, rootOpening, fenceOf, fenceOpening, opens, openingOf, symbolHead, sublistHead, listHead, longListHead, fieldHeadUnder, fieldHead}
 use Rattle.formula.specs.Places.{headBytes, contents, openedBytes}
 
 -- a choice by a test
@@ -49,7 +53,7 @@ ListOpens : FieldHead → Type 0
 ListOpens NoField = Unit {0}
 ListOpens Empty = Unit {0}
 ListOpens (Symbol family code) = Unit {0}
-ListOpens (Sublist opening n) = opening ≡ listOpeningBytes
+ListOpens (Sublist opening n) = opening ≡ listOpeningBytes n
 ListOpens CutSublist = Unit {0}
 
 HeadIn : List ℕ → FieldHead → Type 0
@@ -62,38 +66,104 @@ symbol-in kind (family ∷ []) = (omega arith, tt)
 symbol-in kind (family ∷ code ∷ s) =
     either (HeadIn (kind ∷ family ∷ code ∷ s)) (leb family greatestFamily) (λ e. (omega arith, tt)) (λ e. (omega arith, tt))
 
+-- s are the bytes of t behind the opening
+sublist-in : (t s : List ℕ) (opening n : ℕ) → opening + length s ≤ length t → HeadIn t (sublistHead opening n s)
+unfolding sublistHead HeadIn ListOpens
+sublist-in t s opening n behind =
+    let own = eqb opening (listOpeningBytes n) in
+    let fits = leb n (length s) in
+    either (HeadIn t) (own && fits)
+    (λ e.
+    let both = and-eq-true-iff own fits .0 e in
+    (omega (arith, leb-true n (length s) (both .1)), eqb-true opening (listOpeningBytes n) (both .0)))
+    (λ e. (omega arith, tt))
+
 list-in : (kind : ℕ) (s : List ℕ) → HeadIn (kind ∷ s) (listHead s)
 unfolding listHead HeadIn ListOpens
 list-in kind [] = (omega arith, tt)
-list-in kind (low ∷ []) = (omega arith, tt)
-list-in kind (low ∷ high ∷ s) =
-    let n = littleEndian 2 (low ∷ high ∷ []) in
-    either (HeadIn (kind ∷ low ∷ high ∷ s)) (leb n (length s))
-    (λ e. (omega (arith, leb-true n (length s) e), refl)) (λ e. (omega arith, tt))
+list-in kind (a ∷ []) = (omega arith, tt)
+list-in kind (a ∷ b ∷ s) = sublist-in (kind ∷ a ∷ b ∷ s) s shortOpeningBytes (littleEndian 2 (a ∷ b ∷ [])) (omega arith)
+
+long-list-in : (kind : ℕ) (s : List ℕ) → HeadIn (kind ∷ s) (longListHead s)
+unfolding longListHead HeadIn ListOpens
+long-list-in kind [] = (omega arith, tt)
+long-list-in kind (a ∷ []) = (omega arith, tt)
+long-list-in kind (a ∷ b ∷ []) = (omega arith, tt)
+long-list-in kind (a ∷ b ∷ c ∷ []) = (omega arith, tt)
+long-list-in kind (a ∷ b ∷ c ∷ d ∷ s) =
+    sublist-in (kind ∷ a ∷ b ∷ c ∷ d ∷ s) s longOpeningBytes (littleEndian 4 (a ∷ b ∷ c ∷ d ∷ [])) (omega arith)
 
 head-in : (s : List ℕ) → HeadIn s (fieldHead s)
-unfolding fieldHead HeadIn ListOpens
+unfolding fieldHeadUnder HeadIn ListOpens
 head-in [] = (omega arith, tt)
 head-in (kind ∷ s) =
     let P = HeadIn (kind ∷ s) in
     either P (eqb kind 0) (λ e. (omega arith, tt)) (λ e.
     either P (eqb kind 1) (λ e. symbol-in kind s) (λ e.
-    either P (eqb kind 2) (λ e. list-in kind s) (λ e. (omega arith, tt))))
+    either P (eqb kind 2) (λ e. list-in kind s) (λ e.
+    either P (eqb kind 3 && true) (λ e. long-list-in kind s) (λ e. (omega arith, tt)))))
 
 pub head-fits : (s : List ℕ) (h : FieldHead) → fieldHead s ≡ h → headBytes h ≤ length s
 unfolding HeadIn
 head-fits s h e = subst (HeadIn s) e (head-in s) .0
 
-pub list-opening : (s : List ℕ) (opening n : ℕ) → fieldHead s ≡ Sublist opening n → opening ≡ listOpeningBytes
+pub list-opening : (s : List ℕ) (opening n : ℕ) → fieldHead s ≡ Sublist opening n → opening ≡ listOpeningBytes n
 unfolding HeadIn ListOpens
 list-opening s opening n e = subst (HeadIn s) e (head-in s) .1
+
+module _ (n : ℕ) where
+  pub opening-short : n ≤ greatestShort → listOpeningBytes n ≡ shortOpeningBytes
+  unfolding listOpeningBytes
+  opening-short h = simp (listOpeningBytes, le-leb n greatestShort h)
+
+  pub opening-long : greatestShort < n → listOpeningBytes n ≡ longOpeningBytes
+  unfolding listOpeningBytes
+  opening-long h = simp (listOpeningBytes, lt-leb n greatestShort h)
+
+  pub opening-some : shortOpeningBytes ≤ listOpeningBytes n
+  unfolding listOpeningBytes
+  opening-some = either (λ (k : ℕ). shortOpeningBytes ≤ k) (leb n greatestShort) (λ e. omega arith) (λ e. omega arith)
 
 pub contents-shorter : (s : List ℕ) (opening n : ℕ) → fieldHead s ≡ Sublist opening n →
     (length (contents opening n s) ≡ n) × (n < length s)
 contents-shorter s opening n e =
     let fits = head-fits s (Sublist opening n) e in
     let opens = list-opening s opening n e in
-    (omega (arith, length-take n (drop opening s), length-drop opening s), omega arith)
+    (omega (arith, length-take n (drop opening s), length-drop opening s), omega (arith, opening-some n))
+
+-- what a format has no kind for is no field, and all else is the same under every one
+pub head-under : (f : Format) (s : List ℕ) → (fieldHeadUnder f s ≡ fieldHead s) ⊎ (fieldHeadUnder f s ≡ NoField)
+unfolding fieldHeadUnder
+head-under f [] = inl refl
+head-under f (kind ∷ s) = go (eqb kind 0) (eqb kind 1) (eqb kind 2) (eqb kind 3) (f .longLists)
+  where
+    head : Bool → Bool → Bool → Bool → FieldHead
+    head empty symbol list long =
+        elim empty [
+          | true ↦ Empty
+          | false ↦
+              elim symbol [
+                | true ↦ symbolHead s
+                | false ↦
+                    elim list [
+                      | true ↦ listHead s
+                      | false ↦ elim long [ true ↦ longListHead s | false ↦ NoField ]
+                    ]
+              ]
+        ]
+
+    go : (empty symbol list long has : Bool) →
+        (head empty symbol list (long && has) ≡ head empty symbol list (long && true)) ⊎ (head empty symbol list (long && has) ≡ NoField)
+    go true symbol list long has = inl refl
+    go false true list long has = inl refl
+    go false false true long has = inl refl
+    go false false false long true = inl refl
+    go false false false true false = inr refl
+    go false false false false false = inl refl
+
+pub list-under : (f : Format) (s : List ℕ) (opening n : ℕ) → fieldHeadUnder f s ≡ Sublist opening n → fieldHead s ≡ Sublist opening n
+list-under f s opening n e =
+    ⊎-elim (λ same. sym same ∙ e) (λ none. let z : _≡_ {A = ℕ} 0 1 = cc in absurd (omega arith)) (head-under f s)
 
 -- ---- an item
 

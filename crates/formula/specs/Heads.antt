@@ -1,7 +1,7 @@
 -- What stands at the head of an item and of a field (document 01, "Bytes of a formula"), with nothing within a list looked at.
 --     openingOf    what an item says before its fields: its kind, its kern, its style, or that it is a choice
 --     fieldHead    what a field says at its kind byte; isEmpty, isList    that it is empty, or a list, cut or not
--- Both are total: bytes that can be neither are `NoItem` and `NoField`.
+-- A field is read under a format; `fieldHead` is under the one in use. Both are total: bytes that can be neither are `NoItem` and `NoField`.
 -- Assumes nothing.
 use mathlib.Core.Bool.{Bool, true, false, _&&_, _||_}
 use mathlib.Core.List.{List, [], _∷_}
@@ -26,7 +26,8 @@ use Rattle.formula.specs.declared.FieldHead.{FieldHead}
 use Rattle.formula.specs.declared.FieldHead.the-variants.{NoField, Empty, Symbol, Sublist, CutSublist}
 use Rattle.formula.specs.declared.Opening.{Opening}
 use Rattle.formula.specs.declared.Opening.the-variants.{NoItem, Fields, Kern, Restyle, Choice}
-use Rattle.formula.specs.Tree.{listOpeningBytes}
+use Rattle.formula.specs.Format.{Format, longFormat}
+use Rattle.formula.specs.Tree.{shortOpeningBytes, longOpeningBytes, listOpeningBytes}
 use Rattle.formula.specs.Marks.{markOf}
 
 -- ---- an item
@@ -156,27 +157,46 @@ symbolHead [] = NoField
 symbolHead (family ∷ []) = NoField
 symbolHead (family ∷ code ∷ s) = elim (leb family greatestFamily) [ true ↦ Symbol family code | false ↦ NoField ]
 
--- a list's bytes must not pass the end of the list that holds the item
+-- a list of n bytes has the opening of its length, and must not pass the end of the list that holds the item; s is what stands behind
+-- the opening
+unfoldable pub sublistHead : ℕ → ℕ → List ℕ → FieldHead
+sublistHead opening n s =
+    elim (eqb opening (listOpeningBytes n) && leb n (length s)) [ true ↦ Sublist opening n | false ↦ CutSublist ]
+
+-- of kind 2
 unfoldable pub listHead : List ℕ → FieldHead
 listHead [] = CutSublist
-listHead (low ∷ []) = CutSublist
-listHead (low ∷ high ∷ s) =
-    let n = littleEndian 2 (low ∷ high ∷ []) in
-    elim (leb n (length s)) [ true ↦ Sublist listOpeningBytes n | false ↦ CutSublist ]
+listHead (a ∷ []) = CutSublist
+listHead (a ∷ b ∷ s) = sublistHead shortOpeningBytes (littleEndian 2 (a ∷ b ∷ [])) s
 
--- 0 is empty, 1 a symbol, 2 a list; s goes from the kind byte to the end of the list that holds the item
-unfoldable pub fieldHead : List ℕ → FieldHead
-fieldHead [] = NoField
-fieldHead (kind ∷ s) =
+-- of kind 3
+unfoldable pub longListHead : List ℕ → FieldHead
+longListHead [] = CutSublist
+longListHead (a ∷ []) = CutSublist
+longListHead (a ∷ b ∷ []) = CutSublist
+longListHead (a ∷ b ∷ c ∷ []) = CutSublist
+longListHead (a ∷ b ∷ c ∷ d ∷ s) = sublistHead longOpeningBytes (littleEndian 4 (a ∷ b ∷ c ∷ d ∷ [])) s
+
+-- 0 is empty, 1 a symbol, 2 a list, 3 a long list if the format has them; s goes from the kind byte to the end of the list that holds
+-- the item
+unfoldable pub fieldHeadUnder : Format → List ℕ → FieldHead
+fieldHeadUnder f [] = NoField
+fieldHeadUnder f (kind ∷ s) =
     elim (eqb kind 0) [
       | true ↦ Empty
       | false ↦
           elim (eqb kind 1) [
             | true ↦ symbolHead s
             | false ↦
-                elim (eqb kind 2) [ true ↦ listHead s | false ↦ NoField ]
+                elim (eqb kind 2) [
+                  | true ↦ listHead s
+                  | false ↦ elim (eqb kind 3 && f .longLists) [ true ↦ longListHead s | false ↦ NoField ]
+                ]
           ]
     ]
+
+abbrev pub fieldHead : List ℕ → FieldHead
+fieldHead s = fieldHeadUnder longFormat s
 
 abbrev pub isEmpty : FieldHead → Bool
 isEmpty NoField = false

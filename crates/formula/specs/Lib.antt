@@ -1,4 +1,5 @@
 -- A formula as bytes and as a tree, its reading, what the reader promises; the laws of these. Assumes nothing.
+pub mod Format
 pub mod Tree
 pub mod Marks
 pub mod Heads
@@ -10,3 +11,6 @@ pub mod HeadLaws
 pub mod ReadIn
 pub mod ReadingLaws
 pub mod PlacesLaws
+pub mod FormatLaws
+pub mod Spelling
+pub mod SpellingLaws

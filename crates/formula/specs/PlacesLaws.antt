@@ -26,12 +26,13 @@ use Rattle.formula.specs.declared.FieldHead.the-variants.{NoField, Empty
 use Rattle.formula.specs.declared.Fault.{Fault}
 use Rattle.formula.specs.declared.Fault.the-variants.{Unreadable}
 use Rattle.formula.specs.declared.Verdict.the-variants.{Good, Faulty}
-use Rattle.formula.specs.Tree.{Items, Item, Field, nil, cons, list, openingBytes, holdsList, listOpeningBytes, sublistBytes, itemsBytes, itemBytes, fieldBytes}
+use Rattle.formula.specs.Format.{longFormat}
+use Rattle.formula.specs.Tree.{Items, Item, Field, nil, cons, list, openingBytes, holdsList, shortOpeningBytes, sublistBytes, itemsBytes, itemBytes, fieldBytes}
 use Rattle.formula.specs.Heads.{openingOf, fieldHead}
-use Rattle.formula.specs.Reading.{formulaLimit, depthLimit, Read, good, fault, read, readFormula}
+use Rattle.formula.specs.Reading.{formulaLimit, depthLimit, Read, good, fault, read, readFormulaUnder, readFormula}
 use Rattle.formula.specs.Values.{told}
 use Rattle.formula.specs.Places.{treeIn, IsGood, Readable, treeOf, headBytes, contents, fieldOf, GoodField, listOf, GoodList, choiceLists, hasThird, headAt, second, third, thirdEnd, end, listPlace, itemSize, fieldIn, thirdIn, listIn, itemOf, GoodFieldAt, GoodThird, GoodListAt, GoodHeld, GoodItem}
-use Rattle.formula.specs.HeadLaws.{list-opening, contents-shorter, opening-fits}
+use Rattle.formula.specs.HeadLaws.{list-opening, opening-some, contents-shorter, opening-fits}
 use Rattle.formula.specs.ReadingLaws.{by-length, FieldIs, IsHeld, FieldAtIs, ThirdIs, ItemIs, item-map, list-place-in, size-fits, size-some, Below, read-none, list-good, agree}
 
 -- ---- a readable list
@@ -56,7 +57,7 @@ unfolding treeOf
 tree-is s d l e = ap treeIn (own s d l e)
 
 pub tree-none : (s : List ℕ) → length s ≡ 0 → Readable s × (treeOf s ≡ nil)
-tree-none s h = (readable-of s 0 nil (read-none 0 s h), tree-is s 0 nil (read-none 0 s h))
+tree-none s h = (readable-of s 0 nil (read-none longFormat 0 s h), tree-is s 0 nil (read-none longFormat 0 s h))
 
 Known : List ℕ → Items → Type 0
 Known r l = Readable r × (treeOf r ≡ l)
@@ -145,7 +146,7 @@ pub good-some : (s : List ℕ) (h : FieldHead) → fieldHead s ≡ h → GoodFie
 good-some s NoField e g = absurd g
 good-some s Empty e g = omega arith
 good-some s (Symbol family code) e g = omega arith
-good-some s (Sublist opening n) e g = omega (arith, list-opening s opening n e)
+good-some s (Sublist opening n) e g = omega (arith, list-opening s opening n e, opening-some n)
 good-some s CutSublist e g = absurd g
 
 pub third-good : (s : List ℕ) (has : Bool) (at : ℕ) → has ≡ true → GoodThird s has at → GoodFieldAt s at
@@ -217,18 +218,18 @@ list-good-field s CutSublist g = absurd g
 
 -- ---- a choice
 
-list-long : (s : List ℕ) (h : FieldHead) → fieldHead s ≡ h → GoodList s h → listOpeningBytes ≤ headBytes h
+list-long : (s : List ℕ) (h : FieldHead) → fieldHead s ≡ h → GoodList s h → shortOpeningBytes ≤ headBytes h
 list-long s NoField e g = absurd g
 list-long s Empty e g = absurd g
 list-long s (Symbol family code) e g = absurd g
-list-long s (Sublist opening n) e g = omega (arith, list-opening s opening n e)
+list-long s (Sublist opening n) e g = omega (arith, list-opening s opening n e, opening-some n)
 list-long s CutSublist e g = absurd g
 
 -- its lists and what stands behind it are good, and they stand one behind the other
 pub record Chosen (s : List ℕ) : Type 0 where
   pub lists : (n : ℕ) → n < choiceLists → GoodListAt s (listPlace s n)
   pub rest : Readable (drop (listPlace s choiceLists) s)
-  pub in-order : (n : ℕ) → n < choiceLists → listPlace s n + listOpeningBytes ≤ listPlace s (suc n)
+  pub in-order : (n : ℕ) → n < choiceLists → listPlace s n + shortOpeningBytes ≤ listPlace s (suc n)
   pub places-in : (n : ℕ) → listPlace s n ≤ length s
 
 pub choice-at : (s : List ℕ) → openingOf s ≡ Choice → Readable s → Chosen s
@@ -255,8 +256,8 @@ module _ (s : List ℕ) (ih : (r : List ℕ) → length r < length s → Readabl
       go (Symbol family code) e g = refl
       go (Sublist opening n) e g =
           let k = contents-shorter (drop at s) opening n e in
-          let o = list-opening (drop at s) opening n e in
-          omega (arith, ih (contents opening n (drop at s)) (omega (arith, length-drop at s)) g)
+          let long = ih (contents opening n (drop at s)) (omega (arith, length-drop at s)) g ∙ k .0 in
+          ap sublistBytes long ∙ ap (λ (o : ℕ). o + n) (sym (list-opening (drop at s) opening n e))
       go CutSublist e g = absurd g
 
   list-by-bytes : (n : ℕ) → GoodListAt s (listPlace s n) →
@@ -331,7 +332,7 @@ pub record FormulaIs (s : List ℕ) : Type 0 where
   pub is : readFormula s ≡ good (treeOf s)
 
 pub formula-good : (s : List ℕ) → told (readFormula s) ≡ Good → FormulaIs s
-unfolding readFormula told
+unfolding readFormulaUnder told
 formula-good s e = go (ltb formulaLimit (length s)) refl e
   where
     by : Bool → Read

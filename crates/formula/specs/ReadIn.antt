@@ -20,9 +20,10 @@ use Rattle.formula.specs.declared.Opening.{Opening}
 use Rattle.formula.specs.declared.Opening.the-variants.{NoItem, Fields, Kern, Restyle, Choice}
 use Rattle.formula.specs.declared.FieldHead.{FieldHead}
 use Rattle.formula.specs.declared.FieldHead.the-variants.{NoField, Empty, Symbol, Sublist, CutSublist}
+use Rattle.formula.specs.Format.{longFormat}
 use Rattle.formula.specs.Tree.{Items, Item, Field, nil, cons, noad, kern, restyle, choice, empty, symbol, list, openingBytes, holdsList, kernBytes, restyleBytes, choiceOpeningBytes, symbolBytes, listOpeningBytes}
 use Rattle.formula.specs.Heads.{openingOf, fieldHead}
-use Rattle.formula.specs.Reading.{Read, good, fault, Got, got, stopped, _thenAt_, listGot, fieldBy, onlyList, heldIn, fieldAt, firstAt, thirdAt, noadAt, listAt, choiceAt, openedBy, itemBy, before, restBy, listBy, readBy, read}
+use Rattle.formula.specs.Reading.{Read, good, fault, Got, got, stopped, _thenAt_, listGot, fieldBy, onlyList, heldIn, fieldAt, firstAt, thirdAt, noadAt, listAt, choiceAt, openedBy, itemBy, before, restBy, listBy, readBy, readUnder, read}
 use Rattle.formula.specs.Places.{contents, openedBytes}
 use Rattle.formula.specs.HeadLaws.{head-fits, list-opening, contents-shorter, opening-fits}
 
@@ -35,7 +36,7 @@ pub record Parts : Type 1 where
 pub record Closed (p : Parts) : Type 0 where
   pub empty-is : (at : ℕ) → p .OfField at (at + 1) empty
   pub symbol-is : (at family code : ℕ) → p .OfField at (at + symbolBytes) (symbol family code)
-  pub list-is : (at n : ℕ) (l : Items) → p .OfItems n l → p .OfField at (at + listOpeningBytes + n) (list l)
+  pub list-is : (at n : ℕ) (l : Items) → p .OfItems n l → p .OfField at (at + listOpeningBytes n + n) (list l)
   pub third-is : (base : Base) (at end : ℕ) (f : Field) → p .OfField at end f → p .OfThird (Scripted base) at end f
   pub no-third : (bar : Bar) (at : ℕ) → p .OfThird (Fraction bar) at at empty
   pub noad-is : (kind : Kind) (x y z : Field) (m₁ m₂ m₃ : ℕ) → p .OfField (openingBytes kind) m₁ x → p .OfField m₁ m₂ y →
@@ -77,15 +78,15 @@ module _ (p : Parts) (rules : Closed p) where
   module _ (R : ℕ → List ℕ → Read) (ih : (levels : ℕ) (r : List ℕ) → ReadIn p (length r) (R levels r)) (levels : ℕ) where
     -- ---- a field
 
-    pub field-by-in : (s : List ℕ) (at : ℕ) → at ≤ length s → GotIn (FieldFrom at) (length s) (fieldAt R levels s at)
+    pub field-by-in : (s : List ℕ) (at : ℕ) → at ≤ length s → GotIn (FieldFrom at) (length s) (fieldAt longFormat R levels s at)
     unfolding fieldAt fieldBy listGot
     field-by-in s at l = go levels (fieldHead (drop at s)) refl
       where
-        inside : (opening n : ℕ) (x : Read) → opening ≡ listOpeningBytes → at + (opening + n) ≤ length s → ReadIn p n x →
+        inside : (opening n : ℕ) (x : Read) → opening ≡ listOpeningBytes n → at + (opening + n) ≤ length s → ReadIn p n x →
             GotIn (FieldFrom at) (length s) (listGot at opening n x)
-        inside opening n (good l) three h q =
-            (subst (λ (k : ℕ). FieldFrom at (list l) (at + k + n)) (sym three) (rules .list-is at n l q), omega arith)
-        inside opening n (fault why place) three h q = omega arith
+        inside opening n (good l) opens h q =
+            (subst (λ (k : ℕ). FieldFrom at (list l) (at + k + n)) (sym opens) (rules .list-is at n l q), omega arith)
+        inside opening n (fault why place) opens h q = omega arith
 
         go : (levels : ℕ) (h : FieldHead) → fieldHead (drop at s) ≡ h →
             GotIn (FieldFrom at) (length s) (fieldBy R levels at (drop at s) h)
@@ -102,9 +103,9 @@ module _ (p : Parts) (rules : Closed p) where
         go zero CutSublist e = l
         go (suc levels) CutSublist e = omega arith
 
-    third-in : (s : List ℕ) (kind : Kind) (at : ℕ) → at ≤ length s → GotIn (ThirdFrom kind at) (length s) (thirdAt R levels s kind at)
+    third-in : (s : List ℕ) (kind : Kind) (at : ℕ) → at ≤ length s → GotIn (ThirdFrom kind at) (length s) (thirdAt longFormat R levels s kind at)
     unfolding thirdAt
-    third-in s (Scripted base) at l = some (fieldAt R levels s at) (field-by-in s at l)
+    third-in s (Scripted base) at l = some (fieldAt longFormat R levels s at) (field-by-in s at l)
       where
         some : (g : Got Field) → GotIn (FieldFrom at) (length s) g → GotIn (ThirdFrom (Scripted base) at) (length s) g
         some (got f end) h = (rules .third-is base at end f (h .0), h .1)
@@ -117,10 +118,10 @@ module _ (p : Parts) (rules : Closed p) where
     only-in at hi (symbol family code) end a h = omega arith
     only-in at hi (list l) end a h = (a, h)
 
-    list-at-in : (s : List ℕ) (at : ℕ) → at ≤ length s → GotIn (ListFrom at) (length s) (listAt R levels s at)
+    list-at-in : (s : List ℕ) (at : ℕ) → at ≤ length s → GotIn (ListFrom at) (length s) (listAt longFormat R levels s at)
     unfolding listAt
     list-at-in s at l =
-        then-in (FieldFrom at) (ListFrom at) (length s) (fieldAt R levels s at) onlyList (field-by-in s at l) (only-in at (length s))
+        then-in (FieldFrom at) (ListFrom at) (length s) (fieldAt longFormat R levels s at) onlyList (field-by-in s at l) (only-in at (length s))
 
     held-in : (only : Bool) (at hi : ℕ) (f : Field) (end : ℕ) → FieldFrom at f end → end ≤ hi → GotIn (FieldFrom at) hi (heldIn only f end)
     unfolding heldIn
@@ -129,32 +130,32 @@ module _ (p : Parts) (rules : Closed p) where
     held-in false at hi f end a h = (a, h)
 
     first-in : (s : List ℕ) (kind : Kind) → openingBytes kind ≤ length s →
-        GotIn (FieldFrom (openingBytes kind)) (length s) (firstAt R levels s kind)
+        GotIn (FieldFrom (openingBytes kind)) (length s) (firstAt longFormat R levels s kind)
     unfolding firstAt
     first-in s kind l =
         let first = openingBytes kind in
-        then-in (FieldFrom first) (FieldFrom first) (length s) (fieldAt R levels s first) _ (field-by-in s first l)
+        then-in (FieldFrom first) (FieldFrom first) (length s) (fieldAt longFormat R levels s first) _ (field-by-in s first l)
         (held-in (holdsList kind) first (length s))
 
     -- ---- an item
 
-    pub item-by-in : (s : List ℕ) → GotIn ItemTo (length s) (itemBy R levels s)
+    pub item-by-in : (s : List ℕ) → GotIn ItemTo (length s) (itemBy longFormat R levels s)
     unfolding itemBy openedBy noadAt choiceAt
     item-by-in s = go (openingOf s) (opening-fits s (openingOf s) refl)
       where
-        go : (o : Opening) → openedBytes o ≤ length s → GotIn ItemTo (length s) (openedBy R levels s o)
+        go : (o : Opening) → openedBytes o ≤ length s → GotIn ItemTo (length s) (openedBy longFormat R levels s o)
         go NoItem h = omega arith
         go (Fields kind) h =
             let n = length s in
-            then-in (FieldFrom (openingBytes kind)) ItemTo n (firstAt R levels s kind) _ (first-in s kind h) (λ x m₁ a l₁.
-            then-in (FieldFrom m₁) ItemTo n (fieldAt R levels s m₁) _ (field-by-in s m₁ l₁) (λ y m₂ b l₂.
-            then-in (ThirdFrom kind m₂) ItemTo n (thirdAt R levels s kind m₂) _ (third-in s kind m₂ l₂) (λ z m₃ c l₃.
+            then-in (FieldFrom (openingBytes kind)) ItemTo n (firstAt longFormat R levels s kind) _ (first-in s kind h) (λ x m₁ a l₁.
+            then-in (FieldFrom m₁) ItemTo n (fieldAt longFormat R levels s m₁) _ (field-by-in s m₁ l₁) (λ y m₂ b l₂.
+            then-in (ThirdFrom kind m₂) ItemTo n (thirdAt longFormat R levels s kind m₂) _ (third-in s kind m₂ l₂) (λ z m₃ c l₃.
             (rules .noad-is kind x y z m₁ m₂ m₃ a b c, l₃))))
         go (Kern n) h = (rules .kern-is (n .0), h)
         go (Restyle n) h = (rules .restyle-is n, h)
         go Choice h =
             let n = length s in
-            let list : ℕ → Got Items = listAt R levels s in
+            let list : ℕ → Got Items = listAt longFormat R levels s in
             then-in (ListFrom choiceOpeningBytes) ItemTo n (list choiceOpeningBytes) _ (list-at-in s choiceOpeningBytes h) (λ d m₁ a l₁.
             then-in (ListFrom m₁) ItemTo n (list m₁) _ (list-at-in s m₁ l₁) (λ t m₂ b l₂.
             then-in (ListFrom m₂) ItemTo n (list m₂) _ (list-at-in s m₂ l₂) (λ sc m₃ c l₃.
@@ -163,10 +164,10 @@ module _ (p : Parts) (rules : Closed p) where
 
     -- ---- a list
 
-    list-in : (s : List ℕ) → ReadIn p (length s) (listBy R levels s)
+    list-in : (s : List ℕ) → ReadIn p (length s) (listBy longFormat R levels s)
     unfolding listBy restBy before
     list-in [] = rules .nil-is
-    list-in (x ∷ s) = go (itemBy R levels (x ∷ s)) (item-by-in (x ∷ s))
+    list-in (x ∷ s) = go (itemBy longFormat R levels (x ∷ s)) (item-by-in (x ∷ s))
       where
         on : (size : ℕ) (i : Item) (r : Read) → p .OfItem size i → size ≤ length (x ∷ s) →
             ReadIn p (length (drop size (x ∷ s))) r → ReadIn p (length (x ∷ s)) (before i size r)
@@ -179,17 +180,17 @@ module _ (p : Parts) (rules : Closed p) where
         go (got i size) h = on size i (R levels (drop size (x ∷ s))) (h .0) (h .1) (ih levels (drop size (x ∷ s)))
         go (stopped why place) h = h
 
-  read-by-in : (f levels : ℕ) (s : List ℕ) → ReadIn p (length s) (readBy f levels s)
+  read-by-in : (f levels : ℕ) (s : List ℕ) → ReadIn p (length s) (readBy longFormat f levels s)
   unfolding readBy
   read-by-in zero levels s = omega arith
-  read-by-in (suc f) levels s = list-in (readBy f) (read-by-in f) levels s
+  read-by-in (suc f) levels s = list-in (readBy longFormat f) (read-by-in f) levels s
 
   pub read-in : (levels : ℕ) (s : List ℕ) → ReadIn p (length s) (read levels s)
-  unfolding read
+  unfolding readUnder
   read-in levels s = read-by-in (suc (length s)) levels s
 
-  pub field-in : (levels : ℕ) (s : List ℕ) (at : ℕ) → at ≤ length s → GotIn (FieldFrom at) (length s) (fieldAt read levels s at)
+  pub field-in : (levels : ℕ) (s : List ℕ) (at : ℕ) → at ≤ length s → GotIn (FieldFrom at) (length s) (fieldAt longFormat read levels s at)
   field-in = field-by-in read read-in
 
-  pub item-in : (levels : ℕ) (s : List ℕ) → GotIn ItemTo (length s) (itemBy read levels s)
+  pub item-in : (levels : ℕ) (s : List ℕ) → GotIn ItemTo (length s) (itemBy longFormat read levels s)
   item-in = item-by-in read read-in

@@ -1,11 +1,11 @@
 -- The reading of a formula: its tree, or its first fault in reading order with its place (document 01, "Bytes of a
 -- formula" and answers 3 and 4).
 -- A list is read with the number of levels that may still be entered below it. Places within an item count from its
--- first byte, and places within a list from the list's first byte. `R` stands for the reading of shorter lists.
+-- first byte, and places within a list from the list's first byte. `R` stands for the reading of shorter lists, `f` for the format.
 --     fieldBy      a field, by its head
 --     itemBy       an item: its opening, then its fields in order; the fields of a choice, and the first of a fence, must be lists
 --     listBy       a list: its first item, then the rest
---     read         the whole
+--     readUnder, readFormulaUnder     a list and a formula, whole; read, readFormula    in the format in use
 -- Assumes nothing.
 use mathlib.Core.Bool.{Bool, true, false}
 use mathlib.Core.List.{List, [], _∷_}
@@ -20,16 +20,17 @@ use Rattle.formula.specs.declared.FieldHead.{FieldHead}
 use Rattle.formula.specs.declared.FieldHead.the-variants.{NoField, Empty, Symbol, Sublist, CutSublist}
 use Rattle.formula.specs.declared.Fault.{Fault}
 use Rattle.formula.specs.declared.Fault.the-variants.{Unreadable, TooDeep}
+use Rattle.formula.specs.Format.{Format, longFormat}
 use Rattle.formula.specs.Tree.{Items, Item, Field, nil, cons, noad, kern, restyle, choice, empty, symbol, list, openingBytes, holdsList, kernBytes, restyleBytes, choiceOpeningBytes, symbolBytes}
-use Rattle.formula.specs.Heads.{openingOf, fieldHead}
+use Rattle.formula.specs.Heads.{openingOf, fieldHeadUnder}
 
--- ---- the numbers of the format
+-- ---- the numbers of the format in use
 
 abbrev pub formulaLimit : ℕ
-formulaLimit = 4_096
+formulaLimit = longFormat .longest
 
 abbrev pub depthLimit : ℕ
-depthLimit = 16
+depthLimit = longFormat .deepest
 
 -- ---- what reading gives
 
@@ -82,9 +83,9 @@ heldIn false f end = got f end
 
 -- ---- an item, from its first byte to the end of its list
 
-module _ (R : ℕ → List ℕ → Read) (levels : ℕ) (s : List ℕ) where
+module _ (f : Format) (R : ℕ → List ℕ → Read) (levels : ℕ) (s : List ℕ) where
   unfoldable pub fieldAt : ℕ → Got Field
-  fieldAt at = fieldBy R levels at (drop at s) (fieldHead (drop at s))
+  fieldAt at = fieldBy R levels at (drop at s) (fieldHeadUnder f (drop at s))
 
   unfoldable pub firstAt : Kind → Got Field
   firstAt kind = fieldAt (openingBytes kind) thenAt heldIn (holdsList kind)
@@ -133,18 +134,27 @@ unfoldable pub restBy : (ℕ → List ℕ → Read) → ℕ → List ℕ → Got
 restBy R levels s (got i size) = before i size (R levels (drop size s))
 restBy R levels s (stopped why place) = fault why place
 
-unfoldable pub listBy : (ℕ → List ℕ → Read) → ℕ → List ℕ → Read
-listBy R levels [] = good nil
-listBy R levels (b ∷ s) = restBy R levels (b ∷ s) (itemBy R levels (b ∷ s))
+unfoldable pub listBy : Format → (ℕ → List ℕ → Read) → ℕ → List ℕ → Read
+listBy f R levels [] = good nil
+listBy f R levels (b ∷ s) = restBy R levels (b ∷ s) (itemBy f R levels (b ∷ s))
 
 -- reading in at most n steps; with more steps than bytes their number makes no difference
-unfoldable pub readBy : ℕ → ℕ → List ℕ → Read
-readBy zero levels s = fault Unreadable 0
-readBy (suc n) levels s = listBy (readBy n) levels s
+unfoldable pub readBy : Format → ℕ → ℕ → List ℕ → Read
+readBy f zero levels s = fault Unreadable 0
+readBy f (suc n) levels s = listBy f (readBy f n) levels s
 
-unfoldable pub read : ℕ → List ℕ → Read
-read levels s = readBy (suc (length s)) levels s
+unfoldable pub readUnder : Format → ℕ → List ℕ → Read
+readUnder f levels s = readBy f (suc (length s)) levels s
 
 -- the formula itself is the first level
-unfoldable pub readFormula : List ℕ → Read
-readFormula s = elim (ltb formulaLimit (length s)) [ true ↦ fault Unreadable 0 | false ↦ read (depthLimit - 1) s ]
+unfoldable pub readFormulaUnder : Format → List ℕ → Read
+readFormulaUnder f s =
+    elim (ltb (f .longest) (length s)) [ true ↦ fault Unreadable 0 | false ↦ readUnder f (f .deepest - 1) s ]
+
+-- ---- the reading in the format in use
+
+abbrev pub read : ℕ → List ℕ → Read
+read levels s = readUnder longFormat levels s
+
+abbrev pub readFormula : List ℕ → Read
+readFormula s = readFormulaUnder longFormat s

@@ -3,12 +3,15 @@
 --                          one predicate for every kind; `item-map` changes the P
 --     field-end-in, size-fits, size-some     a field and an item lie in their list, and an item takes a byte at least
 --     item-got, got-item   `itemBy` gives an item exactly where `ItemIs` holds, and the place behind it is `itemSize`
---     read-step            the equation of `read` with no number of steps in it, from `enough`
+--     Alike, enough        under two formats, and in however many steps, parts are read alike: the same, or the first is at fault
+--     read-step            the equation of a reading with no number of steps in it
+--     read-on              what reads under a format reads to the same tree under the one in use
 --     list-good, good-list a list that is not empty reads exactly where its first item and the rest do
 --     agree                a list that reads with some number of levels reads to the same tree with any number that is
 --                          not less, or not less than the list is long
 -- Assumes nothing.
-use mathlib.Core.Path.{_≡_, refl, sym, ap, ap₂, _∙_}
+use mathlib.Core.Path.{_≡_, refl, sym, subst, ap, ap₂, _∙_}
+use mathlib.Core.Logic.{_⊎_, inl, inr, ⊎-elim, ⊎-map}
 use mathlib.Core.Bool.{Bool, true, false}
 use mathlib.Core.List.{List, [], _∷_}
 use Prim.Native.Nat.{ℕ, zero, suc, _+_, _-_, _≤_, _<_, min}
@@ -21,11 +24,12 @@ use Rattle.formula.specs.declared.Opening.the-variants.{NoItem, Fields, 
 use Rattle.formula.specs.declared.FieldHead.{FieldHead}
 use Rattle.formula.specs.declared.FieldHead.the-variants.{NoField, Empty, Symbol, Sublist, CutSublist}
 use Rattle.formula.specs.declared.Fault.{Fault}
+use Rattle.formula.specs.Format.{Format, longFormat}
 use Rattle.formula.specs.Tree.{Items, Item, Field, nil, cons, noad, kern, restyle, choice, empty, symbol, list, openingBytes, holdsList, choiceOpeningBytes}
-use Rattle.formula.specs.Heads.{openingOf, fieldHead}
-use Rattle.formula.specs.Reading.{Read, good, fault, Got, got, stopped, _thenAt_, listGot, fieldBy, onlyList, heldIn, fieldAt, firstAt, thirdAt, noadAt, listAt, choiceAt, openedBy, itemBy, before, restBy, listBy, readBy, read}
+use Rattle.formula.specs.Heads.{openingOf, fieldHeadUnder, fieldHead}
+use Rattle.formula.specs.Reading.{Read, good, fault, Got, got, stopped, _thenAt_, listGot, fieldBy, onlyList, heldIn, fieldAt, firstAt, thirdAt, noadAt, listAt, choiceAt, openedBy, itemBy, before, restBy, listBy, readBy, readUnder, read}
 use Rattle.formula.specs.Places.{headBytes, contents, choiceLists, hasThird, openedBytes, headAt, fieldEnd, second, third, thirdEnd, end, listPlace, itemSize}
-use Rattle.formula.specs.HeadLaws.{head-fits, list-opening, contents-shorter, opening-fits}
+use Rattle.formula.specs.HeadLaws.{head-fits, list-opening, opening-some, contents-shorter, head-under, list-under, opening-fits}
 
 pub by-length : (P : List ℕ → Type 0) → ((s : List ℕ) → ((r : List ℕ) → length r < length s → P r) → P s) →
     (s : List ℕ) → P s
@@ -89,7 +93,7 @@ pub head-some : (P : Says) (s : List ℕ) (h : FieldHead) (f : Field) → fieldH
 head-some P s NoField f e i = absurd i
 head-some P s Empty f e i = omega arith
 head-some P s (Symbol family code) f e i = omega arith
-head-some P s (Sublist opening n) f e i = omega (arith, list-opening s opening n e)
+head-some P s (Sublist opening n) f e i = omega (arith, list-opening s opening n e, opening-some n)
 head-some P s CutSublist f e i = absurd i
 
 module _ (P Q : Says) (s : List ℕ)
@@ -257,53 +261,53 @@ module _ (R : Reader) where
   got-field-by levels at s CutSublist f i = absurd i
 
   module _ (levels : ℕ) (s : List ℕ) where
-    field-got : (at : ℕ) (f : Field) (e : ℕ) → fieldAt R levels s at ≡ got f e →
+    field-got : (at : ℕ) (f : Field) (e : ℕ) → fieldAt longFormat R levels s at ≡ got f e →
         FieldAtIs (Below R levels) s at f × (e ≡ fieldEnd s at)
     unfolding fieldAt
     field-got at f e q = field-by-got levels at (drop at s) (headAt s at) f e q
 
-    got-field : (at : ℕ) (f : Field) → FieldAtIs (Below R levels) s at f → fieldAt R levels s at ≡ got f (fieldEnd s at)
+    got-field : (at : ℕ) (f : Field) → FieldAtIs (Below R levels) s at f → fieldAt longFormat R levels s at ≡ got f (fieldEnd s at)
     unfolding fieldAt
     got-field at f i = got-field-by levels at (drop at s) (headAt s at) f i
 
-    first-got : (kind : Kind) (f : Field) (e : ℕ) → firstAt R levels s kind ≡ got f e →
+    first-got : (kind : Kind) (f : Field) (e : ℕ) → firstAt longFormat R levels s kind ≡ got f e →
         FieldAtIs (Below R levels) s (openingBytes kind) f × (e ≡ second s kind) × IsHeld (holdsList kind) f
     unfolding firstAt
     first-got kind f e q =
-        let g = then-got (fieldAt R levels s (openingBytes kind)) _ f e q in
+        let g = then-got (fieldAt longFormat R levels s (openingBytes kind)) _ f e q in
         let h = held-got (holdsList kind) (g .0) (g .1) f e (g .3) in
         let a = field-got (openingBytes kind) f e (cc) in
         (a .0, a .1, h .2)
 
     got-first : (kind : Kind) (f : Field) → FieldAtIs (Below R levels) s (openingBytes kind) f → IsHeld (holdsList kind) f →
-        firstAt R levels s kind ≡ got f (second s kind)
+        firstAt longFormat R levels s kind ≡ got f (second s kind)
     unfolding firstAt
     got-first kind f i h =
         ap (λ (g : Got Field). g thenAt heldIn (holdsList kind)) (got-field (openingBytes kind) f i)
         ∙ got-held (holdsList kind) f (second s kind) h
 
-    third-got : (kind : Kind) (at : ℕ) (f : Field) (e : ℕ) → thirdAt R levels s kind at ≡ got f e →
+    third-got : (kind : Kind) (at : ℕ) (f : Field) (e : ℕ) → thirdAt longFormat R levels s kind at ≡ got f e →
         ThirdIs (Below R levels) s (hasThird kind) at f × (e ≡ thirdEnd s (hasThird kind) at)
     unfolding thirdAt
     third-got (Scripted base) at f e q = field-got at f e q
     third-got (Fraction bar) at f e q = ((cc), (cc))
 
     got-third : (kind : Kind) (at : ℕ) (f : Field) → ThirdIs (Below R levels) s (hasThird kind) at f →
-        thirdAt R levels s kind at ≡ got f (thirdEnd s (hasThird kind) at)
+        thirdAt longFormat R levels s kind at ≡ got f (thirdEnd s (hasThird kind) at)
     unfolding thirdAt
     got-third (Scripted base) at f i = got-field at f i
     got-third (Fraction bar) at f i = rw i
 
-    noad-got : (kind : Kind) (i : Item) (e : ℕ) → noadAt R levels s kind ≡ got i e →
+    noad-got : (kind : Kind) (i : Item) (e : ℕ) → noadAt longFormat R levels s kind ≡ got i e →
         NoadIs (Below R levels) s kind i × (e ≡ end s kind)
     unfolding noadAt
     noad-got kind i e q =
-        let g₁ = then-got (firstAt R levels s kind) _ i e q in
+        let g₁ = then-got (firstAt longFormat R levels s kind) _ i e q in
         let f₁ = first-got kind (g₁ .0) (g₁ .1) (g₁ .2) in
-        let g₂ = then-got (fieldAt R levels s (g₁ .1)) _ i e (g₁ .3) in
-        let f₂ = field-got (second s kind) (g₂ .0) (g₂ .1) (ap (fieldAt R levels s) (sym (f₁ .1)) ∙ g₂ .2) in
-        let g₃ = then-got (thirdAt R levels s kind (g₂ .1)) _ i e (g₂ .3) in
-        let f₃ = third-got kind (third s kind) (g₃ .0) (g₃ .1) (ap (thirdAt R levels s kind) (sym (f₂ .1)) ∙ g₃ .2) in (
+        let g₂ = then-got (fieldAt longFormat R levels s (g₁ .1)) _ i e (g₁ .3) in
+        let f₂ = field-got (second s kind) (g₂ .0) (g₂ .1) (ap (fieldAt longFormat R levels s) (sym (f₁ .1)) ∙ g₂ .2) in
+        let g₃ = then-got (thirdAt longFormat R levels s kind (g₂ .1)) _ i e (g₂ .3) in
+        let f₃ = third-got kind (third s kind) (g₃ .0) (g₃ .1) (ap (thirdAt longFormat R levels s kind) (sym (f₂ .1)) ∙ g₃ .2) in (
           record {
             a = g₁ .0;
             b = g₂ .0;
@@ -317,7 +321,7 @@ module _ (R : Reader) where
           (cc),
         )
 
-    got-noad : (kind : Kind) (i : Item) → NoadIs (Below R levels) s kind i → noadAt R levels s kind ≡ got i (end s kind)
+    got-noad : (kind : Kind) (i : Item) → NoadIs (Below R levels) s kind i → noadAt longFormat R levels s kind ≡ got i (end s kind)
     unfolding noadAt
     got-noad kind i h =
         let a = got-first kind (h .a) (h .a-is) (h .held) in
@@ -325,23 +329,23 @@ module _ (R : Reader) where
         let c = got-third kind (third s kind) (h .c) (h .c-is) in
         rw (a, b, c, h .is)
 
-    sublist-got : (at : ℕ) (l : Items) (e : ℕ) → listAt R levels s at ≡ got l e →
+    sublist-got : (at : ℕ) (l : Items) (e : ℕ) → listAt longFormat R levels s at ≡ got l e →
         FieldAtIs (Below R levels) s at (list l) × (e ≡ fieldEnd s at)
     unfolding listAt
     sublist-got at l e q =
-        let g = then-got (fieldAt R levels s at) onlyList l e q in
+        let g = then-got (fieldAt longFormat R levels s at) onlyList l e q in
         let o = only-got (g .0) (g .1) l e (g .3) in
         field-got at (list l) e (cc)
 
-    got-sublist : (at : ℕ) (l : Items) → FieldAtIs (Below R levels) s at (list l) → listAt R levels s at ≡ got l (fieldEnd s at)
+    got-sublist : (at : ℕ) (l : Items) → FieldAtIs (Below R levels) s at (list l) → listAt longFormat R levels s at ≡ got l (fieldEnd s at)
     unfolding listAt onlyList
     got-sublist at l i = ap (λ (g : Got Field). g thenAt onlyList) (got-field at (list l) i)
 
-    choice-got : (i : Item) (e : ℕ) → choiceAt R levels s ≡ got i e →
+    choice-got : (i : Item) (e : ℕ) → choiceAt longFormat R levels s ≡ got i e →
         ChoiceIs (Below R levels) s i × (e ≡ listPlace s choiceLists)
     unfolding choiceAt
     choice-got i e q =
-        let lists : ℕ → Got Items = listAt R levels s in
+        let lists : ℕ → Got Items = listAt longFormat R levels s in
         let g₁ = then-got (lists (listPlace s 0)) _ i e q in
         let f₁ = sublist-got (listPlace s 0) (g₁ .0) (g₁ .1) (g₁ .2) in
         let g₂ = then-got (lists (g₁ .1)) _ i e (g₁ .3) in
@@ -359,19 +363,19 @@ module _ (R : Reader) where
           (cc),
         )
 
-    got-choice : (i : Item) → ChoiceIs (Below R levels) s i → choiceAt R levels s ≡ got i (listPlace s choiceLists)
+    got-choice : (i : Item) → ChoiceIs (Below R levels) s i → choiceAt longFormat R levels s ≡ got i (listPlace s choiceLists)
     unfolding choiceAt
     got-choice i h =
-        let each : (n : ℕ) → n < choiceLists → listAt R levels s (listPlace s n) ≡ got (h .lists n) (listPlace s (suc n)) =
+        let each : (n : ℕ) → n < choiceLists → listAt longFormat R levels s (listPlace s n) ≡ got (h .lists n) (listPlace s (suc n)) =
         λ n l. got-sublist (listPlace s n) (h .lists n) (h .are n l) in
         rw (each 0 (omega arith), each 1 (omega arith), each 2 (omega arith), each 3 (omega arith), h .is)
 
-    pub item-got : (i : Item) (e : ℕ) → itemBy R levels s ≡ got i e →
+    pub item-got : (i : Item) (e : ℕ) → itemBy longFormat R levels s ≡ got i e →
         ItemIs (Below R levels) s (openingOf s) i × (e ≡ itemSize s (openingOf s))
     unfolding itemBy openedBy
     item-got i e q = go (openingOf s) q
       where
-        go : (o : Opening) → openedBy R levels s o ≡ got i e → ItemIs (Below R levels) s o i × (e ≡ itemSize s o)
+        go : (o : Opening) → openedBy longFormat R levels s o ≡ got i e → ItemIs (Below R levels) s o i × (e ≡ itemSize s o)
         go NoItem q = stopped-got q
         go (Fields kind) q = noad-got kind i e q
         go (Kern n) q = ((cc), (cc))
@@ -379,124 +383,204 @@ module _ (R : Reader) where
         go Choice q = choice-got i e q
 
     pub got-item : (i : Item) → ItemIs (Below R levels) s (openingOf s) i →
-        itemBy R levels s ≡ got i (itemSize s (openingOf s))
+        itemBy longFormat R levels s ≡ got i (itemSize s (openingOf s))
     unfolding itemBy openedBy
     got-item i h = go (openingOf s) h
       where
-        go : (o : Opening) → ItemIs (Below R levels) s o i → openedBy R levels s o ≡ got i (itemSize s o)
+        go : (o : Opening) → ItemIs (Below R levels) s o i → openedBy longFormat R levels s o ≡ got i (itemSize s o)
         go NoItem h = absurd h
         go (Fields kind) h = got-noad kind i h
         go (Kern n) h = rw h
         go (Restyle n) h = rw h
         go Choice h = got-choice i h
 
--- ---- one answer, whatever the number of steps
+-- ---- readings that are alike, part by part
 
-then-after : {A B : Type 0} (g : Got A) (k k′ : A → ℕ → Got B) → ((a : A) (m : ℕ) → k a m ≡ k′ a m) →
-    (g thenAt k) ≡ (g thenAt k′)
-then-after (got a m) k k′ h = h a m
-then-after (stopped why place) k k′ h = refl
+abbrev Stops : {A : Type 0} → Got A → Type 0
+Stops (got a m) = ⊥
+Stops (stopped why place) = Unit {0}
 
-then-same : {A B : Type 0} (g g′ : Got A) (k k′ : A → ℕ → Got B) → g ≡ g′ → ((a : A) (m : ℕ) → k a m ≡ k′ a m) →
-    (g thenAt k) ≡ (g′ thenAt k′)
-then-same g g′ k k′ e h = rw e (then-after g′ k k′ h)
+abbrev Faulty : Read → Type 0
+Faulty (good l) = ⊥
+Faulty (fault why place) = Unit {0}
 
-module _ (R R′ : Reader) (levels : ℕ) (s : List ℕ)
-    (same : (d : ℕ) (r : List ℕ) → length r < length s → R d r ≡ R′ d r) where
-  field-same : (at : ℕ) → fieldAt R levels s at ≡ fieldAt R′ levels s at
+-- the same; or else, if D, the first stops
+abbrev Alike : Type 0 → {A : Type 0} → Got A → Got A → Type 0
+Alike D g h = (g ≡ h) ⊎ (D × Stops g)
+
+abbrev ReadAlike : Type 0 → Read → Read → Type 0
+ReadAlike D x y = (x ≡ y) ⊎ (D × Faulty x)
+
+module _ (D : Type 0) where
+  then-alike : {A B : Type 0} (g h : Got A) (k j : A → ℕ → Got B) → Alike D g h → ((a : A) (m : ℕ) → Alike D (k a m) (j a m)) →
+      Alike D (g thenAt k) (h thenAt j)
+  then-alike {A} g h k j (inl e) each = subst (λ (h : Got A). Alike D (g thenAt k) (h thenAt j)) e (go g)
+    where
+      go : (g : Got A) → Alike D (g thenAt k) (g thenAt j)
+      go (got a m) = each a m
+      go (stopped why place) = inl refl
+  then-alike (got a m) h k j (inr (d, stops)) each = absurd stops
+  then-alike (stopped why place) h k j (inr (d, stops)) each = inr (d, tt)
+
+  list-got-alike : (at opening n : ℕ) (x y : Read) → ReadAlike D x y → Alike D (listGot at opening n x) (listGot at opening n y)
+  unfolding listGot
+  list-got-alike at opening n x y (inl e) = inl (ap (listGot at opening n) e)
+  list-got-alike at opening n (good l) y (inr (d, faulty)) = absurd faulty
+  list-got-alike at opening n (fault why place) y (inr (d, faulty)) = inr (d, tt)
+
+  before-alike : (i : Item) (size : ℕ) (x y : Read) → ReadAlike D x y → ReadAlike D (before i size x) (before i size y)
+  unfolding before
+  before-alike i size x y (inl e) = inl (ap (before i size) e)
+  before-alike i size (good l) y (inr (d, faulty)) = absurd faulty
+  before-alike i size (fault why place) y (inr (d, faulty)) = inr (d, tt)
+
+-- under two formats, by readers of shorter lists that are alike
+module _ (D : Type 0) (f g : Format)
+    (heads : (r : List ℕ) → (fieldHeadUnder f r ≡ fieldHeadUnder g r) ⊎ (D × (fieldHeadUnder f r ≡ NoField)))
+    (R R′ : Reader) (levels : ℕ) (s : List ℕ)
+    (alike : (d : ℕ) (r : List ℕ) → length r < length s → ReadAlike D (R d r) (R′ d r)) where
+  field-alike : (at : ℕ) → Alike D (fieldAt f R levels s at) (fieldAt g R′ levels s at)
   unfolding fieldAt fieldBy
-  field-same at = go levels (headAt s at) refl
+  field-alike at = ⊎-elim same other (heads (drop at s))
     where
-      go : (levels : ℕ) (h : FieldHead) → headAt s at ≡ h →
-          fieldBy R levels at (drop at s) h ≡ fieldBy R′ levels at (drop at s) h
-      go levels NoField e = refl
-      go levels Empty e = refl
-      go levels (Symbol family code) e = refl
-      go zero (Sublist opening n) e = refl
+      go : (levels : ℕ) (h : FieldHead) → fieldHeadUnder f (drop at s) ≡ h →
+          Alike D (fieldBy R levels at (drop at s) h) (fieldBy R′ levels at (drop at s) h)
+      go levels NoField e = inl refl
+      go levels Empty e = inl refl
+      go levels (Symbol family code) e = inl refl
+      go zero (Sublist opening n) e = inl refl
       go (suc levels) (Sublist opening n) e =
-          let k = contents-shorter (drop at s) opening n e in
-          ap (listGot at opening n) (same levels (contents opening n (drop at s)) (omega (arith, length-drop at s)))
-      go zero CutSublist e = refl
-      go (suc levels) CutSublist e = refl
+          let k = contents-shorter (drop at s) opening n (list-under f (drop at s) opening n e) in
+          list-got-alike D at opening n _ _ (alike levels (contents opening n (drop at s)) (omega (arith, length-drop at s)))
+      go zero CutSublist e = inl refl
+      go (suc levels) CutSublist e = inl refl
 
-  third-same : (kind : Kind) (at : ℕ) → thirdAt R levels s kind at ≡ thirdAt R′ levels s kind at
+      same : fieldHeadUnder f (drop at s) ≡ fieldHeadUnder g (drop at s) → Alike D (fieldAt f R levels s at) (fieldAt g R′ levels s at)
+      same e =
+          subst (λ (h : FieldHead). Alike D (fieldAt f R levels s at) (fieldBy R′ levels at (drop at s) h)) e
+          (go levels (fieldHeadUnder f (drop at s)) refl)
+
+      other : D × (fieldHeadUnder f (drop at s) ≡ NoField) → Alike D (fieldAt f R levels s at) (fieldAt g R′ levels s at)
+      other (d, e) = inr (d, subst (λ (h : FieldHead). Stops (fieldBy R levels at (drop at s) h)) (sym e) tt)
+
+  third-alike : (kind : Kind) (at : ℕ) → Alike D (thirdAt f R levels s kind at) (thirdAt g R′ levels s kind at)
   unfolding thirdAt
-  third-same (Scripted base) at = field-same at
-  third-same (Fraction bar) at = refl
+  third-alike (Scripted base) at = field-alike at
+  third-alike (Fraction bar) at = inl refl
 
-  first-same : (kind : Kind) → firstAt R levels s kind ≡ firstAt R′ levels s kind
+  first-alike : (kind : Kind) → Alike D (firstAt f R levels s kind) (firstAt g R′ levels s kind)
   unfolding firstAt
-  first-same kind = then-same _ _ _ _ (field-same (openingBytes kind)) (λ f m. refl)
+  first-alike kind = then-alike D _ _ _ _ (field-alike (openingBytes kind)) (λ x m. inl refl)
 
-  noad-same : (kind : Kind) → noadAt R levels s kind ≡ noadAt R′ levels s kind
+  noad-alike : (kind : Kind) → Alike D (noadAt f R levels s kind) (noadAt g R′ levels s kind)
   unfolding noadAt
-  noad-same kind =
-      then-same _ _ _ _ (first-same kind) (λ a m.
-      then-same _ _ _ _ (field-same m) (λ b m.
-      then-same _ _ _ _ (third-same kind m) (λ c m. refl)))
+  noad-alike kind =
+      then-alike D _ _ _ _ (first-alike kind) (λ a m.
+      then-alike D _ _ _ _ (field-alike m) (λ b m.
+      then-alike D _ _ _ _ (third-alike kind m) (λ c m. inl refl)))
 
-  list-at-same : (at : ℕ) → listAt R levels s at ≡ listAt R′ levels s at
+  list-at-alike : (at : ℕ) → Alike D (listAt f R levels s at) (listAt g R′ levels s at)
   unfolding listAt
-  list-at-same at = then-same _ _ _ _ (field-same at) (λ f m. refl)
+  list-at-alike at = then-alike D _ _ _ _ (field-alike at) (λ x m. inl refl)
 
-  choice-same : choiceAt R levels s ≡ choiceAt R′ levels s
+  choice-alike : Alike D (choiceAt f R levels s) (choiceAt g R′ levels s)
   unfolding choiceAt
-  choice-same =
-      then-same _ _ _ _ (list-at-same choiceOpeningBytes) (λ d m.
-      then-same _ _ _ _ (list-at-same m) (λ t m.
-      then-same _ _ _ _ (list-at-same m) (λ sc m.
-      then-same _ _ _ _ (list-at-same m) (λ ss m. refl))))
+  choice-alike =
+      then-alike D _ _ _ _ (list-at-alike choiceOpeningBytes) (λ d m.
+      then-alike D _ _ _ _ (list-at-alike m) (λ t m.
+      then-alike D _ _ _ _ (list-at-alike m) (λ sc m.
+      then-alike D _ _ _ _ (list-at-alike m) (λ ss m. inl refl))))
 
-  item-same : itemBy R levels s ≡ itemBy R′ levels s
+  item-alike : Alike D (itemBy f R levels s) (itemBy g R′ levels s)
   unfolding itemBy openedBy
-  item-same = go (openingOf s)
+  item-alike = go (openingOf s)
     where
-      go : (o : Opening) → openedBy R levels s o ≡ openedBy R′ levels s o
-      go NoItem = refl
-      go (Fields kind) = noad-same kind
-      go (Kern n) = refl
-      go (Restyle n) = refl
-      go Choice = choice-same
+      go : (o : Opening) → Alike D (openedBy f R levels s o) (openedBy g R′ levels s o)
+      go NoItem = inl refl
+      go (Fields kind) = noad-alike kind
+      go (Kern n) = inl refl
+      go (Restyle n) = inl refl
+      go Choice = choice-alike
 
-  rest-same : (g : Got Item) → itemBy R′ levels s ≡ g → restBy R levels s g ≡ restBy R′ levels s g
-  unfolding restBy
-  rest-same (got i size) e =
-      let is = item-got R′ levels s i size e in
-      let some = size-some (Below R′ levels) s (openingOf s) i (is .0) in
-      ap (before i size) (same levels (drop size s) (omega (arith, length-drop size s, is .1, size-fits s)))
-  rest-same (stopped why place) e = refl
+-- an item takes a byte at least, under any format
+item-some : (f : Format) (R : Reader) (levels : ℕ) (s : List ℕ) (i : Item) (size : ℕ) → itemBy f R levels s ≡ got i size →
+    (0 < size) × (size ≤ length s)
+item-some f R levels s i size e =
+    ⊎-elim
+    (λ same.
+    let is = item-got R levels s i size (sym same ∙ e) in
+    (omega (arith, size-some (Below R levels) s (openingOf s) i (is .0), is .1), omega (arith, size-fits s, is .1)))
+    (λ other. absurd (subst Stops e (other .1)))
+    (item-alike (Unit {0}) f longFormat (λ r. ⊎-map (λ e. e) (λ none. (tt, none)) (head-under f r)) R R levels s (λ d r l. inl refl))
 
-list-same : (R R′ : Reader) (levels : ℕ) (s : List ℕ) →
-    ((d : ℕ) (r : List ℕ) → length r < length s → R d r ≡ R′ d r) → listBy R levels s ≡ listBy R′ levels s
+module _ (D : Type 0) (f g : Format)
+    (heads : (r : List ℕ) → (fieldHeadUnder f r ≡ fieldHeadUnder g r) ⊎ (D × (fieldHeadUnder f r ≡ NoField))) where
+  list-alike : (R R′ : Reader) (levels : ℕ) (s : List ℕ) →
+      ((d : ℕ) (r : List ℕ) → length r < length s → ReadAlike D (R d r) (R′ d r)) →
+      ReadAlike D (listBy f R levels s) (listBy g R′ levels s)
+  unfolding listBy restBy
+  list-alike R R′ levels [] alike = inl refl
+  list-alike R R′ levels (b ∷ t) alike =
+      ⊎-elim same (λ other. stops (itemBy f R levels s) other) (item-alike D f g heads R R′ levels s alike)
+    where
+      s : List ℕ
+      s = b ∷ t
+
+      go : (i : Got Item) → itemBy f R levels s ≡ i → ReadAlike D (restBy R levels s i) (restBy R′ levels s i)
+      go (got i size) e =
+          let some = item-some f R levels s i size e in
+          before-alike D i size _ _ (alike levels (drop size s) (omega (arith, length-drop size s)))
+      go (stopped why place) e = inl refl
+
+      same : itemBy f R levels s ≡ itemBy g R′ levels s → ReadAlike D (restBy R levels s (itemBy f R levels s)) (restBy R′ levels s (itemBy g R′ levels s))
+      same e =
+          subst (λ (i : Got Item). ReadAlike D (restBy R levels s (itemBy f R levels s)) (restBy R′ levels s i)) e
+          (go (itemBy f R levels s) refl)
+
+      stops : (i : Got Item) → D × Stops i → ReadAlike D (restBy R levels s i) (restBy R′ levels s (itemBy g R′ levels s))
+      stops (got i size) (d, none) = absurd none
+      stops (stopped why place) (d, none) = inr (d, tt)
+
+  -- with more steps than bytes their number makes no difference
+  enough : (m n levels : ℕ) (s : List ℕ) → length s < m → length s < n → ReadAlike D (readBy f m levels s) (readBy g n levels s)
+  unfolding readBy
+  enough zero n levels s h k = absurd (omega arith)
+  enough (suc m) zero levels s h k = absurd (omega arith)
+  enough (suc m) (suc n) levels s h k =
+      list-alike (readBy f m) (readBy g n) levels s (λ d r l. enough m n d r (omega arith) (omega arith))
+
+-- ---- the equation of a reading, with no number of steps in it
+
+always : {x y : Read} → ReadAlike ⊥ x y → x ≡ y
+always (inl e) = e
+always (inr (none, faulty)) = absurd none
+
+pub read-step : (f : Format) (levels : ℕ) (s : List ℕ) → readUnder f levels s ≡ listBy f (readUnder f) levels s
+unfolding readUnder readBy
+read-step f levels s =
+    always (list-alike ⊥ f f (λ r. inl refl) (readBy f (length s)) (readUnder f) levels s
+    (λ d r l. enough ⊥ f f (λ r. inl refl) (length s) (suc (length r)) d r l (omega arith)))
+
+pub read-none : (f : Format) (levels : ℕ) (s : List ℕ) → length s ≡ 0 → readUnder f levels s ≡ good nil
 unfolding listBy
-list-same R R′ levels [] same = refl
-list-same R R′ levels (b ∷ s) same =
-    ap (restBy R levels (b ∷ s)) (item-same R R′ levels (b ∷ s) same) ∙ rest-same R R′ levels (b ∷ s) same _ refl
+read-none f levels [] h = read-step f levels []
+read-none f levels (b ∷ s) h = absurd (omega arith)
 
--- with more steps than bytes their number makes no difference
-pub enough : (f g levels : ℕ) (s : List ℕ) → length s < f → length s < g → readBy f levels s ≡ readBy g levels s
-unfolding readBy
-enough zero g levels s h k = absurd (omega arith)
-enough (suc f) zero levels s h k = absurd (omega arith)
-enough (suc f) (suc g) levels s h k =
-    list-same (readBy f) (readBy g) levels s (λ d r l. enough f g d r (omega arith) (omega arith))
+pub read-some : (f : Format) (levels : ℕ) (s : List ℕ) → 0 < length s →
+    readUnder f levels s ≡ restBy (readUnder f) levels s (itemBy f (readUnder f) levels s)
+unfolding listBy
+read-some f levels [] h = absurd (omega arith)
+read-some f levels (b ∷ s) h = read-step f levels (b ∷ s)
 
-pub read-step : (levels : ℕ) (s : List ℕ) → read levels s ≡ listBy read levels s
-unfolding read readBy
-read-step levels s =
-    list-same (readBy (length s)) read levels s (λ d r l. enough (length s) (suc (length r)) d r l (omega arith))
+-- what reads under a format reads to the same tree under the one in use
+pub read-on : (f : Format) (levels : ℕ) (s : List ℕ) (l : Items) → readUnder f levels s ≡ good l → read levels s ≡ good l
+unfolding readUnder
+read-on f levels s l e =
+    let n = suc (length s) in
+    ⊎-elim (λ same. sym same ∙ e) (λ other. absurd (subst Faulty e (other .1)))
+    (enough (Unit {0}) f longFormat (λ r. ⊎-map (λ e. e) (λ none. (tt, none)) (head-under f r)) n n levels s (omega arith) (omega arith))
 
 -- ---- a list that is not empty
-
-pub read-none : (levels : ℕ) (s : List ℕ) → length s ≡ 0 → read levels s ≡ good nil
-unfolding listBy
-read-none levels [] h = read-step levels []
-read-none levels (b ∷ s) h = absurd (omega arith)
-
-pub read-some : (levels : ℕ) (s : List ℕ) → 0 < length s → read levels s ≡ restBy read levels s (itemBy read levels s)
-unfolding listBy
-read-some levels [] h = absurd (omega arith)
-read-some levels (b ∷ s) h = read-step levels (b ∷ s)
 
 -- the items of a list that is not empty: the first, and those of the rest
 pub record ListIs (levels : ℕ) (s : List ℕ) (l : Items) : Type 0 where
@@ -514,9 +598,9 @@ before-good i size (fault why place) l e = fault-good e
 
 pub list-good : (levels : ℕ) (s : List ℕ) (l : Items) → 0 < length s → read levels s ≡ good l → ListIs levels s l
 unfolding restBy
-list-good levels s l pos e = go (itemBy read levels s) refl (sym (read-some levels s pos) ∙ e)
+list-good levels s l pos e = go (itemBy longFormat read levels s) refl (sym (read-some longFormat levels s pos) ∙ e)
   where
-    go : (g : Got Item) → itemBy read levels s ≡ g → restBy read levels s g ≡ good l → ListIs levels s l
+    go : (g : Got Item) → itemBy longFormat read levels s ≡ g → restBy read levels s g ≡ good l → ListIs levels s l
     go (got i size) q e =
         let is = item-got read levels s i size q in
         let b = before-good i size (read levels (drop size s)) l e in
@@ -532,7 +616,7 @@ list-good levels s l pos e = go (itemBy read levels s) refl (sym (read-some leve
 pub good-list : (levels : ℕ) (s : List ℕ) (l : Items) → 0 < length s → ListIs levels s l → read levels s ≡ good l
 unfolding restBy before
 good-list levels s l pos h =
-    read-some levels s pos
+    read-some longFormat levels s pos
     ∙ ap (restBy read levels s) (got-item read levels s (h .first) (h .first-is))
     ∙ ap (before (h .first) (itemSize s (openingOf s))) (h .others-are)
     ∙ ap good (sym (h .is))
@@ -553,7 +637,7 @@ agree-step s ih d e l q h = go (length s) refl
     below (suc d) (suc e) h r l k b = ih r k d e l b (omega arith)
 
     go : (n : ℕ) → length s ≡ n → read e s ≡ good l
-    go zero z = read-none e s z ∙ sym (read-none d s z) ∙ q
+    go zero z = read-none longFormat e s z ∙ sym (read-none longFormat d s z) ∙ q
     go (suc n) z =
         let g = list-good d s l (omega arith) q in
         let o = openingOf s in

@@ -6,6 +6,7 @@
 -- Assumes nothing.
 use mathlib.Core.Bool.{Bool, true, false}
 use Prim.Native.Nat.{ℕ, _+_}
+use lib.Dec.{leb}
 use lib.IntN.{ℤ}
 use Rattle.formula.specs.declared.Base.{Base}
 use Rattle.formula.specs.declared.Base.the-variants.{Atom, Over, Under, Root, Fence}
@@ -68,13 +69,23 @@ choiceOpeningBytes = 2
 abbrev pub symbolBytes : ℕ
 symbolBytes = 3
 
--- kind byte and a two-byte length
-abbrev pub listOpeningBytes : ℕ
-listOpeningBytes = 3
+-- the greatest length that two bytes hold
+abbrev pub greatestShort : ℕ
+greatestShort = 65_535
 
--- of n bytes of items
+-- kind byte and a two-byte length; kind byte and a four-byte length
+abbrev pub shortOpeningBytes : ℕ
+shortOpeningBytes = 3
+
+abbrev pub longOpeningBytes : ℕ
+longOpeningBytes = 5
+
+-- of n bytes of items: four bytes are for the lengths that two do not hold, so that a list is written in one way
+unfoldable pub listOpeningBytes : ℕ → ℕ
+listOpeningBytes n = elim (leb n greatestShort) [ true ↦ shortOpeningBytes | false ↦ longOpeningBytes ]
+
 abbrev pub sublistBytes : ℕ → ℕ
-sublistBytes n = listOpeningBytes + n
+sublistBytes n = listOpeningBytes n + n
 
 -- a fraction has no third field
 abbrev pub thirdBytes : Kind → ℕ → ℕ

@@ -2,13 +2,14 @@
 
 ghost use mathlib.Core.Path.{_≡_};
 ghost use mathlib.Core.Bool.{_&&_};
+ghost use mathlib.Core.List.{_∷_};
 ghost use mathlib.Core.Option.{some};
 ghost use Prim.Native.Nat.{_+_, _*_, _^_, _<_, _≤_};
 ghost use lib.Dec.{eqb};
 ghost use lib.ListN.{length, getElem?};
-ghost use Rattle.formula.specs.Tree.{baseBytes, openingBytes, baseHoldsList, holdsList};
+ghost use Rattle.formula.specs.Tree.{baseBytes, openingBytes, baseHoldsList, holdsList, greatestShort};
 ghost use Rattle.formula.specs.Marks.{markOf};
-ghost use Rattle.formula.specs.Heads.{classes, limitKinds, isOp, isDisplayOnly, atomOf, atomOpening, fractionOpening, kernWithin, kernOpening, styleOpening, goodDelimiter, rootOf, rootOpening, fenceOf, fenceOpening, opens, openingOf, symbolHead, listHead, fieldHead, isEmpty, isList};
+ghost use Rattle.formula.specs.Heads.{classes, limitKinds, isOp, isDisplayOnly, atomOf, atomOpening, fractionOpening, kernWithin, kernOpening, styleOpening, goodDelimiter, rootOf, rootOpening, fenceOf, fenceOpening, opens, openingOf, symbolHead, fieldHead, isEmpty, isList};
 ghost use Rattle.formula.specs.declared.Opening.the-variants.{Fields, Choice};
 ghost use Rattle.formula.specs.Places.{headBytes, hasThird, fieldEnd, end, listPlace};
 ghost use Rattle.formula.specs.Slices.{delimiterAt};
@@ -50,8 +51,10 @@ const SYMBOL_KIND: u8 = 1;
 
 const LIST_KIND: u8 = 2;
 
-// A list's kind byte and its length.
-const LIST_OPENING_BYTES: usize = 3;
+const LONG_LIST_KIND: u8 = 3;
+
+// The greatest length of two bytes. A list has four only for a greater one.
+const GREATEST_SHORT: usize = 65_535;
 
 // The letters of the marks, and the marks in the same order; most items are atoms.
 const LETTERS: [[u8; 2]; 9] = [
@@ -375,7 +378,7 @@ fn is_good_delimiter(d: Delimiter) -> bool
 
 // The number that two bytes make, the least significant first.
 fn short(a: u8, b: u8) -> usize
-    ensures { λ r. ⌜ r ≡ a + 256 * b ⌝ }
+    ensures { λ r. ⌜ (r ≡ a + 256 * b) × (r ≤ greatestShort) ⌝ }
 {
     (a as usize) + (b as usize) * 256
 }
@@ -395,10 +398,7 @@ pub fn field_head(s: &[u8]) -> FieldHead
     if kind == SYMBOL_KIND {
         return symbol_head(rest);
     }
-    if kind == LIST_KIND {
-        return list_head(rest);
-    }
-    FieldHead::NoField
+    list_head(kind, rest)
 }
 
 // Whether the field whose kind byte is the first of s says that it is empty.
@@ -418,7 +418,8 @@ pub fn is_list(s: &[u8]) -> bool
     if s.len() == 0 {
         return false;
     }
-    s[0] == LIST_KIND
+    let kind = s[0];
+    (kind == LIST_KIND) | (kind == LONG_LIST_KIND)
 }
 
 // How many bytes a field has, by its head.
@@ -483,15 +484,33 @@ fn symbol_head(s: &[u8]) -> FieldHead
     FieldHead::Symbol(family, s[1])
 }
 
-fn list_head(s: &[u8]) -> FieldHead
-    ensures { λ r. ⌜ r ≡ listHead (now (s .entry)) ⌝ }
+// What a field says that is neither empty nor a symbol; s stands behind its kind byte.
+fn list_head(kind: u8, s: &[u8]) -> FieldHead
+    requires { ⌜ 1 < kind ⌝ }
+    ensures { λ r. ⌜ r ≡ fieldHead (kind ∷ now (s .entry)) ⌝ }
 {
-    if s.len() < 2 {
+    if kind > LONG_LIST_KIND {
+        return FieldHead::NoField;
+    }
+    let bytes = length_bytes(kind);
+    if s.len() < bytes {
         return FieldHead::CutSublist;
     }
-    let n = short(s[0], s[1]);
-    if n > s.len() - 2 {
+    let mut n = short(s[0], s[1]);
+    if kind == LONG_LIST_KIND {
+        n = words::word(s, 0) as usize;
+        if n <= GREATEST_SHORT {
+            return FieldHead::CutSublist;
+        }
+    }
+    if n > s.len() - bytes {
         return FieldHead::CutSublist;
     }
-    FieldHead::Sublist(LIST_OPENING_BYTES, n)
+    FieldHead::Sublist(1 + bytes, n)
+}
+
+fn length_bytes(kind: u8) -> usize
+    ensures { λ r. ⌜ (kind ≡ 3 → r ≡ 4) × ((kind ≡ 3 → ⊥) → r ≡ 2) ⌝ }
+{
+    if kind == LONG_LIST_KIND { 4 } else { 2 }
 }

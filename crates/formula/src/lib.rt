@@ -82,7 +82,7 @@ pub enum Opening {
 }
 
 // What a field says at its kind byte. A list has the number of bytes before its items and that of its items, or its
-// length is cut off or passes the end.
+// length is cut off, passes the end, or is too short for its kind.
 pub enum FieldHead {
     NoField,
     Empty,

@@ -4,6 +4,7 @@ ghost use mathlib.Core.Path.{_≡_};
 ghost use Prim.Native.Nat.{_≤_};
 ghost use lib.ListN.{length};
 ghost use Rattle.formula.specs.declared.Opening.the-variants.{Fields, Choice};
+ghost use Rattle.formula.specs.Format.{longFormat};
 ghost use Rattle.formula.specs.Heads.{openingOf};
 ghost use Rattle.formula.specs.Reading.{_thenAt_, heldIn, fieldAt, noadAt, choiceAt, itemBy, read, readFormula};
 ghost use Rattle.formula.specs.Values.{told, partReadOf};
@@ -24,9 +25,9 @@ use crate::heads::is_list;
 use crate::heads::opening;
 use crate::heads::opening_bytes;
 
-const FORMULA_LIMIT: usize = 4_096;
+const FORMULA_LIMIT: usize = 131_072;
 
-const DEPTH_LIMIT: usize = 16;
+const DEPTH_LIMIT: usize = 32;
 
 // The formula itself is the first level.
 pub fn read_formula(s: &[u8]) -> Verdict
@@ -59,7 +60,7 @@ pub fn read_list(s: &[u8], levels: usize) -> Verdict
 
 // Reads the item whose first byte is the first of s, which goes to the end of its list.
 fn read_item(s: &[u8], levels: usize) -> PartRead
-    ensures { λ r. ⌜ r ≡ partReadOf (itemBy read levels (now (s .entry))) ⌝ }
+    ensures { λ r. ⌜ r ≡ partReadOf (itemBy longFormat read levels (now (s .entry))) ⌝ }
 {
     let o = opening(s);
     match o {
@@ -74,7 +75,7 @@ fn read_item(s: &[u8], levels: usize) -> PartRead
 // Reads the fields of an item of a kind, in order.
 fn read_noad(s: &[u8], kind: Kind, levels: usize) -> PartRead
     requires { ⌜ openingOf (now s) ≡ Fields kind ⌝ }
-    ensures { λ r. ⌜ r ≡ partReadOf (noadAt read levels (now (s .entry)) kind) ⌝ }
+    ensures { λ r. ⌜ r ≡ partReadOf (noadAt longFormat read levels (now (s .entry)) kind) ⌝ }
 {
     let a = read_held(s, opening_bytes(kind), holds_list(kind), levels);
     let PartRead::Next(second) = a else {
@@ -93,7 +94,7 @@ fn read_noad(s: &[u8], kind: Kind, levels: usize) -> PartRead
 // Reads the lists of a choice, one behind the other.
 fn read_choice(s: &[u8], levels: usize) -> PartRead
     requires { ⌜ openingOf (now s) ≡ Choice ⌝ }
-    ensures { λ r. ⌜ r ≡ partReadOf (choiceAt read levels (now (s .entry))) ⌝ }
+    ensures { λ r. ⌜ r ≡ partReadOf (choiceAt longFormat read levels (now (s .entry))) ⌝ }
 {
     let mut at = CHOICE_OPENING_BYTES;
     let mut left = CHOICE_LISTS;
@@ -111,7 +112,7 @@ fn read_choice(s: &[u8], levels: usize) -> PartRead
 // Reads a field, which must be a list if `listed`; that it is one is judged before its depth.
 fn read_held(s: &[u8], at: usize, listed: bool, levels: usize) -> PartRead
     requires { ⌜ at ≤ length (now s) ⌝ }
-    ensures { λ r. ⌜ r ≡ partReadOf (fieldAt read levels (now (s .entry)) at thenAt heldIn listed) ⌝ }
+    ensures { λ r. ⌜ r ≡ partReadOf (fieldAt longFormat read levels (now (s .entry)) at thenAt heldIn listed) ⌝ }
 {
     if listed & !is_list(&s[at..]) {
         return PartRead::Stop(Fault::Unreadable, 0);
@@ -122,7 +123,7 @@ fn read_held(s: &[u8], at: usize, listed: bool, levels: usize) -> PartRead
 // Reads the field whose kind byte stands at `at` of its item.
 fn read_field(s: &[u8], at: usize, levels: usize) -> PartRead
     requires { ⌜ at ≤ length (now s) ⌝ }
-    ensures { λ r. ⌜ r ≡ partReadOf (fieldAt read levels (now (s .entry)) at) ⌝ }
+    ensures { λ r. ⌜ r ≡ partReadOf (fieldAt longFormat read levels (now (s .entry)) at) ⌝ }
 {
     let h = field_head(&s[at..]);
     match h {

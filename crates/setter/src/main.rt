@@ -6,6 +6,9 @@ use font::INDEX_WORDS;
 use layout::Answer;
 use libc::STDIN_FILENO;
 
+// The longest formula that the program takes. The library takes longer ones.
+const LONGEST: usize = 4_096;
+
 // One byte more than the longest table, ours and a client's, and one more than a style and the longest formula, so that a longer one is
 // seen.
 const TABLE_SPACE: usize = 47_531;
@@ -63,7 +66,7 @@ fn show<'a>(table: &'a [u8], client: &'a [u8], input: &[u8]) {
     let mut nodes = [0u8; NODE_SPACE];
     let mut index = [0u64; INDEX_WORDS];
     let mut client_index = [0u64; INDEX_WORDS];
-    let answer = layout::set(
+    let answer = answer_to(
         input[0],
         table,
         client,
@@ -73,4 +76,25 @@ fn show<'a>(table: &'a [u8], client: &'a [u8], input: &[u8]) {
         &mut client_index,
     );
     listing::write_answer(answer, &nodes);
+}
+
+// The answer of setting, where a formula over the program's limit is unreadable at its first byte. What is tested before a formula is read
+// is what refuses the empty one.
+fn answer_to<'a>(
+    style: u8,
+    table: &'a [u8],
+    client: &'a [u8],
+    formula: &[u8],
+    nodes: &mut [u8],
+    index: &mut [u64],
+    client_index: &mut [u64],
+) -> Answer {
+    if formula.len() <= LONGEST {
+        return layout::set(style, table, client, formula, nodes, index, client_index);
+    }
+    let tested = layout::measure(style, table, client, &formula[..0], index, client_index);
+    match tested {
+        Answer::Accepted(_, _) => Answer::Unreadable(0),
+        _ => tested,
+    }
 }

@@ -31,7 +31,7 @@ use Rattle.formula.specs.declared.Kind.{Kind}
 use Rattle.formula.specs.declared.Kind.the-variants.{Scripted}
 use Rattle.formula.specs.declared.Limits.the-variants.{DisplayOnly}
 use Rattle.formula.specs.Heads.{delimiter}
-use Rattle.formula.specs.Tree.{Items, Item, nil, cons, noad, kern, restyle, choice, empty, symbol, itemsBytes, itemBytes, fieldBytes}
+use Rattle.formula.specs.Tree.{Items, Item, nil, cons, noad, kern, restyle, choice, empty, symbol, listOpeningBytes, itemsBytes, itemBytes, fieldBytes}
 use Rattle.boxes.specs.declared.styles.Level.the-variants.{Display, Text, Script}
 use Rattle.boxes.specs.declared.styles.Style.{Style}
 use Rattle.boxes.specs.Styles.{plain, styleOf}
@@ -114,7 +114,7 @@ missing-in-taken :
     ∷ missingItems bareFont (plain Text) (cons (choice nil lacking nil nil) nil)
     ∷ []
     ≡ none ∷ some 12 ∷ []
-unfolding missingItems missingItem missingField later absentAt symbolIn enlarged found itemsBytes itemBytes fieldBytes
+unfolding missingItems missingItem missingField later absentAt symbolIn enlarged found listOpeningBytes itemsBytes itemBytes fieldBytes
 missing-in-taken = refl
 
 -- n kerns, each as wide as can be

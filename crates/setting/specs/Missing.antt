@@ -47,11 +47,11 @@ unfoldable mutual
       let second = choiceOpeningBytes + sublistBytes (itemsBytes d) in
       let third = second + sublistBytes (itemsBytes t) in
       let fourth = third + sublistBytes (itemsBytes sc) in
-      later (taken s choiceOpeningBytes second third fourth + listOpeningBytes)
+      later (taken s choiceOpeningBytes second third fourth + listOpeningBytes (itemsBytes (taken s d t sc ss)))
       (taken s (missingItems F s d) (missingItems F s t) (missingItems F s sc) (missingItems F s ss))
 
   -- a field whose kind byte stands at a place of its item
   pub missingField : Font → Style → Manner → ℕ → Field → Option ℕ
   missingField F s manner at empty = none
   missingField F s manner at (symbol family code) = absentAt at (symbolIn F (fontSize s) (isEnlarged manner) family code)
-  missingField F s manner at (list l) = later (at + listOpeningBytes) (missingItems F s l)
+  missingField F s manner at (list l) = later (at + listOpeningBytes (itemsBytes l)) (missingItems F s l)

@@ -7,7 +7,7 @@
 --                    their lists; every formula with a list field that is set is one in this way
 --     styleAt s p    the style that the rules give the list at p, from the style current at the item that holds it
 --     sidesAt s p    the neighbours that it sees on its sides, though they are not in it: those of a fence, or none
---     placeOf s p    the place of that list's first item in the bytes of the formula
+--     placeOf s p l  the place of that list's first item in the bytes of the formula, which depends on how long the lists around it are
 -- An item's kind goes along as it is: no function here looks at it but through the rules' own.
 -- Assumes nothing.
 use Prim.Native.Nat.{ℕ, _+_}
@@ -91,12 +91,12 @@ abbrev pub itemsAfter : Spot → Items
 itemsAfter (among before after) = after
 itemsAfter (within before a b c spot after) = join (itemsAfter spot) after
 
--- the place of the item
-abbrev pub spotPlace : Style → Spot → ℕ
-spotPlace s (among before after) = itemsBytes before
-spotPlace s (within before a b c spot after) =
+-- the place of the item, behind the opening of every list that it is in
+abbrev pub spotPlace : Style → Spot → Item → ℕ
+spotPlace s (among before after) i = itemsBytes before
+spotPlace s (within before a b c spot after) i =
     let t = styleAfter s before in
-    itemsBytes before + (listPlace (t .level) a b c + listOpeningBytes) + spotPlace t spot
+    itemsBytes before + (listPlace (t .level) a b c + listOpeningBytes (itemsBytes (put t spot i))) + spotPlace t spot i
 
 -- ---- from a list into a field of one of its items
 
@@ -121,8 +121,9 @@ stepStyle s t = fieldStyle (t .kind) (t .arm) (itemStyle s t)
 abbrev pub stepSides : Style → Step → Sides
 stepSides s t = sidesOf (fieldManner (t .kind) (t .arm) (itemStyle s t))
 
-abbrev pub stepPlace : Style → Step → ℕ
-stepPlace s t = spotPlace s (t .spot) + (fieldPlace (t .kind) (t .arm) + listOpeningBytes)
+-- the place of the list's first item
+abbrev pub stepPlace : Style → Step → Items → ℕ
+stepPlace s t l = spotPlace s (t .spot) (holder t l) + (fieldPlace (t .kind) (t .arm) + listOpeningBytes (itemsBytes l))
 
 -- ---- from a formula to a list within it, at any depth
 
@@ -142,6 +143,6 @@ abbrev pub fill : Style → Path → Items → Items
 fill s whole l = l
 fill s (into p t) l = fill s p (listWith (styleAt s p) t l)
 
-abbrev pub placeOf : Style → Path → ℕ
-placeOf s whole = 0
-placeOf s (into p t) = placeOf s p + stepPlace (styleAt s p) t
+abbrev pub placeOf : Style → Path → Items → ℕ
+placeOf s whole l = 0
+placeOf s (into p t) l = placeOf s p (listWith (styleAt s p) t l) + stepPlace (styleAt s p) t l

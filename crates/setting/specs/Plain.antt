@@ -11,7 +11,7 @@ use mathlib.Core.Option.{Option, none, some}
 use Prim.Native.Nat.{ℕ, _+_}
 use Rattle.font.specs.Font.{Font}
 use Rattle.formula.specs.declared.Class.{Class}
-use Rattle.formula.specs.Tree.{Items, Item, Field, nil, cons, noad, kern, restyle, choice, empty, symbol, list, openingBytes, holdsList, listOpeningBytes, itemBytes, fieldBytes}
+use Rattle.formula.specs.Tree.{Items, Item, Field, nil, cons, noad, kern, restyle, choice, empty, symbol, list, openingBytes, holdsList, listOpeningBytes, itemsBytes, itemBytes, fieldBytes}
 use Rattle.boxes.specs.declared.styles.Style.{Style}
 use Rattle.boxes.specs.Styles.{fontSize}
 use Rattle.spacing.specs.Classes.{Neighbour, classOf, changedClass}
@@ -111,7 +111,7 @@ unfoldable mutual
   pub missingPlainField : Font → Style → Bool → ℕ → Field → Option ℕ
   missingPlainField F s enlarge at empty = none
   missingPlainField F s enlarge at (symbol family code) = absentAt at (symbolIn F (fontSize s) enlarge family code)
-  missingPlainField F s enlarge at (list l) = later (at + listOpeningBytes) (missingPlain F s l)
+  missingPlainField F s enlarge at (list l) = later (at + listOpeningBytes (itemsBytes l)) (missingPlain F s l)
 
 -- ---- what fits
 
@@ -212,7 +212,7 @@ module _ (F : Font) where
         missingField F s manner at f ≡ missingPlainField F s (isEnlarged manner) at f
     missing-field s manner at empty h = refl
     missing-field s manner at (symbol family code) h = refl
-    missing-field s manner at (list l) h = ap (later (at + listOpeningBytes)) (missing-as-before s l h)
+    missing-field s manner at (list l) h = ap (later (at + listOpeningBytes (itemsBytes l))) (missing-as-before s l h)
 
   mutual
     unfolding Plain PlainItem PlainField itemsFit itemFits fieldFits plainItemsFit plainItemFits plainFieldFits

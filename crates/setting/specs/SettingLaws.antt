@@ -101,7 +101,8 @@ pub missingItem-choice : (F : Font) (s : Style) (d t sc ss : Items) →
     let third = second + sublistBytes (itemsBytes t) in
     let fourth = third + sublistBytes (itemsBytes sc) in
     missingItem F s (choice d t sc ss)
-    ≡ later (taken s choiceOpeningBytes second third fourth + listOpeningBytes) (missingItems F s (taken s d t sc ss))
+    ≡ later (taken s choiceOpeningBytes second third fourth + listOpeningBytes (itemsBytes (taken s d t sc ss)))
+    (missingItems F s (taken s d t sc ss))
 unfolding missingItem
 missingItem-choice F s d t sc ss = ap (later _) (sym (taken-all (missingItems F s) s refl refl refl refl))
 

@@ -1,93 +1,105 @@
-// Runs test cases through the library and writes what the thin program would write for each.
+// Runs test cases through the library and writes what the thin program would write for each, with the library's own limit on a
+// formula's length.
 // cases.bin: 'T' or 'C', a four-byte length and a table of ours or of a client's, which holds from there on, the client's being empty at
-// first; 'F', a style, a two-byte length and a formula.
+// first; 'F', a style, a two-byte length and a formula; 'L', a style, a four-byte length and a formula.
 
 ghost use Prim.Native.Nat.{_≤_};
+ghost use lib.ListN.{length};
 use font::INDEX_WORDS;
 
-const CASES_SPACE: usize = 512_000;
+// A case that is longer is cut.
+const TABLE_SPACE: usize = 50_000;
+
+const CLIENT_SPACE: usize = 12_000;
+
+const FORMULA_SPACE: usize = 131_100;
 
 const NODE_SPACE: usize = 131_072;
 
+const MOST_CASES: usize = 100_000;
+
 fn main() {
-    let mut cases = [0u8; CASES_SPACE];
     let fd = os::open_read(b"cases.bin");
     if fd < 0 {
         os::fail(b"cases.bin");
         return;
     }
-    let size = io::read_full(fd, &mut cases);
+    let mut table = [0u8; TABLE_SPACE];
+    let mut client = [0u8; CLIENT_SPACE];
+    let mut formula = [0u8; FORMULA_SPACE];
+    run(fd, &mut table, &mut client, &mut formula);
     libc::close(fd);
-    run(&cases[..size]);
 }
 
-// Goes from case to case; what is cut off ends the run.
-fn run(cases: &[u8]) {
-    let mut table: usize = 0;
-    let mut table_end: usize = 0;
-    let mut client: usize = 0;
-    let mut client_end: usize = 0;
-    let mut at: usize = 0;
-    while 4 <= cases.len() - at {
-        let rest = &cases[at..];
-        let size = size_at(rest);
-        let opening = opening_at(rest);
-        if cases.len() - at < opening {
-            return;
-        }
-        let start = at + opening;
-        if cases.len() - start < size {
-            return;
-        }
-        let end = start + size;
-        if cases[at] == b'T' {
-            table = start;
-            table_end = end;
-        } else if cases[at] == b'C' {
-            client = start;
-            client_end = end;
+// Goes from case to case; the buffers hold the tables and the formula.
+fn run(fd: i32, table: &mut [u8], client: &mut [u8], formula: &mut [u8]) {
+    let mut ours: usize = 0;
+    let mut theirs: usize = 0;
+    let mut left = MOST_CASES;
+    while left > 0 {
+        left -= 1;
+        let letter = read_byte(fd);
+        if letter == b'T' {
+            ours = read_long(fd, table);
+        } else if letter == b'C' {
+            theirs = read_long(fd, client);
+        } else if is_formula(letter) {
+            let style = read_byte(fd);
+            let size = read_formula(fd, letter, formula);
+            show(style, &table[..ours], &client[..theirs], &formula[..size]);
         } else {
-            show(
-                cases[at + 1],
-                &cases[table..table_end],
-                &cases[client..client_end],
-                &cases[start..end],
-            );
+            return;
         }
-        at = end;
     }
 }
 
-fn is_table(letter: u8) -> bool {
-    if letter == b'T' {
-        return true;
-    }
-    letter == b'C'
+fn is_formula(letter: u8) -> bool {
+    (letter == b'F') | (letter == b'L')
 }
 
-// The bytes before a table or a formula.
-fn opening_at(s: &[u8]) -> usize
-    ensures { λ r. ⌜ (4 ≤ r) × (r ≤ 5) ⌝ }
+// The next byte, or 0 where there is none.
+fn read_byte(fd: i32) -> u8 {
+    let mut byte = [0u8; 1];
+    io::read_full(fd, &mut byte);
+    byte[0]
+}
+
+fn read_formula(fd: i32, letter: u8, buffer: &mut [u8]) -> usize
+    ensures { λ r. ⌜ r ≤ length (now (buffer .exit)) ⌝ }
 {
-    if 0 < s.len() {
-        if is_table(s[0]) {
-            return 5;
-        }
+    if letter == b'F' {
+        return read_short(fd, buffer);
     }
-    4
+    read_long(fd, buffer)
 }
 
-// The length of the table or the formula at the front; of one that is cut off any number.
-fn size_at(s: &[u8]) -> usize {
-    if 5 <= s.len() {
-        if is_table(s[0]) {
-            return words::word(s, 1) as usize;
-        }
+// Reads bytes behind a length of two bytes, or of four, to the front of a buffer.
+fn read_short(fd: i32, buffer: &mut [u8]) -> usize
+    ensures { λ r. ⌜ r ≤ length (now (buffer .exit)) ⌝ }
+{
+    let a = read_byte(fd);
+    let b = read_byte(fd);
+    read_front(fd, words::of_bytes(a, b, 0, 0), buffer)
+}
+
+fn read_long(fd: i32, buffer: &mut [u8]) -> usize
+    ensures { λ r. ⌜ r ≤ length (now (buffer .exit)) ⌝ }
+{
+    let a = read_byte(fd);
+    let b = read_byte(fd);
+    let c = read_byte(fd);
+    let d = read_byte(fd);
+    read_front(fd, words::of_bytes(a, b, c, d), buffer)
+}
+
+fn read_front(fd: i32, size: u32, buffer: &mut [u8]) -> usize
+    ensures { λ r. ⌜ r ≤ length (now (buffer .exit)) ⌝ }
+{
+    let end = size as usize;
+    if end < buffer.len() {
+        return io::read_full(fd, &mut buffer[..end]);
     }
-    if 4 <= s.len() {
-        return words::of_bytes(s[2], s[3], 0, 0) as usize;
-    }
-    0
+    io::read_full(fd, buffer)
 }
 
 fn show<'a>(style: u8, table: &'a [u8], client: &'a [u8], formula: &[u8]) {

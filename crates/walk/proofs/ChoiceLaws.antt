@@ -22,7 +22,7 @@ use Rattle.formula.specs.Heads.{openingOf, fieldHead}
 use Rattle.formula.specs.Places.{treeOf, headBytes, contents, listOf, GoodList, choiceLists, headAt, fieldEnd, listPlace, listIn, itemOf}
 use Rattle.formula.specs.Slices.{tail-part, field-part}
 use Rattle.formula.specs.HeadLaws.{head-fits, list-opening, contents-shorter}
-use Rattle.formula.specs.PlacesLaws.{Chosen, list-bytes}
+use Rattle.formula.specs.PlacesLaws.{Chosen, items-bytes, list-bytes}
 use Rattle.font.specs.Font.{Font}
 use Rattle.boxes.specs.declared.styles.Level.{Level}
 use Rattle.boxes.specs.declared.styles.Level.the-variants.{Display, Text, Script, Scriptscript}
@@ -106,10 +106,10 @@ module _ (style : Style) (s : List ℕ) (chosen : Chosen s) {at : ℕ} (place : 
         let ends : at + opening + n ≡ listPlace s (suc (listsBefore style)) =
         omega (arith, ap headBytes here) ∙ ap (fieldEnd s) place in
         record {
-          first-is = omega arith;
+          first-is = rw (inner, shorter .0) (omega arith);
           ordered = omega arith;
           inside = omega (arith, place-before-end s chosen style);
-          shorter = rw inner (omega (arith, shorter .0));
+          shorter = rw inner (omega (arith, length-drop at s, shorter .0));
           readable = rw inner (subst (GoodList (drop at s)) is list-there);
           tree =
               ap treeOf inner
@@ -177,8 +177,8 @@ module _ (F : Font) (beyond : Neighbour) {s : List ℕ} (l : lines.Line) (b b′
   lacks-is : missingItem F style chosenItem ≡ later (c .first) (missingItems F style items)
   lacks-is =
       missingItem-choice F style (listIn s 0) (listIn s 1) (listIn s 2) (listIn s 3)
-      ∙ ap (λ (n : ℕ). later (n + listOpeningBytes) (missingItems F style (taken style (listIn s 0) (listIn s 1) (listIn s 2) (listIn s 3)))) (sym (place-taken s chosen style))
-      ∙ ap₂ (λ (n : ℕ) (k : Items). later n (missingItems F style k)) (sym (span .first-is)) (sym (span .tree))
+      ∙ ap₂ (λ (n : ℕ) (k : Items). later (n + listOpeningBytes (itemsBytes k)) (missingItems F style k)) (sym (place-taken s chosen style)) (sym (span .tree))
+      ∙ ap (λ (n : ℕ). later n (missingItems F style items)) (ap (λ (n : ℕ). listPlace s (listsBefore style) + listOpeningBytes n) (items-bytes (part c s) (span .readable)) ∙ sym (span .first-is))
 
   pub choice-lacks : {place : ℕ} → ItemsDone F beyond items (length (part c s)) l b (all.Missing place) b′ →
       ItemDone F beyond s l b (step.Missing (c .first + place)) b′ × (c .first + place ≤ length s)

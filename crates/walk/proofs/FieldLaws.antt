@@ -14,11 +14,12 @@ use lib.ListN.{length, take, drop, length-drop}
 use Rattle.font.specs.Font.{Font}
 use Rattle.formula.specs.declared.FieldHead.{FieldHead}
 use Rattle.formula.specs.declared.FieldHead.the-variants.{NoField, Empty, Symbol, Sublist, CutSublist}
-use Rattle.formula.specs.Tree.{Items, Field, empty, symbol, list, listOpeningBytes}
+use Rattle.formula.specs.Tree.{Items, Field, empty, symbol, list, listOpeningBytes, itemsBytes}
 use Rattle.formula.specs.Heads.{fieldHead, isEmpty}
 use Rattle.formula.specs.Places.{treeOf, headBytes, headAt, contents, fieldOf, GoodField, GoodFieldAt}
 use Rattle.formula.specs.Slices.{tail-part, field-part}
 use Rattle.formula.specs.HeadLaws.{head-fits, list-opening, contents-shorter}
+use Rattle.formula.specs.PlacesLaws.{items-bytes}
 use Rattle.boxes.specs.declared.styles.Style.{Style}
 use Rattle.boxes.specs.Parameters.{Parameters}
 use Rattle.spacing.specs.Classes.{Neighbour}
@@ -53,6 +54,7 @@ pub record Head (s : List ℕ) (at : ℕ) (h : FieldHead) (end : ℕ) : Type 0 w
   pub is : headAt s at ≡ h
   pub goes : end ≡ at + headBytes h
   pub inside : end ≤ length s
+  pub good : GoodField (drop at s) h
 
 -- as the code finds it: r in the rest of the item, and its bytes n
 pub head-at : {t u i j : List ℕ} {p : List (List ℕ)} {s : List ℕ} {at n : ℕ} {r h : FieldHead} → FieldGiven t u i j p s at →
@@ -65,6 +67,7 @@ head-at {s = s} {at} {n} {r} {h} given read size is =
       is = here;
       goes = ap (λ (k : ℕ). at + k) bytes;
       inside = omega (arith, head-fits (drop at s) h here, length-drop at s);
+      good = subst (GoodField (drop at s)) here (given .good);
     }
 
 -- as the code's test tells it
@@ -107,8 +110,13 @@ module _ (F : Font) (st : Style) (manner : Manner) (b b′ : List ℕ) {s : List
     abbrev tree : Items
     tree = treeOf (contents opening n (drop at s))
 
-    goes-on : end ≡ at + listOpeningBytes + n
-    goes-on = omega (arith, o .goes, list-opening (drop at s) opening n (o .is))
+    opens : listOpeningBytes (itemsBytes tree) ≡ opening
+    opens =
+        let long = items-bytes (contents opening n (drop at s)) (o .good) ∙ contents-shorter (drop at s) opening n (o .is) .0 in
+        ap listOpeningBytes long ∙ sym (list-opening (drop at s) opening n (o .is))
+
+    goes-on : end ≡ at + listOpeningBytes (itemsBytes tree) + n
+    goes-on = omega (arith, o .goes, opens)
 
     -- what it came to, of the bytes of the list
     items-done : (r : ItemsSet) → l ≡ r → ItemsDone F (sides .right) tree n start b r b′
@@ -136,7 +144,7 @@ module _ (F : Font) (st : Style) (manner : Manner) (b b′ : List ℕ) {s : List
         HeadDone F st manner s at b (Missing (at + opening + place)) b′ × (at + opening + place ≤ length s)
     head-missing {place} is =
         let w = list-lacks-of F sides tree n b b′ empty-line place (items-done (items.Missing place) is) in
-        let e : at + listOpeningBytes ≡ at + opening = omega (arith, list-opening (drop at s) opening n (o .is)) in
+        let e : at + listOpeningBytes (itemsBytes tree) ≡ at + opening = omega (arith, opens) in
         let low = w .1 in
         let in-list = o .inside in (
           head-done o (Missing (at + opening + place))
@@ -191,7 +199,7 @@ list-given {s = s} {at} {end} {opening} {n} given o empty-line =
             record {
               tables-good = given .tables-good;
               parameters-are = given .parameters-are;
-              readable = subst (GoodField (drop at s)) (o .is) (given .good);
+              readable = o .good;
               short = omega arith;
             };
         small = start-within (longest - length (contents opening n (drop at s))) empty-line;

@@ -12,7 +12,7 @@ use native.Mathlib.Omega.{arith}
 use lib.IntN.{pos}
 use Rattle.font.specs.Font.{Font}
 use Rattle.font.specs.Values.{metricsAs}
-use Rattle.formula.specs.Tree.{Items, empty, symbol, list, listOpeningBytes}
+use Rattle.formula.specs.Tree.{Items, empty, symbol, list, listOpeningBytes, itemsBytes}
 use Rattle.boxes.specs.declared.styles.Style.{Style}
 use Rattle.boxes.specs.declared.Shape.the-variants.{Char}
 use Rattle.boxes.specs.Styles.{fontSize}
@@ -92,7 +92,7 @@ module _ (F : Font) (s : Style) (manner : Manner) (at end : ℕ) (b : List ℕ) 
     symbol-missing lacks = (ap (absentAt at) lacks, omega arith, kept-all _ b)
 
   -- the list's n bytes stand behind its opening
-  module _ (l : Items) (n : ℕ) (goes : end ≡ at + listOpeningBytes + n) (b′ : List ℕ) where
+  module _ (l : Items) (n : ℕ) (goes : end ≡ at + listOpeningBytes (itemsBytes l) + n) (b′ : List ℕ) where
     pub list-whole : (line : lines.Line) (c : parts.Part) → ListDone F (sidesOf manner) s l n b (items.Whole line) b′ → ListPart end line c →
         FieldDone F s manner (list l) at end b (Whole c) b′
     unfolding missingField fieldFits setField setList later
@@ -103,7 +103,7 @@ module _ (F : Font) (s : Style) (manner : Manner) (at end : ℕ) (b : List ℕ) 
         let many = w .count in
         let ends = p .end-is in (
           record {
-            present = ap (later (at + listOpeningBytes)) (w .present);
+            present = ap (later (at + listOpeningBytes (itemsBytes l))) (w .present);
             end-is = p .end-is;
             large-is = p .large-is ∙ rw fits;
             small = record { shape = p .shape; count = omega arith; hull = p .hull };
@@ -119,7 +119,7 @@ module _ (F : Font) (s : Style) (manner : Manner) (at end : ℕ) (b : List ℕ) 
         )
 
     pub list-missing : (place : ℕ) → ListDone F (sidesOf manner) s l n b (items.Missing place) b′ →
-        FieldDone F s manner (list l) at end b (Missing (at + listOpeningBytes + place)) b′
+        FieldDone F s manner (list l) at end b (Missing (at + listOpeningBytes (itemsBytes l) + place)) b′
     unfolding missingField later
     list-missing place (lacks, low, kept) =
-        (ap (later (at + listOpeningBytes)) lacks, omega arith, kept-more (omega arith) kept)
+        (ap (later (at + listOpeningBytes (itemsBytes l))) lacks, omega arith, kept-more (omega arith) kept)

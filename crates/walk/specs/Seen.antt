@@ -6,7 +6,7 @@
 use mathlib.Core.Path.{_≡_}
 use mathlib.Core.List.{List}
 use mathlib.Core.Option.{none}
-use Prim.Native.Nat.{ℕ, _+_, _-_, _≤_}
+use Prim.Native.Nat.{ℕ, _+_, _-_, _<_, _≤_}
 use lib.ListN.{length, take, drop}
 use Rattle.font.specs.Font.{Font}
 use Rattle.formula.specs.declared.Opening.{Opening}
@@ -29,10 +29,10 @@ abbrev pub listsBefore : Style → ℕ
 listsBefore style = taken style 0 1 2 3
 
 pub record TakenSpan (style : Style) (s : List ℕ) (c : Span) : Type 0 where
-  pub first-is : c .first ≡ listPlace s (listsBefore style) + listOpeningBytes
+  pub first-is : c .first ≡ listPlace s (listsBefore style) + listOpeningBytes (length (part c s))
   pub ordered : c .first ≤ c .end
   pub inside : c .end ≤ listPlace s choiceLists
-  pub shorter : length (part c s) + listOpeningBytes ≤ length s
+  pub shorter : length (part c s) < length s
   pub readable : Readable (part c s)
   pub tree : treeOf (part c s) ≡ taken style (listIn s 0) (listIn s 1) (listIn s 2) (listIn s 3)
 

@@ -2,11 +2,12 @@
 --     word-at                      a word by its four bytes
 --     word-take                    the front of a list has the words that end in it
 --     signed-small, signed-great   the number that a word stands for, by the test that the code makes
---     word-below, word-sum         the word of a number, and that of a sum
+--     word-below, word-sum         the word of a number, and that of a sum; word-signed    of the number that a word stands for
 --     four-back, four-rest         a word is read back from its bytes; of a number its word's bytes are kept
 --     four-of, four-again          the bytes of a word that was made of four, or read
 -- Assumes nothing.
 use mathlib.Core.Path.{_≡_, refl, sym, ap, _∙_}
+use mathlib.Core.Bool.{Bool, true, false}
 use mathlib.Core.List.{List, [], _∷_, _++_}
 use Prim.Native.Nat.{ℕ, suc, _+_, _*_, _/_, _%_, _≤_, _<_}
 use native.Mathlib.Omega.{arith}
@@ -14,6 +15,7 @@ use native.Mathlib.Nat.{add-zero}
 use mir.Syntax.{w8}
 use mir.Val.{Fits}
 use borrow.Author.Tests.{lt-ltb, le-ltb}
+use lib.Dec.{ltb}
 use lib.IntN.{ℤ, pos, negsuc, _+ℤ_, _-ℤ_}
 use lib.ListN.{length, getD, take, drop}
 use lib.Seq.{getD-take, getD-drop}
@@ -62,6 +64,15 @@ pub word-below : (z : ℤ) → wordOf z < wordRange
 unfolding wordOf
 word-below (pos n) = omega arith
 word-below (negsuc n) = omega arith
+
+-- a word is that of the number it stands for
+pub word-signed : (w : ℕ) → w < wordRange → wordOf (signedWord w) ≡ w
+unfolding signedWord pick wordOf
+word-signed w l = go (ltb w (wordRange / 2)) refl
+  where
+    go : (t : Bool) → ltb w (wordRange / 2) ≡ t → wordOf (pick t (pos w) (pos w -ℤ pos wordRange)) ≡ w
+    go true e = omega arith
+    go false e = rw (lt-ltb w wordRange l) (omega arith)
 
 -- a and b differ by a multiple of 2 ^ 32
 record Alike (a b : ℕ) : Type 0 where

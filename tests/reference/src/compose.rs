@@ -64,10 +64,17 @@ pub fn symbol(family: u8, code: u8) -> Vec<u8> {
     vec![1, family, code]
 }
 
-/// A list field; the length of `items` must fit two bytes.
+/// A list field; its kind is that of its length.
 pub fn list(items: &[u8]) -> Vec<u8> {
-    let length = u16::try_from(items.len()).expect("a list has fewer than 65,536 bytes");
-    [&[2], &length.to_le_bytes()[..], items].concat()
+    match u16::try_from(items.len()) {
+        Ok(length) => [&[2], &length.to_le_bytes()[..], items].concat(),
+        Err(_) => long_list(items.len() as u32, items),
+    }
+}
+
+/// A list field of kind 3, of whatever length; nothing makes it a good one.
+pub fn long_list(length: u32, items: &[u8]) -> Vec<u8> {
+    [&[3], &length.to_le_bytes()[..], items].concat()
 }
 
 /// An atom of the given class and limits; the fields are nucleus, superscript

@@ -27,7 +27,7 @@ pub use chains::CHAIN_LIMIT;
 pub use index::INDEX_WORDS;
 pub use nodes::NODE_BYTES;
 pub use printed::printed;
-pub use reading::{DEPTH_LIMIT, FORMULA_LIMIT};
+pub use reading::{DEPTH_LIMIT, FORMULA_LIMIT, SHORT_LIST_LIMIT};
 pub use records::WORD_LIMIT;
 pub use tables::{Lent, CHARACTER_LIMIT, CLIENT_LIMIT};
 

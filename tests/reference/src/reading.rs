@@ -4,9 +4,11 @@ use crate::answer::Refusal;
 use crate::style::Style;
 
 /// The most bytes a formula may have.
-pub const FORMULA_LIMIT: usize = 4096;
+pub const FORMULA_LIMIT: usize = 131_072;
 /// The deepest list; the formula itself is at depth 1.
-pub const DEPTH_LIMIT: usize = 16;
+pub const DEPTH_LIMIT: usize = 32;
+/// The longest list with a length of two bytes; four are for longer ones only.
+pub const SHORT_LIST_LIMIT: usize = 65_535;
 
 pub(crate) const KERN_LIMIT: i32 = 8_388_607;
 pub(crate) const FAMILY_LIMIT: u8 = 15;
@@ -396,7 +398,7 @@ impl Reader<'_> {
     fn sure_list(&mut self, cursor: &mut Cursor) -> Result<List, Refusal> {
         let place = cursor.at;
         match self.take(cursor)? {
-            [2] => self.list_field(place, cursor),
+            [kind @ (2 | 3)] => self.list_field(kind, place, cursor),
             _ => Err(cursor.fault()),
         }
     }
@@ -406,7 +408,7 @@ impl Reader<'_> {
         match self.take(cursor)? {
             [0] => Ok(Field::Empty),
             [1] => self.symbol(place, cursor),
-            [2] => Ok(Field::List(self.list_field(place, cursor)?)),
+            [kind @ (2 | 3)] => Ok(Field::List(self.list_field(kind, place, cursor)?)),
             _ => Err(cursor.fault()),
         }
     }
@@ -425,17 +427,29 @@ impl Reader<'_> {
     }
 
     /// What follows a list's kind byte, which stands at `place`.
-    fn list_field(&mut self, place: usize, cursor: &mut Cursor) -> Result<List, Refusal> {
+    fn list_field(&mut self, kind: u8, place: usize, cursor: &mut Cursor) -> Result<List, Refusal> {
         if cursor.depth >= DEPTH_LIMIT {
             return Err(Refusal::TooDeep(place));
         }
-        let length = usize::from(u16::from_le_bytes(self.take(cursor)?));
+        let length = self.list_length(kind, cursor)?;
         if length > cursor.end - cursor.at {
             return Err(cursor.fault());
         }
         let start = cursor.at;
         cursor.at += length;
         self.list(start, cursor.at, cursor.depth + 1)
+    }
+
+    fn list_length(&mut self, kind: u8, cursor: &mut Cursor) -> Result<usize, Refusal> {
+        if kind == 2 {
+            return Ok(usize::from(u16::from_le_bytes(self.take(cursor)?)));
+        }
+        let length = u32::from_le_bytes(self.take(cursor)?) as usize;
+        if length > SHORT_LIST_LIMIT {
+            Ok(length)
+        } else {
+            Err(cursor.fault())
+        }
     }
 
     /// The next bytes of the item, if its list has them.

@@ -276,21 +276,21 @@ fn nested(levels: usize, items: &[u8]) -> Vec<u8> {
 
 #[test]
 fn a_choice_is_one_deeper() {
-    assert_eq!(outcome(DISPLAY, &nested(15, &ord(&A))).sizes, [500, 430, 0]);
-    assert_eq!(refusal(DISPLAY, &nested(16, &[])), (4, 5 * 15 + 2));
-    let field_at_16 = nested(14, &ord(&list(&ord(&A))));
-    assert_eq!(outcome(DISPLAY, &field_at_16).sizes, [500, 430, 0]);
-    let field_at_17 = nested(15, &ord(&list(&[])));
-    assert_eq!(refusal(DISPLAY, &field_at_17), (4, 5 * 15 + 4));
+    assert_eq!(outcome(DISPLAY, &nested(31, &ord(&A))).sizes, [500, 430, 0]);
+    assert_eq!(refusal(DISPLAY, &nested(32, &[])), (4, 5 * 31 + 2));
+    let field_at_32 = nested(30, &ord(&list(&ord(&A))));
+    assert_eq!(outcome(DISPLAY, &field_at_32).sizes, [500, 430, 0]);
+    let field_at_33 = nested(31, &ord(&list(&[])));
+    assert_eq!(refusal(DISPLAY, &field_at_33), (4, 5 * 31 + 4));
 }
 
 #[test]
 fn the_kind_is_judged_before_the_depth() {
     let none = list(&[]);
     let first_wrong = choice([EMPTY, &none, &none, &none]);
-    assert_eq!(refusal(TEXT, &nested(15, &first_wrong)), (3, 5 * 15));
+    assert_eq!(refusal(TEXT, &nested(31, &first_wrong)), (3, 5 * 31));
     let second_wrong = choice([&none, &A, &none, &none]);
-    assert_eq!(refusal(TEXT, &nested(15, &second_wrong)), (4, 5 * 15 + 2));
+    assert_eq!(refusal(TEXT, &nested(31, &second_wrong)), (4, 5 * 31 + 2));
 }
 
 #[test]

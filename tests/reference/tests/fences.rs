@@ -290,10 +290,10 @@ fn the_kind_is_judged_before_the_depth() {
     let nested = |levels, items: &[u8]| {
         (0..levels).fold(items.to_vec(), |items, _| bare_fence([NONE, NONE], &items))
     };
-    assert_eq!(outcome(TEXT, &nested(15, &[])).sizes[0], 30 * BLANK);
-    assert_eq!(refusal(TEXT, &nested(16, &[])), (4, 13 * 15 + 10));
+    assert_eq!(outcome(TEXT, &nested(31, &[])).sizes[0], 62 * BLANK);
+    assert_eq!(refusal(TEXT, &nested(32, &[])), (4, 13 * 31 + 10));
     let wrong = fence([NONE, NONE], [EMPTY, EMPTY, EMPTY]);
-    assert_eq!(refusal(TEXT, &nested(15, &wrong)), (3, 13 * 15));
+    assert_eq!(refusal(TEXT, &nested(31, &wrong)), (3, 13 * 31));
 }
 
 #[test]

@@ -125,7 +125,7 @@ fn fences_are_refused_for_each_fault() {
         }
         let wrong = FAMILIES.map(|at| item[at] > 15);
         match wrong.iter().filter(|is_wrong| **is_wrong).count() {
-            0 if item[KIND] != 2 => kinds[usize::from(item[KIND].min(2))] += 1,
+            0 if !matches!(item[KIND], 2 | 3) => kinds[usize::from(item[KIND].min(2))] += 1,
             1 => families[wrong.iter().position(|is_wrong| *is_wrong).unwrap()] += 1,
             _ => {}
         }
@@ -163,7 +163,7 @@ fn lists_are_refused_for_kind_before_depth() {
 /// Whether the field would be refused for its depth if it were a list.
 fn would_be_too_deep(case: &Case, field: usize) -> bool {
     let mut formula = case.formula.clone();
-    let Some(kind) = formula.get_mut(field).filter(|kind| **kind != 2) else {
+    let Some(kind) = formula.get_mut(field).filter(|kind| !matches!(kind, 2 | 3)) else {
         return false;
     };
     *kind = 2;

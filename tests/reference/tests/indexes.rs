@@ -235,7 +235,7 @@ fn tested_after_the_tables_and_before_the_formula() {
 #[test]
 fn later_refusals_leave_both_right() {
     let (table, client) = (bench_table(), wide_a());
-    let deep = (0..17).fold(Vec::new(), |items: Vec<u8>, _| ord(&list(&items)));
+    let deep = (0..33).fold(Vec::new(), |items: Vec<u8>, _| ord(&list(&items)));
     let wide = kern(8_388_607).repeat(129);
     let formulas = [
         (3, b"zz".to_vec()),

@@ -130,7 +130,7 @@ fn refusals_in_order() {
     assert_eq!(measure(TEXT, &[], &[0], &[0]).number, 2);
     assert_eq!(measure(TEXT, &table, &[0], &[0]).number, 8);
     assert_eq!(refusal(TEXT, &[0]), (3, 0));
-    assert_eq!(refusal(TEXT, &[0; 4097]), (3, 0));
+    assert_eq!(refusal(TEXT, &[0; 131_073]), (3, 0));
     assert_eq!(set(TEXT, &table, &[], &formula, &mut short).number, 7);
     assert_eq!(short, [7; NODE_BYTES - 1]);
 }
@@ -144,8 +144,8 @@ fn an_earlier_fault_inside_comes_first() {
 #[test]
 fn depth_limit() {
     let nested = |levels| (0..levels).fold(Vec::new(), |items: Vec<u8>, _| ord(&list(&items)));
-    assert_eq!(outcome(TEXT, &nested(15)).sizes, [0, 0, 0]);
-    assert_eq!(refusal(TEXT, &nested(16)), (4, 109));
+    assert_eq!(outcome(TEXT, &nested(31)).sizes, [0, 0, 0]);
+    assert_eq!(refusal(TEXT, &nested(32)), (4, 221));
 }
 
 #[test]

@@ -269,8 +269,8 @@ fn a_list_in_a_root_is_one_deeper() {
             bare_root([NONE, NONE], &list(&items))
         })
     };
-    assert_eq!(outcome(TEXT, &nested(15)).nodes.len(), 15);
-    assert_eq!(refusal(TEXT, &nested(16)), (4, 9 * 15 + 6));
+    assert_eq!(outcome(TEXT, &nested(31)).nodes.len(), 31);
+    assert_eq!(refusal(TEXT, &nested(32)), (4, 9 * 31 + 6));
 }
 
 /// Characters of one size and family whose codes go up by one to the end.

@@ -1,8 +1,9 @@
 //! Runs a file of cases and prints what the thin program prints for each.
 //!
 //! The file has parts: `T`, a four-byte length and a table, which holds from
-//! there on; `C`, the same of a client's table, which is empty at first; or
-//! `F`, a style byte, a two-byte length and a formula.
+//! there on; `C`, the same of a client's table, which is empty at first; `F`, a
+//! style byte, a two-byte length and a formula; or `L`, a style byte, a
+//! four-byte length and a formula.
 
 use reference::{measure, printed, set, NODE_BYTES};
 use std::io::{self, BufWriter, Write};
@@ -28,12 +29,14 @@ fn run(mut cases: &[u8]) -> io::Result<()> {
     while let Some((&mark, rest)) = cases.split_first() {
         cases = rest;
         match mark {
-            b'T' => table = take_table(&mut cases)?,
-            b'C' => client = take_table(&mut cases)?,
-            b'F' => {
+            b'T' => table = take_long(&mut cases)?,
+            b'C' => client = take_long(&mut cases)?,
+            b'F' | b'L' => {
                 let [style] = take(&mut cases)?;
-                let length = u16::from_le_bytes(take(&mut cases)?);
-                let formula = take_slice(&mut cases, usize::from(length))?;
+                let formula = match mark {
+                    b'F' => take_short(&mut cases)?,
+                    _ => take_long(&mut cases)?,
+                };
                 out.write_all(outcome(style, table, client, formula).as_bytes())?;
             }
             _ => return Err(malformed()),
@@ -49,7 +52,14 @@ fn outcome(style: u8, table: &[u8], client: &[u8], formula: &[u8]) -> String {
     printed(&answer, &nodes)
 }
 
-fn take_table<'a>(cases: &mut &'a [u8]) -> io::Result<&'a [u8]> {
+/// Some bytes behind a length of two.
+fn take_short<'a>(cases: &mut &'a [u8]) -> io::Result<&'a [u8]> {
+    let length = u16::from_le_bytes(take(cases)?);
+    take_slice(cases, usize::from(length))
+}
+
+/// Some bytes behind a length of four.
+fn take_long<'a>(cases: &mut &'a [u8]) -> io::Result<&'a [u8]> {
     let length = u32::from_le_bytes(take(cases)?);
     take_slice(cases, length as usize)
 }

@@ -38,7 +38,7 @@ pub fn fence_fault(grower: &mut Grower) -> Vec<u8> {
         }
         4 | 5 => fields[0] = EMPTY.to_vec(),
         6 | 7 => fields[0] = grower.symbol(),
-        8 => fields[0][0] = 3,
+        8 => fields[0][0] = 4,
         _ => {}
     }
     let mut item = fence(sides, fields.each_ref().map(Vec::as_slice));

@@ -2,6 +2,7 @@
 
 use super::choices::{choice_fault, choice_holding, choice_of};
 use super::fences::{fence_fault, fence_holding};
+use super::long::long_list_fault;
 use super::roots::{root_fault, root_holding};
 use super::{Random, Symbols};
 use crate::compose::{
@@ -10,7 +11,7 @@ use crate::compose::{
 };
 use crate::parameters::{PARAMETERS, ROWS};
 use crate::reading::KERN_LIMIT;
-use crate::{DEPTH_LIMIT, FORMULA_LIMIT, SIZE_LIMIT};
+use crate::{DEPTH_LIMIT, SIZE_LIMIT};
 
 /// Grows formulas over some symbols.
 pub struct Grower<'a> {
@@ -80,7 +81,7 @@ impl<'a> Grower<'a> {
     /// Which of three fields; so seldom another than the first that down to
     /// the greatest depth it can be the first each time.
     pub(super) fn mostly_first(&mut self) -> usize {
-        if self.random.percent(95) {
+        if self.random.percent(98) {
             0
         } else {
             self.random.below(2) + 1
@@ -148,7 +149,7 @@ impl<'a> Grower<'a> {
     }
 
     /// An item that sets nothing.
-    fn empty_item(&mut self) -> Vec<u8> {
+    pub(super) fn empty_item(&mut self) -> Vec<u8> {
         match self.random.below(4) {
             0 => kern(0),
             1 => style(self.random.below(8) as u8),
@@ -218,9 +219,10 @@ fn nested(grower: &mut Grower, holders: [Holder; 2], depth: usize, levels: usize
 
 /// An item that can't be read where it stands.
 fn fault(grower: &mut Grower) -> Vec<u8> {
-    match grower.random.below(10) {
+    match grower.random.below(12) {
         0 => root_fault(grower),
         1..5 => fence_fault(grower),
+        5 | 6 => long_list_fault(grower),
         _ => choice_fault(grower),
     }
 }
@@ -238,43 +240,6 @@ pub fn holding(grower: &mut Grower, given: Vec<u8>) -> Vec<u8> {
             grower.with_fields(form - 3, &fields)
         }
     }
-}
-
-/// A formula of a length around the limit, at times all in one field.
-pub fn long_formula(grower: &mut Grower) -> Vec<u8> {
-    let limit = FORMULA_LIMIT as i64;
-    let length = match grower.random.below(4) {
-        0 => limit,
-        1 => limit + 1,
-        _ => grower.random.between(limit - 8, limit + 8),
-    } as usize;
-    if grower.random.percent(70) {
-        return exactly(grower, length);
-    }
-    let rest = atom(0, 0, [&list(&[]), EMPTY, EMPTY]).len();
-    let inner = list(&exactly(grower, length - rest));
-    atom(0, 0, [&inner, EMPTY, EMPTY])
-}
-
-/// Items of exactly so many bytes, which are not few; at times one item again
-/// and again.
-fn exactly(grower: &mut Grower, length: usize) -> Vec<u8> {
-    const MOST: usize = 200;
-    let repeated = grower.random.percent(20).then(|| grower.empty_item());
-    let mut items = Vec::with_capacity(length);
-    while items.len() + MOST < length {
-        match &repeated {
-            Some(item) => items.extend(item),
-            None => items.extend(grower.items(DEPTH_LIMIT - 2, MOST - 24)),
-        }
-    }
-    let rest = length - items.len();
-    let (kern, line) = (kern(0), underline([EMPTY; 3]));
-    let kerns = rest % line.len();
-    let lines = (rest - kerns * kern.len()) / line.len();
-    items.extend(kern.repeat(kerns));
-    items.extend(line.repeat(lines));
-    items
 }
 
 /// A formula with long kerns, so that widths and x come near the size limit.

@@ -11,6 +11,7 @@ mod fences;
 mod formulas;
 mod graded;
 mod indexes;
+mod long;
 mod random;
 mod roots;
 mod tables;
@@ -20,11 +21,10 @@ pub use choices::choice_formula;
 pub use clients::{client_over, damaged_client, shared_out, Pair};
 pub use damage::{damaged_bytes, damaged_table, noise};
 pub use fences::{fence_formula, wide_fence};
-pub use formulas::{
-    deep_formula, long_formula, operator_formula, tall_case, tall_roots, wide_formula, Grower,
-};
+pub use formulas::{deep_formula, operator_formula, tall_case, tall_roots, wide_formula, Grower};
 pub use graded::graded_case;
 pub use indexes::lent_words;
+pub use long::{long_formula, long_list_fault};
 pub use random::Random;
 pub use roots::root_formula;
 pub use tables::{good_table, Symbols};
@@ -62,7 +62,7 @@ pub enum Kind {
     BadStyle,
     /// Lists down to depths around the limit.
     Deep,
-    /// Lengths around the limit.
+    /// Lengths around a limit of formulas or lists, or a fault of a long list.
     Long,
     /// Widths and x around the size limit.
     Wide,

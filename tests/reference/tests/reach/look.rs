@@ -5,7 +5,7 @@ use super::Seen;
 use reference::generate::Case;
 
 const TABLE_HEAD: usize = 426;
-const DEEPEST: usize = 16;
+const DEEPEST: usize = 32;
 const BIN: u8 = 2;
 const PUNCT: u8 = 6;
 
@@ -242,9 +242,11 @@ impl Look<'_> {
 
     /// The items of the list whose kind byte comes next.
     fn list(&mut self, part: &mut Part) -> Part {
-        let length = [self.bytes[part.at + 1], self.bytes[part.at + 2]];
-        let at = part.at + 3;
-        part.at = at + usize::from(u16::from_le_bytes(length));
+        let opening = if self.bytes[part.at] == 2 { 3 } else { 5 };
+        let at = part.at + opening;
+        let mut length = [0; 4];
+        length[..opening - 1].copy_from_slice(&self.bytes[part.at + 1..at]);
+        part.at = at + u32::from_le_bytes(length) as usize;
         Part {
             at,
             end: part.at,

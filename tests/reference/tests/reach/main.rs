@@ -32,7 +32,7 @@ fn all_forms_are_set() {
     ]);
     assert!(often.min() > Some(&(CASES / 100)), "{seen:?}");
     let deepest = seen.deepest.min(seen.deepest_grown);
-    assert!(deepest > CASES / 1000, "{seen:?}");
+    assert!(deepest > CASES / 2000, "{seen:?}");
 }
 
 #[test]

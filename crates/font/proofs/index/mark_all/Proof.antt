@@ -26,9 +26,10 @@ room : (c : tie.In-loop Inv-loop μ-loop) →
 room c =
     let turn = c .before .loop in
     let known = c .before .before .before in
-    let start = known .before in
-    (read-within (start .args .s .now) (start .pre .0) (known .shared-slice-known .given) _ _ (turn .i) (c .loop-test .taken) (turn .inv),
-    read-small (start .args .s .now) (start .pre .0) (known .shared-slice-known .given) _ _ (turn .i) (c .loop-test .taken) (turn .inv))
+    let start = known .before in (
+      read-within (start .args .s .now) (start .pre .0) (known .shared-slice-known .given) _ _ (turn .i) (c .loop-test .taken) (turn .inv),
+      read-small (start .args .s .now) (start .pre .0) (known .shared-slice-known .given) _ _ (turn .i) (c .loop-test .taken) (turn .inv),
+    )
 
 sub-i : tie.Need-sub-i Inv-loop μ-loop
 sub-i c = omega (arith, c .loop-test .taken)

@@ -6,13 +6,13 @@ use mathlib.Core.List.{List}
 use Prim.Native.Nat.{ℕ}
 use native.Mathlib.Omega.{arith}
 use borrow.Author.Needs.{needs}
-use Rattle.formula.specs.Heads.{fieldHead, isEmpty}
+use Rattle.formula.specs.Heads.{fieldHeadUnder, fieldHead, isEmpty}
 use Rattle.formula.proofs.FirstBytes.{short-one, empty-said}
 use Rattle.formula.proofs.heads.is_empty.Statement.{statement}
 use Rattle.formula.proofs.heads.is_empty.Tie as tie
 
 returns : tie.Need-returns
-unfolding fieldHead
+unfolding fieldHeadUnder
 returns c =
     let s = c .before .args .s .now in
     sym (short-one (λ (s : List ℕ). isEmpty (fieldHead s)) false refl s (c .if1 .taken))

@@ -1,4 +1,4 @@
--- `is_list` meets its contract: the kind byte, if there is one, is 2 or not.
+-- `is_list` meets its contract: the kind byte, if there is one, is a list's or not.
 -- Assumes nothing.
 use mathlib.Core.Path.{refl, sym}
 use mathlib.Core.Bool.{false}
@@ -6,13 +6,13 @@ use mathlib.Core.List.{List}
 use Prim.Native.Nat.{ℕ}
 use native.Mathlib.Omega.{arith}
 use borrow.Author.Needs.{needs}
-use Rattle.formula.specs.Heads.{fieldHead, isList}
+use Rattle.formula.specs.Heads.{fieldHeadUnder, fieldHead, isList}
 use Rattle.formula.proofs.FirstBytes.{short-one, list-said}
 use Rattle.formula.proofs.heads.is_list.Statement.{statement}
 use Rattle.formula.proofs.heads.is_list.Tie as tie
 
 returns : tie.Need-returns
-unfolding fieldHead
+unfolding fieldHeadUnder
 returns c =
     let s = c .before .args .s .now in
     sym (short-one (λ (s : List ℕ). isList (fieldHead s)) false refl s (c .if1 .taken))

@@ -17,11 +17,12 @@ use Rattle.formula.specs.declared.FieldHead.{FieldHead}
 use Rattle.formula.specs.declared.FieldHead.the-variants.{Sublist}
 use Rattle.formula.specs.declared.Verdict.the-variants.{Good, Faulty}
 use Rattle.formula.specs.declared.PartRead.the-variants.{Next}
+use Rattle.formula.specs.Format.{longFormat}
 use Rattle.formula.specs.Heads.{fieldHead}
 use Rattle.formula.specs.Reading.{fieldBy, fieldAt, choiceAt, openedBy, itemBy, read}
 use Rattle.formula.specs.Values.{told, partReadOf}
 use Rattle.formula.specs.Places.{headBytes}
-use Rattle.formula.specs.HeadLaws.{list-opening, opening-fits}
+use Rattle.formula.specs.HeadLaws.{list-opening, opening-some, opening-fits}
 use Rattle.formula.proofs.VerdictLaws.{later, later-zero, fault-in, next-in, field-step, field-fits, field-deep, cut-deep, cut-short, field-list, listSays, heldSays, held-list, held-yes, held-no, held-next, firstSays, noad-first, noad-second, noad-third, inTurn, choice-said, turn-next, turn-stop, turn-done, item-step, list-next, list-stop, list-done}
 use Rattle.formula.proofs.reading.+read_choice+read_field+read_held+read_item+read_list+read_noad.{statement}
 use Rattle.formula.proofs.reading.+read_choice+read_field+read_held+read_item+read_list+read_noad.Tie.{close}
@@ -132,7 +133,7 @@ read-noad-claims t = (opening-bytes-reads.Asked, opening-bytes-reads.Learnt, hol
 -- ---- read_choice
 
 abbrev read-choice-Inv-loop : read-choice-lts.InvT-loop
-read-choice-Inv-loop s levels at₀ left₀ at left = (at ≤ length s) × (partReadOf (choiceAt read levels s) ≡ inTurn (listSays levels s) left at)
+read-choice-Inv-loop s levels at₀ left₀ at left = (at ≤ length s) × (partReadOf (choiceAt longFormat read levels s) ≡ inTurn (listSays levels s) left at)
 
 abbrev read-choice-μ-loop : read-choice-lts.MeasureT-loop
 read-choice-μ-loop s levels at₀ left₀ at left = left
@@ -174,7 +175,7 @@ module _ (t : ℕ) (c : read-field-lts.After-field-head (read-field-claims t) (r
       field-fits (a .levels) (a .at) (a .s .now) h rf-is (start .pre .1)
 
   rf-says : let a = c .before .before .before .args in
-      partReadOf (fieldBy read (a .levels) (a .at) (drop (a .at) (a .s .now)) h) ≡ partReadOf (fieldAt read (a .levels) (a .s .now) (a .at))
+      partReadOf (fieldBy read (a .levels) (a .at) (drop (a .at) (a .s .now)) h) ≡ partReadOf (fieldAt longFormat read (a .levels) (a .s .now) (a .at))
   rf-says = sym (field-step _ _ _ h rf-is)
 
 -- in the arm of a list of n bytes behind its opening
@@ -185,7 +186,7 @@ module _ (t : ℕ) (c : read-field-lts.After-h (read-field-claims t) (read-field
 
   rf-in : let a = c .before .before .before .before .before .args in
       (0 < c .h .given .0 .0) × (a .at + (c .h .given .0 .0 + c .h .given .0 .1 .0) ≤ length (a .s .now))
-  rf-in = (omega (arith, list-opening _ _ _ rf-list), rf-fits t (c .before .before) _ (c .h .given .1))
+  rf-in = (omega (arith, list-opening _ _ _ rf-list, opening-some (c .h .given .0 .1 .0)), rf-fits t (c .before .before) _ (c .h .given .1))
 
 read-field-add-t28 : (t : ℕ) → read-field-lts.Need-add-t28 (read-field-claims t) (read-field-at t) read-field.Post
 read-field-add-t28 t c =
@@ -227,7 +228,7 @@ read-field-returns-7 t c =
 
 -- the item says what it says by the opening that is matched
 ri-says : (t : ℕ) (c : read-item-lts.After-opening (read-item-claims t) (read-item-at t) read-item.Post) (o : Opening) → c .opening .result ≡ o →
-    let a = c .before .before .args in partReadOf (openedBy read (a .levels) (a .s .now) o) ≡ partReadOf (itemBy read (a .levels) (a .s .now))
+    let a = c .before .before .args in partReadOf (openedBy longFormat read (a .levels) (a .s .now) o) ≡ partReadOf (itemBy longFormat read (a .levels) (a .s .now))
 ri-says t c o e = sym (item-step _ _ o (sym (c .opening .ensures) ∙ e))
 
 read-item-returns : (t : ℕ) → read-item-lts.Need-returns (read-item-claims t) (read-item-at t) read-item.Post
@@ -314,7 +315,7 @@ rn-a t c =
 rn-b : (t : ℕ) (c : read-noad-lts.After-b (read-noad-claims t) (read-noad-at t) read-noad.Post) →
     let first = c .before .before .before .before in
     let a = first .before .before .before .before .before .before .args in
-    (partReadOf (fieldAt read (a .levels) (a .s .now) (first .a .given .0 .0)) ≡ Next (c .b .given .0 .0))
+    (partReadOf (fieldAt longFormat read (a .levels) (a .s .now) (first .a .given .0 .0)) ≡ Next (c .b .given .0 .0))
     × (c .b .given .0 .0 ≤ length (a .s .now))
 rn-b t c =
     let says = sym (c .before .before .read-field .ensures) ∙ c .b .given .1 in
