@@ -79,7 +79,7 @@ accepted-reads style table client lent formula room e = go (styleOf style) refl 
     F : Font
     F = fontWith table client
 
-    go : (o : Option Style) → styleOf style ≡ o → setBy room (ifStyle noSides table client lent formula o) .number ≡ acceptedNumber →
+    go : (o : Option Style) → styleOf style ≡ o → setBy room (ifStyle noSides table client lent (readFormula formula) o) .number ≡ acceptedNumber →
         (s : Style) × (tree : Items) × Accepted style table client lent formula s tree
     go none is q = absurd (omega arith)
     go (some s) is q =

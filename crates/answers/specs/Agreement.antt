@@ -54,15 +54,14 @@ module _ (sides : Sides) where
   good-before true false w F s r = omega arith
   good-before false c w F s r = omega arith
 
-  style-before : (table client : List ℕ) (lent : Lent) (formula : List ℕ) (s : Option Style) → RefusedBefore (ifStyle sides table client lent formula s)
+  style-before : (table client : List ℕ) (lent : Lent) (r : Read) (s : Option Style) → RefusedBefore (ifStyle sides table client lent r s)
   unfolding ifStyle
-  style-before table client lent formula none = omega arith
-  style-before table client lent formula (some s) =
-      good-before (goodTable table) (goodClient table client) (enough lent) (fontWith table client) s (readFormula formula)
+  style-before table client lent r none = omega arith
+  style-before table client lent r (some s) = good-before (goodTable table) (goodClient table client) (enough lent) (fontWith table client) s r
 
   result-before : (style : ℕ) (table client : List ℕ) (lent : Lent) (formula : List ℕ) → RefusedBefore (resultBetween sides style table client lent formula)
   unfolding resultBetween
-  result-before style table client lent formula = style-before table client lent formula (styleOf style)
+  result-before style table client lent formula = style-before table client lent (readFormula formula) (styleOf style)
 
 -- ---- measuring and setting
 

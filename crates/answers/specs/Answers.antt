@@ -93,13 +93,13 @@ ifGood true client words F sides s r = ifClient client words F sides s r
 ifGood false client words F sides s r = refused tableNumber 0
 
 -- 1
-unfoldable pub ifStyle : Sides → List ℕ → List ℕ → Lent → List ℕ → Option Style → Result
-ifStyle sides table client lent formula none = refused styleNumber 0
-ifStyle sides table client lent formula (some s) =
-    ifGood (goodTable table) (goodClient table client) (enough lent) (fontWith table client) sides s (readFormula formula)
+unfoldable pub ifStyle : Sides → List ℕ → List ℕ → Lent → Read → Option Style → Result
+ifStyle sides table client lent r none = refused styleNumber 0
+ifStyle sides table client lent r (some s) =
+    ifGood (goodTable table) (goodClient table client) (enough lent) (fontWith table client) sides s r
 
 unfoldable pub resultBetween : Sides → ℕ → List ℕ → List ℕ → Lent → List ℕ → Result
-resultBetween sides style table client lent formula = ifStyle sides table client lent formula (styleOf style)
+resultBetween sides style table client lent formula = ifStyle sides table client lent (readFormula formula) (styleOf style)
 
 abbrev pub resultOf : ℕ → List ℕ → List ℕ → Lent → List ℕ → Result
 resultOf style table client lent formula = resultBetween noSides style table client lent formula

@@ -30,7 +30,7 @@ use Rattle.answers.specs.Answers.{boxed, refused, styleNumber, tableNumb
 module _ (sides : Sides) (style : ℕ) (table client : List ℕ) (lent : Lent) (formula : List ℕ) where
   pub no-style : styleOf style ≡ none → resultBetween sides style table client lent formula ≡ refused styleNumber 0
   unfolding resultBetween ifStyle
-  no-style e = ap (ifStyle sides table client lent formula) e
+  no-style e = ap (ifStyle sides table client lent (readFormula formula)) e
 
   module _ (s : Style) (is : styleOf style ≡ some s) where
     pub tested-is : (t c w : Bool) (r : Read) → goodTable table ≡ t → goodClient table client ≡ c → enough lent ≡ w → readFormula formula ≡ r →
@@ -38,7 +38,7 @@ module _ (sides : Sides) (style : ℕ) (table client : List ℕ) (lent : Lent) (
     unfolding resultBetween ifStyle
     tested-is t c w r ours theirs words reads =
         let F = fontWith table client in
-        ap (ifStyle sides table client lent formula) is
+        ap (ifStyle sides table client lent (readFormula formula)) is
         ∙ ap₂ (λ (t c : Bool). ifGood t c (enough lent) F sides s (readFormula formula)) ours theirs
         ∙ ap₂ (λ (w : Bool) (r : Read). ifGood t c w F sides s r) words reads
 

@@ -24,26 +24,17 @@ use Rattle.boxes.specs.declared.styles.Style.{Style}
 use Rattle.boxes.specs.Styles.{styleOf}
 use Rattle.setting.specs.Setting.{Box, Sides, noSides}
 use Rattle.answers.specs.Lent.{Lent, enough}
-use Rattle.answers.specs.Answers.{Result, boxed, refused, styleNumber, faultNumber, ifRead, ifEnough, ifClient, ifGood, ifStyle, resultBetween, resultOf, measuredBy, measuredBetween, setBy, settingBetween, bufferBy, bufferBetween}
+use Rattle.answers.specs.Answers.{Result, boxed, refused, faultNumber, ifRead, ifEnough, ifClient, ifGood, ifStyle, resultBetween, resultOf, measuredBy, measuredBetween, setBy, settingBetween, bufferBy, bufferBetween}
 
 -- ---- what is found in a format
 
--- 1, and then the others; the formula has been read
-unfoldable pub afterReading : Sides → List ℕ → List ℕ → Lent → Read → Option Style → Result
-afterReading sides table client lent r none = refused styleNumber 0
-afterReading sides table client lent r (some s) = ifGood (goodTable table) (goodClient table client) (enough lent) (fontWith table client) sides s r
-
 unfoldable pub resultUnder : Format → Sides → ℕ → List ℕ → List ℕ → Lent → List ℕ → Result
-resultUnder f sides style table client lent formula = afterReading sides table client lent (readFormulaUnder f formula) (styleOf style)
+resultUnder f sides style table client lent formula = ifStyle sides table client lent (readFormulaUnder f formula) (styleOf style)
 
 pub under-long : (sides : Sides) (style : ℕ) (table client : List ℕ) (lent : Lent) (formula : List ℕ) →
     resultUnder longFormat sides style table client lent formula ≡ resultBetween sides style table client lent formula
-unfolding resultUnder afterReading resultBetween ifStyle
-under-long sides style table client lent formula = go (styleOf style)
-  where
-    go : (s : Option Style) → afterReading sides table client lent (readFormulaUnder longFormat formula) s ≡ ifStyle sides table client lent formula s
-    go none = refl
-    go (some s) = refl
+unfolding resultUnder resultBetween
+under-long sides style table client lent formula = refl
 
 -- ---- a formula that reads in a format with smaller numbers
 
@@ -53,15 +44,17 @@ module _ (f : Format) (longer : f .longest ≤ formulaLimit) (deeper : f .deepes
   unfolding resultUnder
   result-on =
       sym (under-long sides style table client lent formula)
-      ∙ ap (λ (r : Read). afterReading sides table client lent r (styleOf style)) (formula-on f longer deeper formula l reads ∙ sym reads)
+      ∙ ap (λ (r : Read). ifStyle sides table client lent r (styleOf style)) (formula-on f longer deeper formula l reads ∙ sym reads)
 
-  pub measured-on : measuredBetween sides style table client lent formula ≡ measuredBy (resultUnder f sides style table client lent formula)
+  pub measured-on :
+      measuredBetween sides style table client lent formula ≡ measuredBy (resultUnder f sides style table client lent formula)
   unfolding measuredBetween
   measured-on = ap measuredBy result-on
 
   pub set-on : (buffer : List ℕ) →
-      (settingBetween sides style table client lent formula (length buffer) ≡ setBy (length buffer) (resultUnder f sides style table client lent formula))
-      × (bufferBetween sides style table client lent formula buffer ≡ bufferBy buffer (resultUnder f sides style table client lent formula))
+      let found = resultUnder f sides style table client lent formula in
+      (settingBetween sides style table client lent formula (length buffer) ≡ setBy (length buffer) found)
+      × (bufferBetween sides style table client lent formula buffer ≡ bufferBy buffer found)
   unfolding settingBetween bufferBetween
   set-on buffer = (ap (setBy (length buffer)) result-on, ap (bufferBy buffer) result-on)
 
@@ -74,8 +67,8 @@ read-boxed F sides s (good l) b e = (l, refl)
 read-boxed F sides s (fault why place) b e = let z : _≡_ {A = ℕ} 0 1 = cc in absurd (omega arith)
 
 boxed-reads : (sides : Sides) (table client : List ℕ) (lent : Lent) (r : Read) (style : Option Style) (b : Box) →
-    afterReading sides table client lent r style ≡ boxed b → (l : Items) × (r ≡ good l)
-unfolding afterReading ifGood ifClient ifEnough
+    ifStyle sides table client lent r style ≡ boxed b → (l : Items) × (r ≡ good l)
+unfolding ifStyle ifGood ifClient ifEnough
 boxed-reads sides table client lent r none b e = let z : _≡_ {A = ℕ} 0 1 = cc in absurd (omega arith)
 boxed-reads sides table client lent r (some s) b e = go (goodTable table) (goodClient table client) (enough lent) e
   where
@@ -98,6 +91,6 @@ pub kind-answered : (style : ℕ) (table client : List ℕ) (lent : Lent) (formu
     goodTable table ≡ true → goodClient table client ≡ true → enough lent ≡ true → length formula ≤ shortFormat .longest →
     Meets shortFormat (shortFormat .deepest - 1) formula place →
     resultUnder shortFormat noSides style table client lent formula ≡ refused (faultNumber Unreadable) place
-unfolding resultUnder afterReading ifGood ifClient ifEnough ifRead
+unfolding resultUnder ifStyle ifGood ifClient ifEnough ifRead
 kind-answered style table client lent formula s place is ours theirs words short meets =
     rw (is, ours, theirs, words, meeting-refused shortFormat refl formula place short meets)

@@ -120,7 +120,7 @@ module _ (sides : Sides) where
   result-early style table client lent formula = go (styleOf style)
     where
       go : (o : Option Style) →
-          early (foundNumber (ifStyle sides table client lent formula o))
+          early (foundNumber (ifStyle sides table client lent (readFormula formula) o))
           ≡ not (hasStyle o && (goodTable table && (goodClient table client && enough lent)))
       go none = refl
       go (some s) =
@@ -268,7 +268,7 @@ module _ (sides : Sides) (style : ℕ) (table client : List ℕ) (lent : Lent) (
       tested s true false w e = absurd (omega arith)
       tested s false c w e = absurd (omega arith)
 
-      styled : (o : Option Style) → styleOf style ≡ o → foundNumber (ifStyle sides table client lent formula o) ≡ indexNumber →
+      styled : (o : Option Style) → styleOf style ≡ o → foundNumber (ifStyle sides table client lent (readFormula formula) o) ≡ indexNumber →
           FewWords style table client lent
       styled none is e = absurd (omega arith)
       styled (some s) is e =
@@ -290,7 +290,7 @@ module _ (a b : Lent) (a-enough : enough a ≡ true) (b-enough : enough b ≡ tr
   unfolding resultBetween ifStyle
   same-result = go (styleOf style)
     where
-      go : (o : Option Style) → ifStyle sides table client a formula o ≡ ifStyle sides table client b formula o
+      go : (o : Option Style) → ifStyle sides table client a (readFormula formula) o ≡ ifStyle sides table client b (readFormula formula) o
       go none = refl
       go (some s) =
           ap (λ (w : Bool). ifGood (goodTable table) (goodClient table client) w (fontWith table client) sides s (readFormula formula))

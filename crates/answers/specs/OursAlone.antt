@@ -43,7 +43,7 @@ module _ (sides : Sides) (style : ℕ) (table : List ℕ) (lent : Lent) (words-e
   good-by-ours s true good = rw (empty-client table good, words-enough, with-empty table, ifClient, ifEnough) refl
   good-by-ours s false bad = refl
 
-  style-by-ours : (s : Option Style) → ifStyle sides table [] lent formula s ≡ styleByOurs sides table formula s
+  style-by-ours : (s : Option Style) → ifStyle sides table [] lent (readFormula formula) s ≡ styleByOurs sides table formula s
   unfolding ifStyle styleByOurs
   style-by-ours none = refl
   style-by-ours (some s) = good-by-ours s (goodTable table) refl

@@ -316,7 +316,7 @@ found-small style table client lent formula = styled (styleOf style)
     tabled s true false w = omega arith
     tabled s false c w = omega arith
 
-    styled : (o : Option Style) → FoundSmall (ifStyle noSides table client lent formula o)
+    styled : (o : Option Style) → FoundSmall (ifStyle noSides table client lent (readFormula formula) o)
     styled none = omega arith
     styled (some s) = tabled s (goodTable table) (goodClient table client) (enough lent)
 
