@@ -7,7 +7,7 @@
  * Every input has an answer. The library keeps nothing between calls; the
  * caller lends words for an index of each table, and may keep them.
  *
- * Link with target/staticlib/libcapi.a, which `rt staticlib capi` writes.
+ * Link with target/staticlib/libtorfianka.a, which bindings/archive writes.
  */
 #ifndef TORFIANKA_H
 #define TORFIANKA_H
@@ -19,7 +19,7 @@
 extern "C" {
 #endif
 
-/* What a call returns; 1 to 8 and 19 are refusals, listed in the order tested. */
+/* What a call returns; 1 to 9 and 19 are refusals, listed in the order tested. */
 enum torfianka_number {
     TORFIANKA_ACCEPTED = 0,
     TORFIANKA_BAD_STYLE = 1,   /* the style is above 7 */
@@ -42,6 +42,9 @@ enum torfianka_number {
                                   list around it, passes 1,073,741,823 */
     TORFIANKA_NO_ROOM = 7,     /* setting only: nodes_len is less than 18 bytes
                                   for each node */
+    TORFIANKA_NOT_SHIFTED = 9, /* torfianka_why only: no fraction, and no item
+                                  whose scripts are set beside it, that is set
+                                  starts at the place asked for */
     TORFIANKA_SHORT_ANSWER = 255 /* answer_len is less than 5; nothing was
                                   changed */
 };
@@ -55,6 +58,26 @@ enum torfianka_word {
     TORFIANKA_DEPTH = 3,
     TORFIANKA_COUNT = 4,  /* of nodes */
     TORFIANKA_ANSWER_WORDS = 5
+};
+
+/* The words of an answer of torfianka_why. */
+enum torfianka_why_word {
+    TORFIANKA_UP_BY = 1,   /* what decided the shift up, a torfianka_reason */
+    TORFIANKA_UP = 2,      /* that shift, of a superscript or a numerator */
+    TORFIANKA_DOWN_BY = 3, /* what decided the shift down */
+    TORFIANKA_DOWN = 4     /* that shift, of a subscript or a denominator */
+};
+
+/* What a shift comes from. */
+enum torfianka_reason {
+    TORFIANKA_NO_SHIFT = 0,  /* there is none, and the shift is 0 */
+    TORFIANKA_DROP = 1,      /* the nucleus and its drop, 0 for a plain symbol */
+    TORFIANKA_SIGMA = 2,     /* the font's parameter */
+    TORFIANKA_X_HEIGHT = 3,  /* the script's edge and the x-height */
+    TORFIANKA_GAP = 4,       /* four rules between two scripts */
+    TORFIANKA_PSI = 5,       /* both scripts raised to four fifths of the
+                                x-height */
+    TORFIANKA_CLEARANCE = 6  /* a fraction's clearance */
 };
 
 /*
@@ -137,6 +160,28 @@ uint8_t torfianka_set(uint8_t style,
                       int64_t *answer, size_t answer_len);
 
 /*
+ * Tells which quantity decided each shift of an item: of the candidates the
+ * greatest, and of equals the first, or the last correction that changed the
+ * shift. Parameters are those of torfianka_measure, and
+ *
+ *   place        the item's first byte, counted from 0
+ *   answer       the first five words receive the place of a refusal, else 0;
+ *                what decided the shift up, that shift, what decided the shift
+ *                down, and that shift. A shift that is not there is 0 and 0,
+ *                and so are all on a refusal.
+ *
+ * Refuses what torfianka_measure refuses, and then TORFIANKA_NOT_SHIFTED.
+ */
+uint8_t torfianka_why(uint8_t style,
+                      const uint8_t *table, size_t table_len,
+                      const uint8_t *client, size_t client_len,
+                      const uint8_t *formula, size_t formula_len,
+                      size_t place,
+                      uint64_t *index, size_t index_len,
+                      uint64_t *client_index, size_t client_index_len,
+                      int64_t *answer, size_t answer_len);
+
+/*
  * Tables and the words for their indexes, for callers who keep them together.
  * The words may hold anything at first, and the tables may be exchanged for
  * others at any time:
@@ -171,6 +216,17 @@ static inline uint8_t torfianka_set_in(struct torfianka_font *font, uint8_t styl
     return torfianka_set(style, font->table, font->table_len, font->client,
                          font->client_len, formula, formula_len, nodes, nodes_len,
                          font->index, TORFIANKA_INDEX_WORDS, font->client_index,
+                         TORFIANKA_INDEX_WORDS, answer, TORFIANKA_ANSWER_WORDS);
+}
+
+/* torfianka_why over a font, with all five words of an answer. */
+static inline uint8_t torfianka_why_in(struct torfianka_font *font, uint8_t style,
+                                       const uint8_t *formula, size_t formula_len,
+                                       size_t place, int64_t *answer)
+{
+    return torfianka_why(style, font->table, font->table_len, font->client,
+                         font->client_len, formula, formula_len, place, font->index,
+                         TORFIANKA_INDEX_WORDS, font->client_index,
                          TORFIANKA_INDEX_WORDS, answer, TORFIANKA_ANSWER_WORDS);
 }
 

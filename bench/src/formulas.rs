@@ -73,6 +73,9 @@ pub fn typical(letters: &Alphabet) -> Vec<Vec<u8>> {
 /// The length of a phrase whose nucleus is a symbol.
 pub const PHRASE_BYTES: usize = 64;
 
+/// Of a phrase's fraction and the kern behind it.
+pub const FRACTION_AND_KERN_BYTES: usize = 15;
+
 /// Symbols, scripts, a fraction and a kern; it opens with the given nucleus.
 fn phrase(letters: &Alphabet, nucleus: &[u8]) -> Vec<u8> {
     [

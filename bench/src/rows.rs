@@ -41,7 +41,7 @@ const OVER_A_FONT: [Row; 6] = [
 ];
 
 /// Over one table each.
-const OVER_ONE: [(OneFont, Row); 13] = [
+const OVER_ONE: [(OneFont, Row); 15] = [
     (
         || &BENCH,
         ("131,072 bytes, flat", Call::Set, LONGEST_FLAT),
@@ -58,6 +58,8 @@ const OVER_ONE: [(OneFont, Row); 13] = [
         || &BENCH,
         ("4,050 bytes, flat, in choices 16 deep", Call::Set, CHOSEN),
     ),
+    (|| &BENCH, ("64 bytes, one phrase", Call::Why, PHRASE)),
+    (|| &BENCH, ("4,096 bytes, flat", Call::Why, FLAT)),
     (|| &UNCHAINED, ("no bytes", Call::Set, NOTHING)),
     (|| &CHAINED, ("no bytes", Call::Set, NOTHING)),
     (|| &CHAINED, ("4,095 bytes, roots", Call::Set, SEARCHES)),

@@ -5,7 +5,7 @@
 //! archive that is linked.
 
 use crate::figures::grouped;
-use crate::formulas::nested;
+use crate::formulas::{nested, FRACTION_AND_KERN_BYTES};
 use crate::rows::{DEEPEST, LONG};
 use crate::tables::BENCH;
 use crate::work::{room, Call, DISPLAY};
@@ -25,7 +25,7 @@ const IN_REGISTERS: usize = 6;
 pub fn print() {
     println!("| call | bytes at depth 1 | at depth {DEEPEST} | each depth more |");
     println!("|---|--:|--:|--:|");
-    for call in [Call::Measure, Call::Set] {
+    for call in [Call::Measure, Call::Set, Call::Why] {
         let [flat, deep] = [1, DEEPEST].map(|depth| stack_bytes(call, depth));
         println!(
             "| {call:?} | {} | {} | {} |",
@@ -55,6 +55,7 @@ fn stack_bytes(call: Call, depth: usize) -> usize {
         formula.len(),
     ];
     let buffer = [nodes.as_mut_ptr() as usize, nodes.len()];
+    let place = [formula.len() - FRACTION_AND_KERN_BYTES];
     let words = [
         index.as_mut_ptr() as usize,
         index.len(),
@@ -63,16 +64,12 @@ fn stack_bytes(call: Call, depth: usize) -> usize {
         answer.as_mut_ptr() as usize,
         answer.len(),
     ];
-    let (function, arguments) = match call {
-        Call::Measure => (
-            sys::torfianka_measure as *const (),
-            [&lent[..], &words].concat(),
-        ),
-        Call::Set => (
-            sys::torfianka_set as *const (),
-            [&lent[..], &buffer, &words].concat(),
-        ),
+    let (function, own): (*const (), &[usize]) = match call {
+        Call::Measure => (sys::torfianka_measure as _, &[]),
+        Call::Set => (sys::torfianka_set as _, &buffer),
+        Call::Why => (sys::torfianka_why as _, &place),
     };
+    let arguments = [&lent, own, &words].concat();
     // SAFETY: the arguments are the function's own, in its order; every pointer
     // is a slice's, with that slice's length.
     let words = COLOURS.map(|colour| unsafe { painted_over(colour, function, &arguments) });

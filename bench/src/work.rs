@@ -1,5 +1,6 @@
 //! Formulas to set in a font, by either setter.
 
+use crate::formulas::FRACTION_AND_KERN_BYTES;
 use crate::tables::Font;
 use reference::{Lent, INDEX_WORDS, NODE_BYTES};
 use std::hint::black_box;
@@ -10,6 +11,8 @@ pub const DISPLAY: u8 = 0;
 pub enum Call {
     Measure,
     Set,
+    /// Of the fraction that stands before the kern at a formula's end.
+    Why,
 }
 
 #[derive(Clone, Copy)]
@@ -49,7 +52,8 @@ impl Kept {
         }
     }
 
-    /// The number of the formula's nodes, none if it is refused.
+    /// The number of the formula's nodes, or 0 of one that is asked about; none if
+    /// it is refused.
     fn call(
         &mut self,
         setter: Setter,
@@ -68,6 +72,10 @@ impl Kept {
         let answer = match call {
             Call::Measure => torfianka::measure(DISPLAY, font, formula),
             Call::Set => torfianka::set(DISPLAY, font, formula, nodes),
+            Call::Why => {
+                let place = formula.len() - FRACTION_AND_KERN_BYTES;
+                return torfianka::why(DISPLAY, font, formula, place).ok().map(|_| 0);
+            }
         };
         answer.ok().map(|measured| measured.count)
     }
@@ -81,6 +89,11 @@ impl Kept {
         let answer = match call {
             Call::Measure => reference::measure_lent(DISPLAY, table, client, formula, lent),
             Call::Set => reference::set_lent(DISPLAY, table, client, formula, nodes, lent),
+            Call::Why => {
+                let place = formula.len() - FRACTION_AND_KERN_BYTES;
+                let reasons = reference::why_lent(DISPLAY, table, client, formula, place, lent);
+                return (reasons.number == 0).then_some(0);
+            }
         };
         (answer.number == 0).then_some(answer.count as usize)
     }

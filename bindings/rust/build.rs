@@ -5,7 +5,7 @@ use std::env;
 use std::path::{Path, PathBuf};
 
 const VARIABLE: &str = "TORFIANKA_LIB";
-const OWN: &str = "../../target/staticlib/libcapi.a";
+const OWN: &str = "../../target/staticlib/libtorfianka.a";
 
 fn main() {
     println!("cargo:rerun-if-env-changed={VARIABLE}");
@@ -26,7 +26,7 @@ fn archive() -> PathBuf {
     match path.canonicalize() {
         Ok(archive) if archive.is_file() => archive,
         _ => panic!(
-            "no static library at {}: run `rt staticlib capi`, or let {VARIABLE} name it",
+            "no static library at {}: run bindings/archive, or let {VARIABLE} name it",
             path.display()
         ),
     }

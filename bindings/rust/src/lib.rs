@@ -22,9 +22,11 @@
 //! ```
 
 mod node;
+mod reason;
 pub mod sys;
 
 pub use node::{nodes, Node, NODE_BYTES};
+pub use reason::{Decided, Quantity, Reasons};
 
 use std::error::Error;
 use std::fmt;
@@ -84,6 +86,7 @@ pub struct Measured {
 /// | 5 | a symbol, or a successor the rules take, isn't in either table; of a root's sign, of a fence's delimiters and of lists that a C4 doesn't take nothing is missed | the field's kind byte |
 /// | 6 | a list's size, or a node's x or y seen from a list around it, passes 1,073,741,823 | 0 |
 /// | 7 | setting only: the buffer is shorter than [`NODE_BYTES`] for each node | 0 |
+/// | 9 | [`why`] only: no fraction, and no item whose scripts are set beside it, that is set starts at the place asked for | 0 |
 #[derive(Clone, Copy, Debug, PartialEq, Eq)]
 pub struct Refusal {
     pub number: u8,
@@ -169,6 +172,57 @@ pub fn set(
         )
     };
     outcome(number, answer)
+}
+
+/// Tells which quantity decided each shift of the item that starts at a place.
+///
+/// ```
+/// use torfianka::{why, Decided, Font, Quantity};
+///
+/// let mut font = Font::new(include_bytes!("../../../data/bench.tab"));
+/// let formula = b"AT\0\0\x01\x01f\x01\x01a\x01\x01a"; // f with two scripts
+/// let reasons = why(3, &mut font, formula, 0)?;
+/// assert_eq!(reasons.down, Some(Decided { by: Quantity::Psi, shift: 246 }));
+/// # Ok::<(), torfianka::Refusal>(())
+/// ```
+pub fn why(style: u8, font: &mut Font, formula: &[u8], place: usize) -> Result<Reasons, Refusal> {
+    let Font {
+        table,
+        client,
+        index,
+        client_index,
+    } = font;
+    let mut answer = Words::default();
+    // SAFETY: as in `measure`.
+    let number = unsafe {
+        sys::torfianka_why(
+            style,
+            table.as_ptr(),
+            table.len(),
+            client.as_ptr(),
+            client.len(),
+            formula.as_ptr(),
+            formula.len(),
+            place,
+            index.as_mut_ptr(),
+            index.len(),
+            client_index.as_mut_ptr(),
+            client_index.len(),
+            answer.as_mut_ptr(),
+            answer.len(),
+        )
+    };
+    let [place, up_by, up, down_by, down] = answer;
+    match number {
+        0 => Ok(Reasons {
+            up: Decided::read(up_by, up),
+            down: Decided::read(down_by, down),
+        }),
+        _ => Err(Refusal {
+            number,
+            place: place as usize,
+        }),
+    }
 }
 
 type Words = [i64; sys::ANSWER_WORDS];

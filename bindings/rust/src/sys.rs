@@ -1,6 +1,8 @@
 //! The C interface as it is; `include/torfianka.h` describes it.
 
-/// The words of an answer: place, width, height, depth, count.
+/// The words of an answer: place, width, height, depth, count; of
+/// [`torfianka_why`] place, and what decided the shift up, that shift, and the
+/// same of the shift down.
 pub const ANSWER_WORDS: usize = 5;
 
 /// What a call with fewer than [`ANSWER_WORDS`] returns.
@@ -36,6 +38,23 @@ extern "C" {
         formula_len: usize,
         nodes: *mut u8,
         nodes_len: usize,
+        index: *mut u64,
+        index_len: usize,
+        client_index: *mut u64,
+        client_index_len: usize,
+        answer: *mut i64,
+        answer_len: usize,
+    ) -> u8;
+
+    pub fn torfianka_why(
+        style: u8,
+        table: *const u8,
+        table_len: usize,
+        client: *const u8,
+        client_len: usize,
+        formula: *const u8,
+        formula_len: usize,
+        place: usize,
         index: *mut u64,
         index_len: usize,
         client_index: *mut u64,

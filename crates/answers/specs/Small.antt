@@ -3,6 +3,7 @@
 --     parts-so                         and so is whatever is read, by `formula`'s laws of what is read (`ReadIn`)
 --     Small                            an answer whose place and count are small
 --     measured-small, setting-small    every answer is
+--     explained-small                  and so is every place where reasons are asked for
 -- Assumes nothing.
 use mathlib.Core.Path.{_≡_, refl, sym, ap, subst, _∙_}
 use mathlib.Core.Bool.{Bool, true, false}
@@ -35,8 +36,10 @@ use Rattle.setting.specs.Setting.{Box, Line, Symbol, Part, symbolIn, symbolPart
 use Rattle.setting.specs.SettingLaws.{length-own, signs-found, setItem-choice, missingItem-choice}
 use Rattle.setting.specs.Missing.{_orElse_, later, absentAt, missingItems, missingItem, missingField}
 use Rattle.setting.specs.Fitting.{listFits}
+use Rattle.reasons.specs.Reasons.{Reasons}
 use Rattle.answers.specs.Lent.{Lent, enough}
 use Rattle.answers.specs.Answers.{Answered, Result, boxed, refused, refusal, accepted, noRoomNumber, ifFits, ifPresent, ifRead, ifEnough, ifClient, ifGood, ifStyle, resultOf, resultBetween, measuredBy, measured, measuredBetween, hasRoom, setBy, setting, settingBetween}
+use Rattle.answers.specs.Explained.{ifPicked, explainedBy, explained}
 
 -- ---- what is written in n bytes
 
@@ -346,3 +349,14 @@ setting-small style table client lent formula room = go (resultOf style table cl
     go : (r : Result) → FoundSmall r → Small (setBy room r)
     go (boxed b) h = roomy b (hasRoom room b) h
     go (refused number place) h = record { place = h; count = omega arith }
+
+pub explained-small : (style : ℕ) (table client : List ℕ) (lent : Lent) (formula : List ℕ) (place : ℕ) →
+    explained style table client lent formula place .place ≤ formulaLimit
+unfolding explained explainedBy ifPicked
+explained-small style table client lent formula place =
+    go (resultOf style table client lent formula) (found-small style table client lent formula) _
+  where
+    go : (r : Result) → FoundSmall r → (o : Option Reasons) → explainedBy r o .place ≤ formulaLimit
+    go (boxed b) h none = omega arith
+    go (boxed b) h (some r) = omega arith
+    go (refused number at) h o = h

@@ -1,3 +1,5 @@
--- An item from the shapes of its fields, and how many own nodes it has. Assumes nothing.
+-- An item from the shapes of its fields, and how many own nodes it has; what decided its shifts. Assumes nothing.
 pub mod Arrange
 pub mod Values
+pub mod Reasons
+pub mod ReasonsLaws

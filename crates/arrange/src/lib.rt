@@ -1,4 +1,6 @@
 // An item, from the shapes of its fields: its size, where its fields stand, and its own nodes.
+pub mod explaining;
+
 use boxes::Arranged;
 use boxes::Script;
 use boxes::Shape;

@@ -1,6 +1,6 @@
--- What a C caller is given: the answer's number as the result, and five words with its place, its sizes and its count.
---     answerWords     the five words, and behind them what was there
---     numberBy, wordsBy, lentBy     the same for a lent answer of any length: below five words nothing is done, and the
+-- What a C caller is given: the answer's number as the result, and five words.
+--     answerWords     an answer's place, its sizes and its count, and behind them what was there
+--     numberBy, wordsBy, lentBy     what a lent answer of any length is given: below five words nothing is done, and the
 --                     number is `noAnswer`
 -- Assumes nothing.
 use mathlib.Core.Bool.{cond}
@@ -26,11 +26,11 @@ answerWords a w =
     ∷ pos (a .count)
     ∷ drop answerSpace w
 
-unfoldable pub numberBy : Answered → List ℤ → ℕ
-numberBy a w = cond (leb answerSpace (length w)) (a .number) noAnswer
+unfoldable pub numberBy : ℕ → List ℤ → ℕ
+numberBy number w = cond (leb answerSpace (length w)) number noAnswer
 
-unfoldable pub wordsBy : Answered → List ℤ → List ℤ
-wordsBy a w = cond (leb answerSpace (length w)) (answerWords a w) w
+unfoldable pub wordsBy : List ℤ → List ℤ → List ℤ
+wordsBy after w = cond (leb answerSpace (length w)) after w
 
 -- the node buffer or the words for an index, which become `after` where there is room for the answer
 unfoldable pub lentBy : List ℕ → List ℕ → List ℤ → List ℕ

@@ -14,10 +14,10 @@ use layout::Answer;
 use layout::parts::parts_of;
 
 // How many words an answer takes.
-const ANSWER_SPACE: usize = 5;
+pub const ANSWER_SPACE: usize = 5;
 
 // The number where the answer has no room. Nothing is measured or set then.
-const NO_ANSWER: u8 = 255;
+pub const NO_ANSWER: u8 = 255;
 
 // Measures a formula.
 #[no_mangle]
@@ -30,8 +30,8 @@ pub extern "C" fn torfianka_measure<'a>(
     client_index: &mut [u64],
     answer: &mut [i64],
 ) -> u8
-    ensures { λ r. ⌜ r ≡ numberBy (measured style (now (table .entry)) (now (client .entry)) (lentOf (now (index .entry)) (now («client_index» .entry))) (now (formula .entry))) (now (answer .entry)) ⌝ }
-    ensures { λ _. ⌜ now (answer .exit) ≡ wordsBy (measured style (now (table .entry)) (now (client .entry)) (lentOf (now (index .entry)) (now («client_index» .entry))) (now (formula .entry))) (now (answer .entry)) ⌝ }
+    ensures { λ r. ⌜ r ≡ numberBy (measured style (now (table .entry)) (now (client .entry)) (lentOf (now (index .entry)) (now («client_index» .entry))) (now (formula .entry)) .number) (now (answer .entry)) ⌝ }
+    ensures { λ _. ⌜ now (answer .exit) ≡ wordsBy (answerWords (measured style (now (table .entry)) (now (client .entry)) (lentOf (now (index .entry)) (now («client_index» .entry))) (now (formula .entry))) (now (answer .entry))) (now (answer .entry)) ⌝ }
     ensures { λ _. ⌜ now (index .exit) ≡ lentBy (indexAfter style (now (table .entry)) (now (client .entry)) (now (index .entry)) (now («client_index» .entry))) (now (index .entry)) (now (answer .entry)) ⌝ }
     ensures { λ _. ⌜ now («client_index» .exit) ≡ lentBy (clientIndexAfter style (now (table .entry)) (now (client .entry)) (now (index .entry)) (now («client_index» .entry))) (now («client_index» .entry)) (now (answer .entry)) ⌝ }
 {
@@ -56,8 +56,8 @@ pub extern "C" fn torfianka_set<'a>(
     client_index: &mut [u64],
     answer: &mut [i64],
 ) -> u8
-    ensures { λ r. ⌜ r ≡ numberBy (setting style (now (table .entry)) (now (client .entry)) (lentOf (now (index .entry)) (now («client_index» .entry))) (now (formula .entry)) (length (now (nodes .entry)))) (now (answer .entry)) ⌝ }
-    ensures { λ _. ⌜ now (answer .exit) ≡ wordsBy (setting style (now (table .entry)) (now (client .entry)) (lentOf (now (index .entry)) (now («client_index» .entry))) (now (formula .entry)) (length (now (nodes .entry)))) (now (answer .entry)) ⌝ }
+    ensures { λ r. ⌜ r ≡ numberBy (setting style (now (table .entry)) (now (client .entry)) (lentOf (now (index .entry)) (now («client_index» .entry))) (now (formula .entry)) (length (now (nodes .entry))) .number) (now (answer .entry)) ⌝ }
+    ensures { λ _. ⌜ now (answer .exit) ≡ wordsBy (answerWords (setting style (now (table .entry)) (now (client .entry)) (lentOf (now (index .entry)) (now («client_index» .entry))) (now (formula .entry)) (length (now (nodes .entry)))) (now (answer .entry))) (now (answer .entry)) ⌝ }
     ensures { λ _. ⌜ now (nodes .exit) ≡ lentBy (bufferAfter style (now (table .entry)) (now (client .entry)) (lentOf (now (index .entry)) (now («client_index» .entry))) (now (formula .entry)) (now (nodes .entry))) (now (nodes .entry)) (now (answer .entry)) ⌝ }
     ensures { λ _. ⌜ now (index .exit) ≡ lentBy (indexAfter style (now (table .entry)) (now (client .entry)) (now (index .entry)) (now («client_index» .entry))) (now (index .entry)) (now (answer .entry)) ⌝ }
     ensures { λ _. ⌜ now («client_index» .exit) ≡ lentBy (clientIndexAfter style (now (table .entry)) (now (client .entry)) (now (index .entry)) (now («client_index» .entry))) (now («client_index» .entry)) (now (answer .entry)) ⌝ }
@@ -92,7 +92,7 @@ fn report(answer: Answer, words: &mut [i64]) -> u8
 }
 
 // A place or a count as a word.
-fn count_word(n: usize) -> i64
+pub fn count_word(n: usize) -> i64
     requires { ⌜ n ≤ formulaLimit ⌝ }
     ensures { λ r. ⌜ r ≡ pos n ⌝ }
 {

@@ -1,2 +1,4 @@
--- Fractions. Assumes nothing.
+-- Fractions; what decided a shift. Assumes nothing.
 pub mod Fractions
+pub mod Reasons
+pub mod ReasonsLaws

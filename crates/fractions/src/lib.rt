@@ -1,4 +1,6 @@
 // Fractions (rules 15 to 15e): numerator x, denominator z, bar thickness θ.
+pub mod explaining;
+
 use boxes::Arranged;
 use boxes::NULL_DELIMITER_WIDTH;
 use boxes::Offset;

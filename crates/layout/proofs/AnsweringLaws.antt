@@ -134,6 +134,7 @@ module _ (style : ℕ) (table client i j : List ℕ) where
     unfolding ifRead
     formula-reads formula f =
         record {
+          style-is = h .style-is;
           table-good = h .table-good;
           indexed =
               record {
@@ -143,6 +144,7 @@ module _ (style : ℕ) (table client i j : List ℕ) where
               };
           readable = f .readable;
           short = f .small;
+          tree-is = f .is;
           result-is = read-is noSides style table client lent formula s (h .style-is) (h .table-good) (h .client-good) (h .words-enough) _ (f .is);
         }
 

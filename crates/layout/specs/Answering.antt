@@ -14,7 +14,7 @@ use lib.ListN.{length}
 use Rattle.font.specs.Table.{goodTable, goodClient}
 use Rattle.font.specs.Font.{fontWith}
 use Rattle.font.specs.Index.{Indexed}
-use Rattle.formula.specs.Reading.{formulaLimit}
+use Rattle.formula.specs.Reading.{formulaLimit, good, readFormula}
 use Rattle.formula.specs.Places.{Readable, treeOf}
 use Rattle.boxes.specs.declared.styles.Style.{Style}
 use Rattle.boxes.specs.declared.Size.{Size}
@@ -68,10 +68,12 @@ readResult s table client formula =
 
 -- a formula that reads, in a style that there is, and tables that break no rule, with the indexes i and j
 pub record Reads (style : ℕ) (table client : List ℕ) (lent : Lent) (formula i j : List ℕ) (s : Style) : Type 0 where
+  pub style-is : styleOf style ≡ some s
   pub table-good : goodTable table ≡ true
   pub indexed : Indexed table client i j
   pub readable : Readable formula
   pub short : length formula ≤ formulaLimit
+  pub tree-is : readFormula formula ≡ good (treeOf formula)
   pub result-is : resultOf style table client lent formula ≡ readResult s table client formula
 
 -- a formula in the style s that is accepted, with the size z and n nodes

@@ -10,6 +10,7 @@ ghost use Rattle.walk.specs.Walked.{ListGiven};
 ghost use Rattle.layout.specs.Values.{answeredAs};
 ghost use Rattle.layout.specs.Answering.{Tested, Found, Examined, Weighed};
 
+pub mod explaining;
 pub mod parts;
 
 use boxes::Size;

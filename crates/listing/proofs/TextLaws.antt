@@ -1,14 +1,16 @@
--- The lines by the tests that the code makes: of an answer's number, and of a node's first byte.
+-- The lines by the tests that the code makes: of an answer's number, of a node's first byte, and of whether there is a shift.
 -- Assumes nothing.
 use mathlib.Core.Path.{_≡_, sym, ap}
-use mathlib.Core.Bool.{Bool, cond}
-use mathlib.Core.List.{List}
+use mathlib.Core.Bool.{Bool, true, false, cond}
+use mathlib.Core.List.{List, [], _++_}
 use Prim.Native.Nat.{ℕ}
 use borrow.Author.Tests.{eq-eqb, ne-eqb}
 use lib.ListN.{getD}
 use Rattle.answers.specs.Answers.{Answered, acceptedNumber}
+use Rattle.reasons.specs.Reasons.{Decided}
 use Rattle.nodes.specs.Nodes.{Node}
-use Rattle.listing.specs.Texts.{sizesText, refusalText, answerText, glyphIn, ruleIn, nodeIn}
+use Rattle.listing.specs.Decimals.{textOf}
+use Rattle.listing.specs.Texts.{newline, sizesText, refusalText, answerText, glyphIn, ruleIn, nodeIn, reasonMark, isThere, shiftText}
 
 module _ (a : Answered) where
   abbrev by : Bool → List ℕ
@@ -33,3 +35,15 @@ module _ (s : List ℕ) where
   pub rule-in : (getD s 0 0 ≡ 71 → ⊥) → ruleIn s ≡ nodeIn s
   unfolding nodeIn
   rule-in e = sym (ap either (ne-eqb (getD s 0 0) 71 e))
+
+module _ (mark : List ℕ) (d : Decided) where
+  abbrev shown : Bool → List ℕ
+  shown t = cond t (mark ++ reasonMark (d .by) ++ textOf (d .shift) ++ newline) []
+
+  pub shift-shown : isThere (d .by) ≡ true → mark ++ reasonMark (d .by) ++ textOf (d .shift) ++ newline ≡ shiftText mark d
+  unfolding shiftText
+  shift-shown e = sym (ap shown e)
+
+  pub shift-absent : isThere (d .by) ≡ false → [] ≡ shiftText mark d
+  unfolding shiftText
+  shift-absent e = sym (ap shown e)

@@ -2,8 +2,9 @@
 --     answerText    an acceptance, as `w 500 h 430 d 200 n 2`, or a refusal, as `refused 5 at 4`
 --     nodeText      a node: `glyph x y size family code`, or `rule x y width thickness`
 --     nodeIn        the node that stands at the front of some bytes
+--     shiftText     request 7: a shift and what decided it, as `down gap 250`; nothing where there is no shift
 -- Assumes nothing.
-use mathlib.Core.Bool.{cond}
+use mathlib.Core.Bool.{Bool, true, false, cond}
 use mathlib.Core.List.{List, [], _∷_, _++_}
 use Prim.Native.Nat.{ℕ}
 use lib.Dec.{eqb}
@@ -12,6 +13,9 @@ use lib.ListN.{drop, getD}
 use Rattle.words.specs.Words.{littleEndian, signedWord}
 use Rattle.boxes.specs.Boxes.{Size}
 use Rattle.nodes.specs.Nodes.{Node, glyph, rule}
+use Rattle.reasons.specs.declared.Reason.{Reason}
+use Rattle.reasons.specs.declared.Reason.the-variants.{None, Drop, Sigma, XHeight, Gap, Psi, Clearance}
+use Rattle.reasons.specs.Reasons.{Decided}
 use Rattle.answers.specs.Answers.{Answered, acceptedNumber}
 use Rattle.listing.specs.Decimals.{decimalOf, textOf}
 
@@ -93,3 +97,28 @@ ruleIn s = rule (numberAt 2 s) (numberAt 6 s) (numberAt 10 s) (numberAt 14 s)
 -- `G` opens a glyph
 unfoldable pub nodeIn : List ℕ → Node
 nodeIn s = cond (eqb (getD s 0 0) 71) (glyphIn s) (ruleIn s)
+
+-- ---- what decided a shift
+
+-- its name and a space: `drop `, `sigma `, `xheight `, `gap `, `psi `, `clearance `
+abbrev pub reasonMark : Reason → List ℕ
+reasonMark None = []
+reasonMark Drop = 100 ∷ 114 ∷ 111 ∷ 112 ∷ 32 ∷ []
+reasonMark Sigma = 115 ∷ 105 ∷ 103 ∷ 109 ∷ 97 ∷ 32 ∷ []
+reasonMark XHeight = 120 ∷ 104 ∷ 101 ∷ 105 ∷ 103 ∷ 104 ∷ 116 ∷ 32 ∷ []
+reasonMark Gap = 103 ∷ 97 ∷ 112 ∷ 32 ∷ []
+reasonMark Psi = 112 ∷ 115 ∷ 105 ∷ 32 ∷ []
+reasonMark Clearance = 99 ∷ 108 ∷ 101 ∷ 97 ∷ 114 ∷ 97 ∷ 110 ∷ 99 ∷ 101 ∷ 32 ∷ []
+
+-- whether there is a shift
+abbrev pub isThere : Reason → Bool
+isThere None = false
+isThere Drop = true
+isThere Sigma = true
+isThere XHeight = true
+isThere Gap = true
+isThere Psi = true
+isThere Clearance = true
+
+unfoldable pub shiftText : List ℕ → Decided → List ℕ
+shiftText mark d = cond (isThere (d .by)) (mark ++ reasonMark (d .by) ++ textOf (d .shift) ++ newline) []

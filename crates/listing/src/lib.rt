@@ -7,15 +7,20 @@ ghost use Prim.Native.Nat.{_+_, _≤_};
 ghost use lib.IntN.{natAbs};
 ghost use lib.ListN.{length};
 ghost use Rattle.boxes.specs.Values.{sizeAs};
+ghost use Rattle.reasons.specs.Values.{decidedAs};
 ghost use Rattle.layout.specs.Values.{answeredAs};
 ghost use Rattle.listing.specs.Decimals.{decimalOf, textOf};
-ghost use Rattle.listing.specs.Texts.{sizesText, refusalText, answerText, nodeText, numberAt, glyphIn, ruleIn, nodeIn};
+ghost use Rattle.listing.specs.Texts.{sizesText, refusalText, answerText, nodeText, numberAt, glyphIn, ruleIn, nodeIn, reasonMark, isThere, shiftText};
 ghost use Rattle.listing.specs.Written.{Written, Put, PutNear, numberText, placeText};
 use boxes::Size;
 use layout::Answer;
+use layout::explaining::Explanation;
+use layout::explaining::explained_parts;
 use layout::parts::parts_of;
 use libc::STDOUT_FILENO;
 use nodes::BYTES_IN_NODE;
+use reasons::Decided;
+use reasons::Reason;
 use scaled::Sp;
 
 // Room for the longest line.
@@ -34,6 +39,23 @@ pub fn write_answer(answer: Answer, nodes: &[u8]) {
     print(&line, end);
     let parts = parts_of(answer);
     write_nodes(nodes, parts.count);
+}
+
+// Prints what decided an item's shifts, a line for each that there is, or the refusal.
+pub fn write_reasons(explanation: Explanation) {
+    let mut line = [0u8; LINE_SPACE];
+    let parts = explained_parts(explanation);
+    if parts.number != 0 {
+        let end = refusal_text(parts.number, parts.place, &mut line);
+        print(&line, end);
+        return;
+    }
+    let up = parts.up;
+    let down = parts.down;
+    let first = shift_text(b"up ", up, &mut line);
+    print(&line, first);
+    let second = shift_text(b"down ", down, &mut line);
+    print(&line, second);
 }
 
 // The first `count` nodes, as far as the buffer has them.
@@ -96,6 +118,52 @@ fn refusal_text(number: u8, place: usize, out: &mut [u8]) -> usize
     let a = put_number(b"refused ", of_count(number as u64), out, 0);
     let b = put_number(b" at ", of_count(place as u64), out, a);
     put_bytes(b"\n", out, b)
+}
+
+// Writes the line of a shift at the front of the buffer, and gives its length: 0 where there is no shift.
+pub fn shift_text(mark: &[u8], decided: Decided, out: &mut [u8]) -> usize
+    requires { ⌜ (length (now mark) ≤ 6) × (128 ≤ length (now out)) ⌝ }
+    ensures { λ r. ⌜ Written (shiftText (now (mark .entry)) (decidedAs decided)) (now (out .entry)) (now (out .exit)) r ⌝ }
+{
+    let by = decided.by;
+    let shift = decided.shift;
+    if is_there(by) {
+        let a = put_bytes(mark, out, 0);
+        let b = put_reason(by, out, a);
+        let c = put_number(b"", of_length(shift), out, b);
+        return put_bytes(b"\n", out, c);
+    }
+    0
+}
+
+fn is_there(by: Reason) -> bool
+    ensures { λ r. ⌜ r ≡ isThere by ⌝ }
+{
+    match by {
+        Reason::None => false,
+        Reason::Drop => true,
+        Reason::Sigma => true,
+        Reason::XHeight => true,
+        Reason::Gap => true,
+        Reason::Psi => true,
+        Reason::Clearance => true,
+    }
+}
+
+// Writes the name of what decided a shift and a space at `at`, and gives the place behind them.
+fn put_reason(by: Reason, out: &mut [u8], at: usize) -> usize
+    requires { ⌜ at + 10 ≤ length (now out) ⌝ }
+    ensures { λ r. ⌜ PutNear 10 (reasonMark by) (now (out .entry)) (now (out .exit)) at r ⌝ }
+{
+    match by {
+        Reason::None => put_bytes(b"", out, at),
+        Reason::Drop => put_bytes(b"drop ", out, at),
+        Reason::Sigma => put_bytes(b"sigma ", out, at),
+        Reason::XHeight => put_bytes(b"xheight ", out, at),
+        Reason::Gap => put_bytes(b"gap ", out, at),
+        Reason::Psi => put_bytes(b"psi ", out, at),
+        Reason::Clearance => put_bytes(b"clearance ", out, at),
+    }
 }
 
 // Writes the line of the node at the front of some bytes at the front of the buffer, and gives its length.

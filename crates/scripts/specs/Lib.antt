@@ -1,4 +1,6 @@
--- Superscripts and subscripts; candidates in the code. Assumes nothing.
+-- Superscripts and subscripts; candidates in the code; what decided a shift. Assumes nothing.
 pub mod Scripts
 pub mod Values
 pub mod Bounds
+pub mod Reasons
+pub mod ReasonsLaws

@@ -1,4 +1,6 @@
 // Superscripts and subscripts (rules 18a to 18f). Each stage of a shift has a name; u, v and ψ are the rule's letters.
+pub mod explaining;
+
 use boxes::Arranged;
 use boxes::Offset;
 use boxes::Script;

@@ -1,7 +1,9 @@
 // The thin program: reads font.tab and, where there is one, client.tab in the working folder, and a style byte and a formula from
 // standard input, and writes what setting gives.
 
-ghost use Rattle.io.specs.Counts.{Counts};
+use files::CLIENT_SPACE;
+use files::TABLE_SPACE;
+use files::read_table;
 use font::INDEX_WORDS;
 use layout::Answer;
 use libc::STDIN_FILENO;
@@ -9,12 +11,7 @@ use libc::STDIN_FILENO;
 // The longest formula that the program takes. The library takes longer ones.
 const LONGEST: usize = 4_096;
 
-// One byte more than the longest table, ours and a client's, and one more than a style and the longest formula, so that a longer one is
-// seen.
-const TABLE_SPACE: usize = 47_531;
-
-const CLIENT_SPACE: usize = 11_777;
-
+// One byte more than a style and the longest formula, so that a longer one is seen.
 const INPUT_SPACE: usize = 4_098;
 
 // Room for a node for each byte of the longest formula, which is more than it can have.
@@ -28,33 +25,6 @@ fn main() {
     let mut client = [0u8; CLIENT_SPACE];
     let theirs = read_table(b"client.tab", &mut client);
     show(&table[..ours], &client[..theirs], &input[..got]);
-}
-
-// Reads a table to the front of a buffer. One that is not there has no bytes: ours is then no good table, and a client's has no symbols.
-// One that cannot be read has a single byte, so that neither is good.
-fn read_table(name: &[u8], buffer: &mut [u8]) -> usize
-    ensures { λ r. ⌜ Counts r (now (buffer .exit)) ⌝ }
-{
-    let fd = os::open_read(name);
-    if fd < 0 {
-        if os::errno() == libc::ENOENT {
-            return 0;
-        }
-        return io::count(1, buffer);
-    }
-    let size = io::read_full(fd, buffer);
-    let fails = read_fails(fd);
-    libc::close(fd);
-    if fails {
-        return io::count(1, buffer);
-    }
-    size
-}
-
-// Whether a read that stopped was stopped by a failure, as that of a folder is: the next one then fails too.
-fn read_fails(fd: i32) -> bool {
-    let mut byte = [0u8; 1];
-    libc::read(fd, &mut byte) < 0
 }
 
 // Without a style there is no style that is known.

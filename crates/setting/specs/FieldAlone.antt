@@ -28,32 +28,32 @@ use Rattle.setting.specs.Lines.{styleAfter-join}
 
 -- nothing is missing of two or three parts just if nothing is of any
 
-neither-missing : (x y : Option ℕ) → x orElse y ≡ none → (x ≡ none) × (y ≡ none)
+pub neither-missing : (x y : Option ℕ) → x orElse y ≡ none → (x ≡ none) × (y ≡ none)
 neither-missing none y e = (refl, e)
 neither-missing (some place) y e = let z : _≡_ {A = ℕ} 0 1 = cc in absurd (omega arith)
 
-none-of-three-missing : (x y z : Option ℕ) → x orElse y orElse z ≡ none → (x ≡ none) × (y ≡ none) × (z ≡ none)
+pub none-of-three-missing : (x y z : Option ℕ) → x orElse y orElse z ≡ none → (x ≡ none) × (y ≡ none) × (z ≡ none)
 none-of-three-missing x y z e =
     let h = neither-missing x (y orElse z) e in
     let k = neither-missing y z (h .1) in
     (h .0, k .0, k .1)
 
 -- whether something is missing does not depend on where places are counted from
-not-later : (at : ℕ) (m : Option ℕ) → later at m ≡ none → m ≡ none
+pub not-later : (at : ℕ) (m : Option ℕ) → later at m ≡ none → m ≡ none
 unfolding later
 not-later at none e = refl
 not-later at (some place) e = let z : _≡_ {A = ℕ} 0 1 = cc in absurd (omega arith)
 
 module _ (F : Font) where
   -- the three fields of an item
-  abbrev FieldsThere : Style → Kind → Field → Field → Field → Type 0
+  abbrev pub FieldsThere : Style → Kind → Field → Field → Field → Type 0
   FieldsThere s kind x y z =
       let second = openingBytes kind + fieldBytes x in
       (missingField F (firstStyle kind s) (firstManner kind s) (openingBytes kind) x ≡ none)
       × (missingField F (secondStyle kind s) Plain second y ≡ none)
       × (missingField F (thirdStyle s) Plain (second + fieldBytes y) z ≡ none)
 
-  fields-there : (s : Style) (kind : Kind) (x y z : Field) → missingItem F s (noad kind x y z) ≡ none → FieldsThere s kind x y z
+  pub fields-there : (s : Style) (kind : Kind) (x y z : Field) → missingItem F s (noad kind x y z) ≡ none → FieldsThere s kind x y z
   unfolding missingItem
   fields-there s kind x y z e = none-of-three-missing _ _ _ e
 
@@ -116,14 +116,14 @@ module _ (F : Font) where
 
 -- ---- answer 6
 
-all-true : (x y z : Bool) → (x && y && z) ≡ true → (x ≡ true) × (y ≡ true) × (z ≡ true)
+pub all-true : (x y z : Bool) → (x && y && z) ≡ true → (x ≡ true) × (y ≡ true) × (z ≡ true)
 all-true x y z e =
     let h = and-eq-true-iff (x && y) z .0 e in
     let k = and-eq-true-iff x y .0 (h .0) in
     (k .0, k .1, h .1)
 
 module _ (F : Font) where
-  fields-fit : (s : Style) (kind : Kind) (x y z : Field) → itemFits F s (noad kind x y z) ≡ true →
+  pub fields-fit : (s : Style) (kind : Kind) (x y z : Field) → itemFits F s (noad kind x y z) ≡ true →
       (fieldFits F (firstStyle kind s) (firstManner kind s) x ≡ true)
       × (fieldFits F (secondStyle kind s) Plain y ≡ true)
       × (fieldFits F (thirdStyle s) Plain z ≡ true)

@@ -1,4 +1,4 @@
--- The box of a list, what is missing and what is too large; and how a list field stands in the whole. Assumes nothing.
+-- The box of a list, what is missing and what is too large; and how a list field stands in the whole; the item at a place. Assumes nothing.
 pub mod Setting
 pub mod Missing
 pub mod Fitting
@@ -11,3 +11,5 @@ pub mod Lines
 pub mod Beyond
 pub mod FieldInPlace
 pub mod FieldAlone
+pub mod Picked
+pub mod PickedLaws

@@ -1,11 +1,13 @@
-// Runs test cases through the library and writes what the thin program would write for each, with the library's own limit on a
-// formula's length.
-// cases.bin: 'T' or 'C', a four-byte length and a table of ours or of a client's, which holds from there on, the client's being empty at
-// first; 'F', a style, a two-byte length and a formula; 'L', a style, a four-byte length and a formula.
+// Runs test cases through the library and writes what the thin programs would write for each, with the library's own limit on a
+// formula's length. In each file of cases:
+//     'T' or 'C'    a four-byte length and a table of ours or of a client's, which holds from there on; both are empty at first
+//     'F' or 'L'    a style, a length of two bytes or of four, and a formula to be set
+//     'W'           as 'F', and a four-byte place, of an item whose shifts are to be explained
 
 ghost use Prim.Native.Nat.{_≤_};
 ghost use lib.ListN.{length};
 use font::INDEX_WORDS;
+use layout::explaining::why;
 
 // A case that is longer is cut.
 const TABLE_SPACE: usize = 50_000;
@@ -19,9 +21,14 @@ const NODE_SPACE: usize = 131_072;
 const MOST_CASES: usize = 100_000;
 
 fn main() {
-    let fd = os::open_read(b"cases.bin");
+    run_file(b"cases.bin");
+    run_file(b"reasons.bin");
+}
+
+fn run_file(name: &[u8]) {
+    let fd = os::open_read(name);
     if fd < 0 {
-        os::fail(b"cases.bin");
+        os::fail(name);
         return;
     }
     let mut table = [0u8; TABLE_SPACE];
@@ -43,18 +50,36 @@ fn run(fd: i32, table: &mut [u8], client: &mut [u8], formula: &mut [u8]) {
             ours = read_long(fd, table);
         } else if letter == b'C' {
             theirs = read_long(fd, client);
-        } else if is_formula(letter) {
-            let style = read_byte(fd);
-            let size = read_formula(fd, letter, formula);
-            show(style, &table[..ours], &client[..theirs], &formula[..size]);
-        } else {
+        } else if !run_case(fd, letter, &table[..ours], &client[..theirs], formula) {
             return;
         }
     }
 }
 
-fn is_formula(letter: u8) -> bool {
-    (letter == b'F') | (letter == b'L')
+// Runs the case that a letter opens, and says whether it opens one.
+fn run_case<'a>(
+    fd: i32,
+    letter: u8,
+    table: &'a [u8],
+    client: &'a [u8],
+    formula: &mut [u8],
+) -> bool {
+    if !is_case(letter) {
+        return false;
+    }
+    let style = read_byte(fd);
+    let size = read_formula(fd, letter, formula);
+    if letter == b'W' {
+        let place = read_word(fd) as usize;
+        explain(style, table, client, &formula[..size], place);
+    } else {
+        show(style, table, client, &formula[..size]);
+    }
+    true
+}
+
+fn is_case(letter: u8) -> bool {
+    (letter == b'F') | (letter == b'L') | (letter == b'W')
 }
 
 // The next byte, or 0 where there is none.
@@ -67,10 +92,10 @@ fn read_byte(fd: i32) -> u8 {
 fn read_formula(fd: i32, letter: u8, buffer: &mut [u8]) -> usize
     ensures { λ r. ⌜ r ≤ length (now (buffer .exit)) ⌝ }
 {
-    if letter == b'F' {
-        return read_short(fd, buffer);
+    if letter == b'L' {
+        return read_long(fd, buffer);
     }
-    read_long(fd, buffer)
+    read_short(fd, buffer)
 }
 
 // Reads bytes behind a length of two bytes, or of four, to the front of a buffer.
@@ -85,11 +110,15 @@ fn read_short(fd: i32, buffer: &mut [u8]) -> usize
 fn read_long(fd: i32, buffer: &mut [u8]) -> usize
     ensures { λ r. ⌜ r ≤ length (now (buffer .exit)) ⌝ }
 {
+    read_front(fd, read_word(fd), buffer)
+}
+
+fn read_word(fd: i32) -> u32 {
     let a = read_byte(fd);
     let b = read_byte(fd);
     let c = read_byte(fd);
     let d = read_byte(fd);
-    read_front(fd, words::of_bytes(a, b, c, d), buffer)
+    words::of_bytes(a, b, c, d)
 }
 
 fn read_front(fd: i32, size: u32, buffer: &mut [u8]) -> usize
@@ -116,4 +145,18 @@ fn show<'a>(style: u8, table: &'a [u8], client: &'a [u8], formula: &[u8]) {
         &mut client_index,
     );
     listing::write_answer(answer, &nodes);
+}
+
+fn explain<'a>(style: u8, table: &'a [u8], client: &'a [u8], formula: &[u8], place: usize) {
+    let mut index = [0u64; INDEX_WORDS];
+    let mut client_index = [0u64; INDEX_WORDS];
+    listing::write_reasons(why(
+        style,
+        table,
+        client,
+        formula,
+        place,
+        &mut index,
+        &mut client_index,
+    ));
 }

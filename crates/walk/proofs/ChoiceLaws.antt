@@ -147,7 +147,7 @@ choice-given given span =
     )
 
 -- the place of the taken list, from the lists before it
-place-taken : (s : List ℕ) → Chosen s → (style : Style) →
+pub place-taken : (s : List ℕ) → Chosen s → (style : Style) →
     let second = choiceOpeningBytes + sublistBytes (itemsBytes (listIn s 0)) in
     let third = second + sublistBytes (itemsBytes (listIn s 1)) in
     let fourth = third + sublistBytes (itemsBytes (listIn s 2)) in

@@ -1,9 +1,9 @@
 -- What the proofs of several functions use. Assumes nothing.
 mod PartLaws
 mod FieldLaws
-mod PlaceLaws
+pub mod PlaceLaws
 mod ItemLaws
 mod Laid
 mod ListLaws
-mod ChoiceLaws
+pub mod ChoiceLaws
 mod NoadLaws

@@ -42,7 +42,7 @@ pub record Between (s : List ℕ) (at : ℕ) : Type 0 where
 
 -- and the item there, which was looked at
 module _ {s : List ℕ} {at : ℕ} (place : Between s at) (more : at < length s) where
-  stepped : Stepped (drop at s) (openingOf (drop at s))
+  pub stepped : Stepped (drop at s) (openingOf (drop at s))
   stepped = step (drop at s) (openingOf (drop at s)) refl (place .readable) (omega (arith, length-drop at s))
 
   pub rest-opens : length s ≤ longest →
@@ -53,11 +53,11 @@ module _ {s : List ℕ} {at : ℕ} (place : Between s at) (more : at < length s)
       rw (tail-part s at) ((place .readable, omega arith, omega arith), omega arith)
 
   module _ {current : Style} {c : Sight} (seen : ItemSeen current (take (length s - at) (drop at s)) c) where
-    here : ItemSeen current (drop at s) c
+    pub here : ItemSeen current (drop at s) c
     here = rw (tail-part s at) at seen
 
     -- the place behind it
-    abbrev next : ℕ
+    abbrev pub next : ℕ
     next = at + c .bytes
 
     pub next-some : 0 < c .bytes
@@ -71,7 +71,7 @@ module _ {s : List ℕ} {at : ℕ} (place : Between s at) (more : at < length s)
         let bytes = here .bytes-is in
         record { inside = omega (arith, length-drop at s, stepped .fits); readable = rw (← rest-is) (stepped .rest) }
 
-    tree-is : treeOf (drop at s) ≡ cons (itemOf (drop at s) (openingOf (drop at s))) (treeOf (drop next s))
+    pub tree-is : treeOf (drop at s) ≡ cons (itemOf (drop at s) (openingOf (drop at s))) (treeOf (drop next s))
     tree-is = stepped .tree ∙ ap (λ (r : List ℕ). cons (itemOf (drop at s) (openingOf (drop at s))) (treeOf r)) rest-is
 
     pub next-class : (beyond : Neighbour) →

@@ -3,13 +3,13 @@
 // A list is set at its own reference point, into the front of the buffer that it is lent, and its nodes are moved once the
 // item that holds it knows where it stands. A node that has no room is not written, so that an empty buffer measures.
 
-mod current;
+pub mod current;
 mod growing;
 mod items;
 pub mod lines;
 pub mod lists;
-mod parts;
-mod places;
+pub mod parts;
+pub mod places;
 mod sides;
-mod signs;
+pub mod signs;
 mod symbols;

@@ -476,7 +476,7 @@ fn set_third<'a>(
 
 // Sets the field whose kind byte stands at `at` of its item alone, at its own reference point, into the front of buf. Most are
 // empty.
-fn set_field<'a>(
+pub fn set_field<'a>(
     table: &'a [u8],
     client: &'a [u8],
     index: &[u64],

@@ -103,7 +103,7 @@ fn look_over(style: Style, s: &[u8]) -> Sight
 }
 
 // Looks at the item at the head of s; of a choice, at its taken list.
-fn look_at(style: Style, s: &[u8]) -> Sight
+pub fn look_at(style: Style, s: &[u8]) -> Sight
     requires { ⌜ tree.Readable (now s) × (length (now s) ≤ longest) × (0 < length (now s)) ⌝ }
     ensures { λ r. ⌜ ItemSeen style (now (s .entry)) r ⌝ }
 {

@@ -3,18 +3,22 @@
 use crate::guarded::Guarded;
 use crate::input::Input;
 use reference::generate::Random;
-use reference::{Answer, Lent, INDEX_WORDS, NODE_BYTES};
+use reference::{item_places, Answer, Decided, Explanation, Lent, INDEX_WORDS, NODE_BYTES};
 use std::ptr;
 use torfianka::sys::{self, ANSWER_WORDS, SHORT_ANSWER};
 use torfianka::{Font, Measured, Refusal};
 
 /// The refusal of too few words for an index.
 const SHORT_INDEX: u8 = 19;
+/// How many items of a formula are asked why.
+const MOST_PLACES: usize = 12;
 
 #[derive(Clone, Copy, Debug)]
 pub enum Call {
     Measure,
     Set,
+    /// Of an item at a place, or of a place where there may be none.
+    Why(usize),
 }
 
 /// A call's result and the memory lent to it.
@@ -39,14 +43,27 @@ pub fn disagreement(input: &Input) -> Option<Disagreement> {
     let mut random = Random::new(input.filling);
     let long = ANSWER_WORDS + random.below(4);
     let short = random.below(ANSWER_WORDS);
-    [
-        (Call::Measure, long),
-        (Call::Set, long),
-        (Call::Measure, short),
-        (Call::Set, short),
-    ]
-    .into_iter()
-    .find_map(|(call, words)| disagreement_in(call, words, input, &mut random))
+    let asked = places(input, &mut random);
+    let short_calls = [Call::Measure, Call::Set, Call::Why(asked[0])];
+    [Call::Measure, Call::Set]
+        .into_iter()
+        .chain(asked.into_iter().map(Call::Why))
+        .map(|call| (call, long))
+        .chain(short_calls.map(|call| (call, short)))
+        .find_map(|(call, words)| disagreement_in(call, words, input, &mut random))
+}
+
+/// Where to ask why: at every item of a short formula, at some of a long one,
+/// and at places that are mostly none.
+fn places(input: &Input, random: &mut Random) -> Vec<usize> {
+    let Input { formula, .. } = input;
+    let mut places = item_places(formula);
+    while places.len() > MOST_PLACES {
+        places.swap_remove(random.below(places.len()));
+    }
+    places.insert(0, random.below(formula.len() + 2));
+    places.push(random.word() as usize);
+    places
 }
 
 fn disagreement_in(
@@ -56,7 +73,7 @@ fn disagreement_in(
     random: &mut Random,
 ) -> Option<Disagreement> {
     let room = match call {
-        Call::Measure => 0,
+        Call::Measure | Call::Why(_) => 0,
         Call::Set => input.room,
     };
     let before = Outcome {
@@ -187,6 +204,22 @@ fn by_library(call: Call, input: &Input, client: *const u8, mut lent: Outcome) -
                 answer.as_mut_ptr(),
                 answer.len(),
             ),
+            Call::Why(place) => sys::torfianka_why(
+                input.style,
+                table.as_ptr(),
+                table.len(),
+                client,
+                input.client.len(),
+                formula.as_ptr(),
+                formula.len(),
+                place,
+                index.as_mut_ptr(),
+                index.len(),
+                client_index.as_mut_ptr(),
+                client_index.len(),
+                answer.as_mut_ptr(),
+                answer.len(),
+            ),
         }
     };
     lent
@@ -209,23 +242,38 @@ fn by_reference(call: Call, input: &Input, mut lent: Outcome) -> Outcome {
         index: lent.index.lent_mut(),
         client_index: lent.client_index.lent_mut(),
     };
-    let answer = match call {
-        Call::Measure => reference::measure_lent(*style, table, client, formula, indexes),
-        Call::Set => reference::set_lent(*style, table, client, formula, nodes, indexes),
+    (lent.number, *words) = match call {
+        Call::Measure => words_of(reference::measure_lent(
+            *style, table, client, formula, indexes,
+        )),
+        Call::Set => words_of(reference::set_lent(
+            *style, table, client, formula, nodes, indexes,
+        )),
+        Call::Why(place) => reason_words(reference::why_lent(
+            *style, table, client, formula, place, indexes,
+        )),
     };
-    *words = words_of(&answer);
-    lent.number = answer.number;
     lent
 }
 
-fn words_of(answer: &Answer) -> [i64; ANSWER_WORDS] {
-    [
+fn words_of(answer: Answer) -> (u8, [i64; ANSWER_WORDS]) {
+    let words = [
         answer.place as i64,
         answer.width,
         answer.height,
         answer.depth,
         answer.count as i64,
-    ]
+    ];
+    (answer.number, words)
+}
+
+fn reason_words(explanation: Explanation) -> (u8, [i64; ANSWER_WORDS]) {
+    let pair = |decided: Option<Decided>| {
+        decided.map_or([0, 0], |Decided { by, shift }| [by as i64, shift])
+    };
+    let ([up_by, up], [down_by, down]) = (pair(explanation.up), pair(explanation.down));
+    let words = [explanation.place as i64, up_by, up, down_by, down];
+    (explanation.number, words)
 }
 
 /// Whether the safe functions tell what the C interface told, with a new font
@@ -234,6 +282,9 @@ fn binding_agrees(call: Call, input: &Input, library: &Outcome) -> bool {
     let Some(&[place, width, height, depth, count]) = library.answer.lent().first_chunk() else {
         return true;
     };
+    if let Call::Why(asked) = call {
+        return why_agrees(asked, input, library);
+    }
     let expected = match library.number {
         0 => Ok(Measured {
             width,
@@ -259,5 +310,28 @@ fn binding_agrees(call: Call, input: &Input, library: &Outcome) -> bool {
             let result = torfianka::set(input.style, &mut font, &input.formula, &mut nodes);
             result == expected && nodes == library.nodes.lent()
         }
+        Call::Why(_) => true,
     })
+}
+
+/// The same of the safe function that asks why.
+fn why_agrees(asked: usize, input: &Input, library: &Outcome) -> bool {
+    if library.number == SHORT_INDEX {
+        return true;
+    }
+    let mut font = Font::with_client(&input.table, &input.client);
+    let pair = |decided: Option<torfianka::Decided>| {
+        decided.map_or([0, 0], |decided| [decided.by as i64 + 1, decided.shift])
+    };
+    let told = match torfianka::why(input.style, &mut font, &input.formula, asked) {
+        Ok(reasons) => (
+            0,
+            [&[0][..], &pair(reasons.up), &pair(reasons.down)].concat(),
+        ),
+        Err(Refusal { number, place }) => (number, vec![place as i64, 0, 0, 0, 0]),
+    };
+    told == (
+        library.number,
+        library.answer.lent()[..ANSWER_WORDS].to_vec(),
+    )
 }

@@ -1,6 +1,7 @@
 //! What a call gives back.
 
 use crate::boxes::MathBox;
+use crate::reasons::{Decided, Reasons};
 
 /// A refusal has its number and place; its sizes and count are 0.
 #[derive(Clone, Copy, Debug, Default, PartialEq, Eq)]
@@ -38,6 +39,7 @@ pub(crate) enum Refusal {
     Absent(usize),
     Size,
     Room,
+    Unexplained,
 }
 
 impl From<Refusal> for Answer {
@@ -52,11 +54,37 @@ impl From<Refusal> for Answer {
             Refusal::Absent(place) => (5, place),
             Refusal::Size => (6, 0),
             Refusal::Room => (7, 0),
+            Refusal::Unexplained => (9, 0),
         };
         Answer {
             number,
             place: place as u64,
             ..Answer::default()
+        }
+    }
+}
+
+/// What the call gives back that asks for an item's reasons; a refusal has no
+/// shifts.
+#[derive(Clone, Copy, Debug, PartialEq, Eq)]
+pub struct Explanation {
+    pub number: u8,
+    pub place: u64,
+    pub up: Option<Decided>,
+    pub down: Option<Decided>,
+}
+
+impl From<Result<Reasons, Refusal>> for Explanation {
+    fn from(found: Result<Reasons, Refusal>) -> Explanation {
+        let (answer, reasons) = match found {
+            Ok(reasons) => (Answer::default(), reasons),
+            Err(refusal) => (refusal.into(), Reasons::default()),
+        };
+        Explanation {
+            number: answer.number,
+            place: answer.place,
+            up: reasons.up,
+            down: reasons.down,
         }
     }
 }

@@ -4,6 +4,7 @@ use crate::answer::Refusal;
 use crate::boxes::{Extent, MathBox};
 use crate::nodes::{Ink, Node, Pen, Run};
 use crate::reading::{Class, Field, Formula, Item, List, Symbol};
+use crate::reasons::Reasons;
 use crate::records::Character;
 use crate::spacing;
 use crate::style::Style;
@@ -17,6 +18,11 @@ pub struct Layout<'a, P> {
     /// A list or node past the size limit was met. An absent symbol further
     /// on still goes before it.
     pub oversize: bool,
+    /// The reasons of the item set last, where it has shifts that have some.
+    pub reasons: Option<Reasons>,
+    /// The item whose reasons are asked for, by its place.
+    asked: Option<usize>,
+    pub explained: Option<Reasons>,
 }
 
 /// The atoms that a list's own have beside them, unseen.
@@ -34,12 +40,15 @@ impl Neighbours {
 }
 
 impl<'a, P: Pen> Layout<'a, P> {
-    pub fn new(tables: &'a Tables<'a>, formula: &'a Formula, pen: P) -> Self {
+    pub fn new(tables: &'a Tables<'a>, formula: &'a Formula, pen: P, asked: Option<usize>) -> Self {
         Layout {
             tables,
             formula,
             pen,
             oversize: false,
+            reasons: None,
+            asked,
+            explained: None,
         }
     }
 
@@ -63,14 +72,18 @@ impl<'a, P: Pen> Layout<'a, P> {
         let mut row = MathBox::default();
         let mut left = neighbours.left;
         let mut items = self.formula.items(list, start_style);
-        while let Some((item, style)) = items.next() {
+        while let Some((item, style, place)) = items.next() {
             if let Some(class) = item.class() {
-                let next_class = || items.clone().find_map(|(item, _)| item.class());
+                let next_class = || items.clone().find_map(|(item, ..)| item.class());
                 let class = spacing::settled(class, left, || next_class().or(neighbours.right));
                 row.width += self.space(left, class, style);
                 left = Some(class);
             }
             let item_box = self.item(item, style)?;
+            let reasons = self.reasons.take();
+            if self.asked == Some(place) {
+                self.explained = reasons;
+            }
             row.extent = row.extent.joined(self.place(&item_box, row.width, 0));
             row.width += item_box.width;
             row.height = row.height.max(item_box.height);

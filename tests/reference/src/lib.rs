@@ -16,18 +16,20 @@ mod nodes;
 mod parameters;
 mod printed;
 mod reading;
+mod reasons;
 mod records;
 mod rules;
 mod spacing;
 mod style;
 mod tables;
 
-pub use answer::Answer;
+pub use answer::{Answer, Explanation};
 pub use chains::CHAIN_LIMIT;
 pub use index::INDEX_WORDS;
 pub use nodes::NODE_BYTES;
-pub use printed::printed;
+pub use printed::{printed, printed_reasons};
 pub use reading::{DEPTH_LIMIT, FORMULA_LIMIT, SHORT_LIST_LIMIT};
+pub use reasons::{Decided, Quantity};
 pub use records::WORD_LIMIT;
 pub use tables::{Lent, CHARACTER_LIMIT, CLIENT_LIMIT};
 
@@ -39,6 +41,7 @@ use boxes::MathBox;
 use layout::Layout;
 use nodes::{Count, Node, Pen};
 use reading::Formula;
+use reasons::Reasons;
 use style::Style;
 use tables::Tables;
 
@@ -66,8 +69,8 @@ pub fn set(style: u8, table: &[u8], client: &[u8], formula: &[u8], nodes: &mut [
 /// table is none. The lent words get the indexes of both tables unless the
 /// style, a table or the words themselves are refused.
 pub fn measure_lent(style: u8, table: &[u8], client: &[u8], formula: &[u8], lent: Lent) -> Answer {
-    match lay_out(style, table, client, formula, Count::default(), lent) {
-        Ok((formula_box, pen)) => Answer::accepted(&formula_box, pen.count()),
+    match lay_out(style, table, client, formula, Count::default(), None, lent) {
+        Ok((formula_box, found)) => Answer::accepted(&formula_box, found.pen.count()),
         Err(refusal) => refusal.into(),
     }
 }
@@ -96,12 +99,54 @@ fn try_set(
     lent: Lent,
 ) -> Result<Answer, Refusal> {
     let pen: Vec<Node> = Vec::with_capacity(most_nodes(formula));
-    let (formula_box, pen) = lay_out(style, table, client, formula, pen, lent)?;
+    let (formula_box, Found { pen, .. }) = lay_out(style, table, client, formula, pen, None, lent)?;
     let room = nodes
         .get_mut(..NODE_BYTES * pen.len())
         .ok_or(Refusal::Room)?;
     nodes::write(&pen, room);
     Ok(Answer::accepted(&formula_box, pen.len()))
+}
+
+/// As [`why_lent`], with words that no one sees.
+pub fn why(style: u8, table: &[u8], client: &[u8], formula: &[u8], place: usize) -> Explanation {
+    let [mut index, mut client_index] = [[0; INDEX_WORDS]; 2];
+    let lent = Lent {
+        index: &mut index,
+        client_index: &mut client_index,
+    };
+    why_lent(style, table, client, formula, place, lent)
+}
+
+/// Measures, and tells which quantity decided each shift of the item that
+/// starts at a place.
+pub fn why_lent(
+    style: u8,
+    table: &[u8],
+    client: &[u8],
+    formula: &[u8],
+    place: usize,
+    lent: Lent,
+) -> Explanation {
+    try_why(style, table, client, formula, place, lent).into()
+}
+
+fn try_why(
+    style: u8,
+    table: &[u8],
+    client: &[u8],
+    formula: &[u8],
+    place: usize,
+    lent: Lent,
+) -> Result<Reasons, Refusal> {
+    let asked = Some(place);
+    let (_, found) = lay_out(style, table, client, formula, Count::default(), asked, lent)?;
+    found.explained.ok_or(Refusal::Unexplained)
+}
+
+/// The places of all items of a formula, those that are not set too; none if it
+/// can't be read.
+pub fn item_places(formula: &[u8]) -> Vec<usize> {
+    Formula::read(formula).map_or(Vec::new(), |formula| formula.places().collect())
 }
 
 /// No item has more nodes for its bytes than a fraction of two symbols, or a
@@ -110,22 +155,31 @@ fn most_nodes(formula: &[u8]) -> usize {
     formula.len().min(FORMULA_LIMIT) / 3
 }
 
+/// What a layout leaves behind beside the formula's box.
+struct Found<P> {
+    pen: P,
+    explained: Option<Reasons>,
+}
+
 /// Everything but the buffer, with the refusals in the order they are tested.
+/// Where a place is asked for, the item there is explained.
 fn lay_out<P: Pen>(
     style: u8,
     table: &[u8],
     client: &[u8],
     formula: &[u8],
     pen: P,
+    asked: Option<usize>,
     lent: Lent,
-) -> Result<(MathBox, P), Refusal> {
+) -> Result<(MathBox, Found<P>), Refusal> {
     let style = Style::new(style).ok_or(Refusal::Style)?;
     let tables = Tables::read(table, client, lent)?;
     let formula = Formula::read(formula)?;
-    let mut layout = Layout::new(&tables, &formula, pen);
+    let mut layout = Layout::new(&tables, &formula, pen, asked);
     let formula_box = layout.list(formula.top, style)?;
     if layout.oversize {
         return Err(Refusal::Size);
     }
-    Ok((formula_box, layout.pen))
+    let Layout { pen, explained, .. } = layout;
+    Ok((formula_box, Found { pen, explained }))
 }

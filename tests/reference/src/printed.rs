@@ -1,6 +1,6 @@
 //! An answer as lines of text.
 
-use crate::{Answer, NODE_BYTES};
+use crate::{Answer, Decided, Explanation, NODE_BYTES};
 use std::fmt::Write;
 
 /// The lines of an answer and its nodes, as the thin program writes them.
@@ -16,6 +16,25 @@ pub fn printed(answer: &Answer, nodes: &[u8]) -> String {
         print_node(&mut text, node);
     }
     text
+}
+
+/// A line for each shift of an item, with what decided it.
+pub fn printed_reasons(explanation: &Explanation) -> String {
+    let Explanation {
+        number,
+        place,
+        up,
+        down,
+    } = explanation;
+    if *number != 0 {
+        return format!("refused {number} at {place}\n");
+    }
+    let line = |way: &str, shift: &Option<Decided>| {
+        shift.map_or(String::new(), |Decided { by, shift }| {
+            format!("{way} {} {shift}\n", by.name())
+        })
+    };
+    line("up", up) + &line("down", down)
 }
 
 fn print_node(text: &mut String, node: &[u8; NODE_BYTES]) {

@@ -148,6 +148,8 @@ pub struct List {
 #[derive(Clone, Copy, Debug)]
 struct Entry {
     content: Content,
+    /// The place of its first byte.
+    place: u32,
     /// The entry after all that this one holds.
     next: u32,
 }
@@ -166,6 +168,7 @@ enum Content {
 /// Stands for an entry until that is known.
 const UNREAD: Entry = Entry {
     content: Content::EndOfChoice,
+    place: 0,
     next: 0,
 };
 
@@ -191,6 +194,15 @@ impl Formula {
         })
     }
 
+    /// The places of all its items, those that are not set too.
+    pub fn places(&self) -> impl Iterator<Item = usize> + '_ {
+        let items = self.entries.iter().filter(|entry| match entry.content {
+            Content::Item(_) => true,
+            Content::Style(_) | Content::Choice(_) | Content::EndOfChoice => false,
+        });
+        items.map(|entry| entry.place as usize)
+    }
+
     pub fn items(&self, list: List, style: Style) -> Items<'_> {
         Items {
             entries: &self.entries,
@@ -202,7 +214,8 @@ impl Formula {
 }
 
 /// The items of one list, without those inside them, each with the style
-/// current at it. What a C4 takes stands in its place.
+/// current at it and the place of its first byte. What a C4 takes stands in its
+/// place.
 #[derive(Clone)]
 pub struct Items<'a> {
     entries: &'a [Entry],
@@ -212,14 +225,14 @@ pub struct Items<'a> {
 }
 
 impl<'a> Iterator for Items<'a> {
-    type Item = (&'a Item, Style);
+    type Item = (&'a Item, Style, usize);
 
-    fn next(&mut self) -> Option<(&'a Item, Style)> {
+    fn next(&mut self) -> Option<Self::Item> {
         while self.at != self.end {
             let entry = &self.entries[self.at as usize];
             self.at = entry.next;
             match &entry.content {
-                Content::Item(item) => return Some((item, self.style)),
+                Content::Item(item) => return Some((item, self.style, entry.place as usize)),
                 Content::Style(style) => self.style = *style,
                 Content::Choice(lists) => self.at = lists[self.style.without_prime()],
                 Content::EndOfChoice => {}
@@ -271,8 +284,11 @@ impl Reader<'_> {
         let index = self.entries.len();
         self.entries.push(UNREAD);
         let content = self.content(cursor)?;
-        let next = self.entries.len() as u32;
-        self.entries[index] = Entry { content, next };
+        self.entries[index] = Entry {
+            content,
+            place: cursor.item as u32,
+            next: self.entries.len() as u32,
+        };
         Ok(())
     }
 
@@ -389,7 +405,11 @@ impl Reader<'_> {
         let next = self.entries.len() as u32;
         let content = Content::EndOfChoice;
         for list in lists {
-            self.entries[list.end as usize] = Entry { content, next };
+            self.entries[list.end as usize] = Entry {
+                content,
+                next,
+                ..UNREAD
+            };
         }
         Ok(lists.map(|list| list.first))
     }

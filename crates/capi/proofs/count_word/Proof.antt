@@ -1,5 +1,5 @@
 -- `count_word` meets its contract: a number of a formula's places is itself as a word, by `count-kept`. Assumes nothing.
-use Rattle.capi.proofs.Stores.{count-kept}
+use Rattle.capi.specs.WordsLaws.{count-kept}
 use borrow.Author.Needs.{needs}
 use Rattle.capi.proofs.count_word.Statement.{statement}
 use Rattle.capi.proofs.count_word.Tie as tie

@@ -1,13 +1,19 @@
 -- `report` meets its contract: five stores, by `five-stores`, of the parts that `parts_of` gives. Assumes nothing.
-use mathlib.Core.Path.{refl, ap, _∙_}
+use mathlib.Core.Path.{_≡_, refl, sym, ap, subst, _∙_}
 use native.Mathlib.Omega.{arith}
 use lib.ListN.{length-set}
 use Rattle.answers.specs.Answers.{Answered}
+use Rattle.answers.specs.Small.{Small}
+use Rattle.layout.specs.declared.parts.Parts.{Parts}
+use Rattle.layout.specs.Parts.{partsAs}
 use Rattle.capi.specs.Words.{answerWords}
-use Rattle.capi.proofs.Stores.{five-stores, kept, count-kept, parts-small}
+use Rattle.capi.specs.WordsLaws.{five-stores, kept, count-kept}
 use borrow.Author.Needs.{needs}
 use Rattle.capi.proofs.report.Statement.{statement}
 use Rattle.capi.proofs.report.Tie as tie
+
+parts-small : (a : Answered) (p : Parts) → partsAs p ≡ a → Small a → Small (partsAs p)
+parts-small a p e h = subst Small (sym e) h
 
 parts-of-requires : tie.Need-parts-of-requires
 parts-of-requires c κs = search needs

@@ -1,7 +1,7 @@
 -- The answer of setting, the buffer, and the words for both indexes, where there is room for the answer.
 use mathlib.Core.Path.{sym, subst, _∙_}
 use Rattle.answers.specs.Small.{Small, setting-small}
-use Rattle.capi.proofs.Stores.{number-short, words-short, lent-short, number-enough, words-enough, lent-enough}
+use Rattle.capi.specs.WordsLaws.{number-short, words-short, lent-short, number-enough, words-enough, lent-enough}
 use borrow.Author.Needs.{needs}
 use Rattle.capi.proofs.torfianka_set.Statement.{statement}
 use Rattle.capi.proofs.torfianka_set.Tie as tie

@@ -2,10 +2,11 @@
 //!
 //! The file has parts: `T`, a four-byte length and a table, which holds from
 //! there on; `C`, the same of a client's table, which is empty at first; `F`, a
-//! style byte, a two-byte length and a formula; or `L`, a style byte, a
-//! four-byte length and a formula.
+//! style byte, a two-byte length and a formula; `L`, the same with a four-byte
+//! length; or `W`, as `F` with a four-byte place behind the formula, of an item
+//! whose shifts are to be explained.
 
-use reference::{measure, printed, set, NODE_BYTES};
+use reference::{measure, printed, printed_reasons, set, why, NODE_BYTES};
 use std::io::{self, BufWriter, Write};
 use std::process::ExitCode;
 
@@ -38,6 +39,13 @@ fn run(mut cases: &[u8]) -> io::Result<()> {
                     _ => take_long(&mut cases)?,
                 };
                 out.write_all(outcome(style, table, client, formula).as_bytes())?;
+            }
+            b'W' => {
+                let [style] = take(&mut cases)?;
+                let formula = take_short(&mut cases)?;
+                let place = u32::from_le_bytes(take(&mut cases)?) as usize;
+                let explanation = why(style, table, client, formula, place);
+                out.write_all(printed_reasons(&explanation).as_bytes())?;
             }
             _ => return Err(malformed()),
         }

@@ -7,12 +7,13 @@ use crate::layout::Layout;
 use crate::nodes::{Ink, Node, Pen};
 use crate::parameters::Parameters;
 use crate::reading::Field;
+use crate::reasons::{Decided, Quantity, Reasons};
 use crate::style::Style;
 
-/// How far the numerator goes up and the denominator goes down.
+/// How far the numerator goes up and the denominator goes down, and why.
 struct Shifts {
-    up: i64,
-    down: i64,
+    up: Decided,
+    down: Decided,
 }
 
 impl<P: Pen> Layout<'_, P> {
@@ -36,21 +37,25 @@ impl<P: Pen> Layout<'_, P> {
         let denominator = self.field(denominator, style.denominator())?;
         let width = numerator.width.max(denominator.width);
 
-        let shifts = shifts(thickness, &numerator, &denominator, style, font);
+        let Shifts { up, down } = shifts(thickness, &numerator, &denominator, style, font);
         let middle = |part: &MathBox| NULL_DELIMITER + half(width - part.width);
-        let over = self.place(&numerator, middle(&numerator), shifts.up);
-        let under = self.place(&denominator, middle(&denominator), -shifts.down);
+        let over = self.place(&numerator, middle(&numerator), up.shift);
+        let under = self.place(&denominator, middle(&denominator), -down.shift);
         let mut extent = over.joined(under);
         if thickness > 0 {
             let bar = bar(width, thickness, font);
             extent = extent.joined(Extent::point(bar.x, bar.y));
             self.pen.replace(bar_index, bar);
         }
+        self.reasons = Some(Reasons {
+            up: Some(up),
+            down: Some(down),
+        });
         // 15e: an absent delimiter stands on each side.
         Ok(MathBox {
             width: width + 2 * NULL_DELIMITER,
-            height: numerator.height + shifts.up,
-            depth: denominator.depth + shifts.down,
+            height: numerator.height + up.shift,
+            depth: denominator.depth + down.shift,
             nodes: self.run_from(start),
             extent,
         })
@@ -95,9 +100,11 @@ fn barred_shifts(
     let axis_height = font.axis_height();
     let bar_top = axis_height + half(thickness);
     let bar_bottom = axis_height - half(thickness);
+    let cleared_up = up.max(bar_top + clearance + numerator.depth);
+    let cleared_down = down.max(clearance + denominator.height - bar_bottom);
     Shifts {
-        up: up.max(bar_top + clearance + numerator.depth),
-        down: down.max(clearance + denominator.height - bar_bottom),
+        up: Decided::new(Quantity::Sigma, up).corrected(Quantity::Clearance, cleared_up),
+        down: Decided::new(Quantity::Sigma, down).corrected(Quantity::Clearance, cleared_down),
     }
 }
 
@@ -116,7 +123,7 @@ fn barless_shifts(
     let gap = (up - numerator.depth) - (denominator.height - down);
     let more = half((clearance - gap).max(0));
     Shifts {
-        up: up + more,
-        down: down + more,
+        up: Decided::new(Quantity::Sigma, up).corrected(Quantity::Clearance, up + more),
+        down: Decided::new(Quantity::Sigma, down).corrected(Quantity::Clearance, down + more),
     }
 }

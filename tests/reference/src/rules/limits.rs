@@ -46,6 +46,7 @@ impl<P: Pen> Layout<'_, P> {
             stack.extent = stack.extent.joined(self.place(&lower, x, -drop));
             stack.depth = drop + lower.depth + font.big_op_spacing(5);
         }
+        self.reasons = None;
         Ok(stack)
     }
 }

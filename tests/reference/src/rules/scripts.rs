@@ -7,16 +7,17 @@ use crate::layout::Layout;
 use crate::nodes::Pen;
 use crate::parameters::Parameters;
 use crate::reading::{Field, Scripts};
+use crate::reasons::{Decided, Quantity, Reasons};
 use crate::style::Style;
 
 /// The blank after each script, half a point.
 const SCRIPT_SPACE: i64 = 32_768;
 
-/// How far a superscript goes up and a subscript goes down.
+/// How far a superscript goes up and a subscript goes down, and why.
 #[derive(Clone, Copy)]
 struct Shifts {
-    up: i64,
-    down: i64,
+    up: Decided,
+    down: Decided,
 }
 
 impl<P: Pen> Layout<'_, P> {
@@ -34,26 +35,38 @@ impl<P: Pen> Layout<'_, P> {
 
         let mut whole = nucleus.frame;
         whole.nodes = self.run_from(nucleus.frame.nodes.start);
-        match (superscript, subscript) {
-            (None, None) => {}
+        self.reasons = match (superscript, subscript) {
+            (None, None) => None,
             (None, Some(sub)) => {
                 let down = lone_subscript_shift(least.down, &sub, font);
-                self.join_script(&mut whole, &sub, end, -down);
+                self.join_script(&mut whole, &sub, end, -down.shift);
+                Some(Reasons {
+                    up: None,
+                    down: Some(down),
+                })
             }
             (Some(sup), None) => {
                 let up = superscript_shift(least.up, &sup, style, font);
-                self.join_script(&mut whole, &sup, end, up);
+                self.join_script(&mut whole, &sup, end, up.shift);
+                Some(Reasons {
+                    up: Some(up),
+                    down: None,
+                })
             }
             (Some(sup), Some(sub)) => {
                 let up = superscript_shift(least.up, &sup, style, font);
-                let down = least.down.max(font.sub2());
-                let shifts = parted(Shifts { up, down }, &sup, &sub, font);
+                let down = least.down.or(Quantity::Sigma, font.sub2());
+                let Shifts { up, down } = parted(Shifts { up, down }, &sup, &sub, font);
                 // 18f.
-                self.join_script(&mut whole, &sup, end + nucleus.italic, shifts.up);
-                self.join_script(&mut whole, &sub, end, -shifts.down);
+                self.join_script(&mut whole, &sup, end + nucleus.italic, up.shift);
+                self.join_script(&mut whole, &sub, end, -down.shift);
                 whole.width = end + sub.width.max(sup.width + nucleus.italic);
+                Some(Reasons {
+                    up: Some(up),
+                    down: Some(down),
+                })
             }
-        }
+        };
         whole.height = whole.height.max(0);
         whole.depth = whole.depth.max(0);
         Ok(whole)
@@ -61,13 +74,16 @@ impl<P: Pen> Layout<'_, P> {
 
     /// 18a: the drops are those of the script's size.
     fn least_shifts(&self, nucleus: &Nucleus, style: Style) -> Shifts {
-        if nucleus.is_plain {
-            return Shifts { up: 0, down: 0 };
-        }
-        let font = self.tables.parameters(style.superscript().size());
+        let (up, down) = if nucleus.is_plain {
+            (0, 0)
+        } else {
+            let font = self.tables.parameters(style.superscript().size());
+            let MathBox { height, depth, .. } = nucleus.frame;
+            (height - font.sup_drop(), depth + font.sub_drop())
+        };
         Shifts {
-            up: nucleus.frame.height - font.sup_drop(),
-            down: nucleus.frame.depth + font.sub_drop(),
+            up: Decided::new(Quantity::Drop, up),
+            down: Decided::new(Quantity::Drop, down),
         }
     }
 
@@ -89,14 +105,20 @@ impl<P: Pen> Layout<'_, P> {
 }
 
 /// 18b.
-fn lone_subscript_shift(least: i64, subscript: &MathBox, font: &Parameters) -> i64 {
+fn lone_subscript_shift(least: Decided, subscript: &MathBox, font: &Parameters) -> Decided {
+    let lowered_top = subscript.height - four_fifths_x_height(font);
     least
-        .max(font.sub1())
-        .max(subscript.height - four_fifths_x_height(font))
+        .or(Quantity::Sigma, font.sub1())
+        .or(Quantity::XHeight, lowered_top)
 }
 
 /// 18c.
-fn superscript_shift(least: i64, superscript: &MathBox, style: Style, font: &Parameters) -> i64 {
+fn superscript_shift(
+    least: Decided,
+    superscript: &MathBox,
+    style: Style,
+    font: &Parameters,
+) -> Decided {
     let usual = if style.is_cramped() {
         font.sup3()
     } else if style.is_display() {
@@ -104,23 +126,26 @@ fn superscript_shift(least: i64, superscript: &MathBox, style: Style, font: &Par
     } else {
         font.sup2()
     };
+    let raised_bottom = superscript.depth + font.x_height() / 4;
     least
-        .max(usual)
-        .max(superscript.depth + font.x_height() / 4)
+        .or(Quantity::Sigma, usual)
+        .or(Quantity::XHeight, raised_bottom)
 }
 
 /// 18e: a gap of four rule thicknesses between the two scripts.
 fn parted(shifts: Shifts, sup: &MathBox, sub: &MathBox, font: &Parameters) -> Shifts {
+    let Shifts { up, down } = shifts;
     let least_gap = 4 * font.rule_thickness();
-    let bottom = shifts.up - sup.depth;
-    let gap = bottom - (sub.height - shifts.down);
+    let bottom = up.shift - sup.depth;
+    let gap = bottom - (sub.height - down.shift);
     if gap >= least_gap {
         return shifts;
     }
+    let down = down.corrected(Quantity::Gap, down.shift + (least_gap - gap));
     let rise = (four_fifths_x_height(font) - bottom).max(0);
     Shifts {
-        up: shifts.up + rise,
-        down: shifts.down + (least_gap - gap) - rise,
+        up: up.corrected(Quantity::Psi, up.shift + rise),
+        down: down.corrected(Quantity::Psi, down.shift - rise),
     }
 }
 

@@ -1,10 +1,9 @@
 -- Five words stored at the front of a lent answer, and the words that a caller finds.
 --     five-stores     the five stores, one after the other
---     kept            a word that was stored is read back as it was
---     count-kept      the same of a place or a count; `parts-small`, both are small
+--     kept            a word that was stored is read back as it was; `count-kept`, the same of a place or a count
 --     enough, short   what an answer with room, and one without, is given
 -- Assumes nothing.
-use mathlib.Core.Path.{_≡_, refl, sym, ap, subst}
+use mathlib.Core.Path.{_≡_, refl, sym, ap}
 use mathlib.Core.Bool.{Bool, cond}
 use mathlib.Core.List.{List, [], _∷_}
 use Prim.Native.Nat.{ℕ, _≤_, _<_}
@@ -16,11 +15,7 @@ use mir.Syntax.{w64}
 use mir.Val.{SFits, toZ, ofZ}
 use mir.ValLaws.{toZ-ofZ}
 use Rattle.formula.specs.Reading.{formulaLimit}
-use Rattle.answers.specs.Answers.{Answered}
-use Rattle.answers.specs.Small.{Small}
-use Rattle.layout.specs.declared.parts.Parts.{Parts}
-use Rattle.layout.specs.Parts.{partsAs}
-use Rattle.capi.specs.Words.{answerSpace, noAnswer, answerWords, numberBy, wordsBy, lentBy}
+use Rattle.capi.specs.Words.{answerSpace, noAnswer, numberBy, wordsBy, lentBy}
 
 pub five-stores : (w : List ℤ) (a b c d e : ℤ) → 5 ≤ length w →
     set (set (set (set (set w 0 a) 1 b) 2 c) 3 d) 4 e ≡ a ∷ b ∷ c ∷ d ∷ e ∷ drop 5 w
@@ -37,25 +32,23 @@ kept z h = toZ-ofZ w64 z h
 pub count-kept : (n : ℕ) → n ≤ formulaLimit → toZ w64 (ofZ w64 (pos n)) ≡ pos n
 count-kept n h = kept (pos n) (record { sfits = omega arith })
 
-pub parts-small : (a : Answered) (p : Parts) → partsAs p ≡ a → Small a → Small (partsAs p)
-parts-small a p e h = subst Small (sym e) h
-
-module _ (a : Answered) (w : List ℤ) where
-  pub number-enough : answerSpace ≤ length w → a .number ≡ numberBy a w
+module _ (number : ℕ) (w : List ℤ) where
+  pub number-enough : answerSpace ≤ length w → number ≡ numberBy number w
   unfolding numberBy
-  number-enough h = sym (ap (λ (t : Bool). cond t (a .number) noAnswer) (le-leb answerSpace (length w) h))
+  number-enough h = sym (ap (λ (t : Bool). cond t number noAnswer) (le-leb answerSpace (length w) h))
 
-  pub words-enough : answerSpace ≤ length w → answerWords a w ≡ wordsBy a w
-  unfolding wordsBy
-  words-enough h = sym (ap (λ (t : Bool). cond t (answerWords a w) w) (le-leb answerSpace (length w) h))
-
-  pub number-short : length w < answerSpace → noAnswer ≡ numberBy a w
+  pub number-short : length w < answerSpace → noAnswer ≡ numberBy number w
   unfolding numberBy
-  number-short h = sym (ap (λ (t : Bool). cond t (a .number) noAnswer) (lt-leb answerSpace (length w) h))
+  number-short h = sym (ap (λ (t : Bool). cond t number noAnswer) (lt-leb answerSpace (length w) h))
 
-  pub words-short : length w < answerSpace → w ≡ wordsBy a w
+module _ (after w : List ℤ) where
+  pub words-enough : answerSpace ≤ length w → after ≡ wordsBy after w
   unfolding wordsBy
-  words-short h = sym (ap (λ (t : Bool). cond t (answerWords a w) w) (lt-leb answerSpace (length w) h))
+  words-enough h = sym (ap (λ (t : Bool). cond t after w) (le-leb answerSpace (length w) h))
+
+  pub words-short : length w < answerSpace → w ≡ wordsBy after w
+  unfolding wordsBy
+  words-short h = sym (ap (λ (t : Bool). cond t after w) (lt-leb answerSpace (length w) h))
 
 module _ (after before : List ℕ) (w : List ℤ) where
   pub lent-enough : answerSpace ≤ length w → after ≡ lentBy after before w

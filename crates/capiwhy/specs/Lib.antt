@@ -1,0 +1,2 @@
+-- What the call for C that asks why gives, in words. Assumes nothing.
+pub mod ReasonWords

@@ -1,0 +1,63 @@
+// What decided a shift: the quantity's name and the shift itself.
+use scaled::Sp;
+ghost use mathlib.Core.Path.{_≡_};
+ghost use Rattle.reasons.specs.Reasons as rule;
+ghost use Rattle.reasons.specs.Values.{decidedAs};
+
+pub enum Reason {
+    None,
+    Drop,
+    Sigma,
+    XHeight,
+    Gap,
+    Psi,
+    Clearance,
+}
+
+// A shift with its reason.
+pub struct Decided {
+    pub by: Reason,
+    pub shift: Sp,
+}
+
+// Of the shift up and the shift down.
+pub struct Reasons {
+    pub up: Decided,
+    pub down: Decided,
+}
+
+// Of an item, where it has such shifts.
+pub enum Explained {
+    Nothing,
+    By(Reasons),
+}
+
+// A shift that is not there.
+pub fn unshifted() -> Decided
+    ensures { λ r. ⌜ decidedAs r ≡ rule.unshifted ⌝ }
+{
+    Decided {
+        by: Reason::None,
+        shift: Sp(0),
+    }
+}
+
+// A stage that comes to this shift is named exactly if it changed the one before it.
+pub fn corrected(name: Reason, shift: Sp, before: Decided) -> Decided
+    ensures { λ r. ⌜ decidedAs r ≡ rule.corrected name (shift .0) (decidedAs before) ⌝ }
+{
+    if differs(shift, before.shift) {
+        Decided { by: name, shift }
+    } else {
+        before
+    }
+}
+
+fn differs(a: Sp, b: Sp) -> bool
+    ensures { λ r. ⌜ r ≡ rule.differs (a .0) (b .0) ⌝ }
+{
+    if a.less(b) {
+        return true;
+    }
+    b.less(a)
+}
