@@ -19,7 +19,10 @@
 extern "C" {
 #endif
 
-/* What a call returns; 1 to 9 and 19 are refusals, listed in the order tested. */
+/*
+ * What a call returns; 1 to 9 and 19 are refusals, listed in the order tested,
+ * and 16 to 18 those of the two calls for DVI.
+ */
 enum torfianka_number {
     TORFIANKA_ACCEPTED = 0,
     TORFIANKA_BAD_STYLE = 1,   /* the style is above 7 */
@@ -45,8 +48,13 @@ enum torfianka_number {
     TORFIANKA_NOT_SHIFTED = 9, /* torfianka_why only: no fraction, and no item
                                   whose scripts are set beside it, that is set
                                   starts at the place asked for */
-    TORFIANKA_SHORT_ANSWER = 255 /* answer_len is less than 5; nothing was
-                                  changed */
+    TORFIANKA_BAD_NODES = 16,  /* torfianka_dvi_write: not nodes, or a length
+                                  past 1,073,741,823 */
+    TORFIANKA_OUTSIDE_PROFILE = 17, /* torfianka_dvi_read: no nodes have this
+                                  body */
+    TORFIANKA_BODY_NO_ROOM = 18, /* the result of either has no room */
+    TORFIANKA_SHORT_ANSWER = 255 /* answer_len is less than 5, or for DVI less
+                                  than 2; nothing was changed */
 };
 
 /* The words of an answer. */
@@ -229,6 +237,52 @@ static inline uint8_t torfianka_why_in(struct torfianka_font *font, uint8_t styl
                          TORFIANKA_INDEX_WORDS, font->client_index,
                          TORFIANKA_INDEX_WORDS, answer, TORFIANKA_ANSWER_WORDS);
 }
+
+/*
+ * Nodes as the body of a page of DVI, and back.
+ *
+ * For each node the body has: before a glyph one byte fnt_num, 171 + 16 x size
+ * + family; push; right4 by x; down4 by -y; set1 with the code, or set_rule
+ * with thickness and width; pop. Its numbers are big-endian. A glyph has 15
+ * bytes, a rule 21. Preamble, font definitions, bop and eop are the caller's.
+ *
+ * The answer has two words: the place, which is 0, and how many bytes were
+ * written, 0 on a refusal. Words past the second are left as they are. With
+ * fewer than two words a call returns 255 and changes nothing.
+ */
+enum torfianka_dvi_word {
+    TORFIANKA_DVI_PLACE = 0,
+    TORFIANKA_DVI_BYTES = 1,
+    TORFIANKA_DVI_ANSWER_WORDS = 2
+};
+
+/*
+ * Writes nodes as a body. Refusals, in the order tested:
+ *
+ *   16   a node is not of the form above (its mark, the zeros of a glyph, a
+ *        size above 2, a family above 15, a negative width or thickness), the
+ *        last one is cut off, or x, y, a width or a thickness passes
+ *        1,073,741,823
+ *   18   the body has no room; 21 bytes for each node are enough
+ *
+ * Nodes that torfianka_set wrote are never refused by 16. An acceptance leaves
+ * the bytes after the body as they are, a refusal all of them.
+ */
+uint8_t torfianka_dvi_write(const uint8_t *nodes, size_t nodes_len,
+                            uint8_t *body, size_t body_len,
+                            int64_t *answer, size_t answer_len);
+
+/*
+ * Reads the nodes back. Refusals, in the order tested:
+ *
+ *   17   no nodes have this body
+ *   18   the nodes have no room; 18 bytes for 15 of the body are enough
+ *
+ * What torfianka_dvi_write wrote reads back to the same nodes.
+ */
+uint8_t torfianka_dvi_read(const uint8_t *body, size_t body_len,
+                           uint8_t *nodes, size_t nodes_len,
+                           int64_t *answer, size_t answer_len);
 
 #ifdef __cplusplus
 }

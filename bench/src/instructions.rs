@@ -1,7 +1,9 @@
-//! The table of instructions: this program runs itself under callgrind.
+//! The tables of instructions: this program runs itself under callgrind.
 
 use crate::figures::grouped;
+use crate::pages::{page, PAGES};
 use crate::rows::{row, ROWS};
+use crate::timing::Timed;
 use crate::work::Setter;
 use std::process::Command;
 use std::{env, io};
@@ -21,25 +23,38 @@ pub fn print() -> io::Result<()> {
     println!("| formulas | table | call | library, instructions | reference, instructions | reference/library |");
     println!("|---|---|---|--:|--:|--:|");
     for number in 0..ROWS {
-        let library = a_formula(number, Setter::Library)?;
-        let reference = a_formula(number, Setter::Reference)?;
-        println!(
-            "| {} | {} | {} | {:.2} |",
-            row(number).name,
-            grouped(library),
-            grouped(reference),
-            reference / library
-        );
+        let work = row(number);
+        print_row(&work.name, number, &work)?;
         eprintln!("instructions: {} of {ROWS} rows", number + 1);
+    }
+    println!();
+    println!("| nodes | call | library, instructions a node | reference, instructions a node | reference/library |");
+    println!("|--:|---|--:|--:|--:|");
+    for number in 0..PAGES {
+        let page = page(number);
+        print_row(&page.name, ROWS + number, &page)?;
     }
     Ok(())
 }
 
-/// The instructions that a formula takes. What a run does beside its calls falls
-/// out of the difference of two runs.
-fn a_formula(number: usize, setter: Setter) -> io::Result<f64> {
+/// `number` is that of the work among the turns.
+fn print_row(name: &str, number: usize, work: &impl Timed) -> io::Result<()> {
+    let library = of_one(number, Setter::Library, work)?;
+    let reference = of_one(number, Setter::Reference, work)?;
+    println!(
+        "| {name} | {} | {} | {:.2} |",
+        grouped(library),
+        grouped(reference),
+        reference / library
+    );
+    Ok(())
+}
+
+/// The instructions that a formula or a node takes. What a run does beside its
+/// calls falls out of the difference of two runs.
+fn of_one(number: usize, setter: Setter, work: &impl Timed) -> io::Result<f64> {
     let more = collected(number, setter, MANY)? - collected(number, setter, FEW)?;
-    Ok(more / row(number).formulas_in(MANY - FEW))
+    Ok(more / work.done_in(MANY - FEW))
 }
 
 /// The instructions of a whole run.

@@ -1,13 +1,14 @@
 //! Compares the library with the reference and prints Markdown tables.
 //!
-//! - `bench times`: formulas a second
-//! - `bench instructions`: instructions a formula; needs valgrind
+//! - `bench times`: formulas a second, nanoseconds a node of a page
+//! - `bench instructions`: instructions a formula, or a node; needs valgrind
 //! - `bench stack`: bytes of stack a call, of the library alone
 //! - `bench turns ROW SETTER TURNS`: makes calls for `instructions` to count
 
 mod figures;
 mod formulas;
 mod instructions;
+mod pages;
 mod rows;
 mod stack;
 mod tables;
@@ -15,9 +16,11 @@ mod times;
 mod timing;
 mod work;
 
+use pages::{page, PAGES};
 use rows::{row, ROWS};
 use std::env;
 use std::process::ExitCode;
+use timing::Timed;
 use work::Setter;
 
 fn main() -> ExitCode {
@@ -46,9 +49,12 @@ fn run(arguments: &[&str]) -> Result<(), String> {
 }
 
 fn make_turns(number: &str, setter: &str, turns: &str) -> Option<()> {
-    let number = number.parse().ok().filter(|number| *number < ROWS)?;
+    let number: usize = number.parse().ok()?;
     let setter = Setter::named(setter)?;
     let turns = turns.parse().ok()?;
-    row(number).run(setter, turns);
+    match number {
+        ..ROWS => row(number).run(setter, turns),
+        _ => page(Some(number - ROWS).filter(|page| *page < PAGES)?).run(setter, turns),
+    }
     Some(())
 }

@@ -2,6 +2,7 @@
 
 use crate::figures::grouped;
 use crate::formulas::{chosen, empty_choices, flat, typical, PHRASE_BYTES};
+use crate::pages::{page, Page, PAGES};
 use crate::rows::{row, DEEP, LONG, LONGEST, ROWS};
 use crate::tables::{Font, BENCH, FONTS};
 use crate::timing::Job;
@@ -14,8 +15,10 @@ const SILENT_ROUNDS: usize = 5;
 /// Every round times all jobs, so that a slow spell of the machine meets all.
 pub fn print() {
     let mut sections = [speed_jobs(), share_jobs(), growth_jobs(), form_jobs()];
+    let mut pages: Vec<Job<Page>> = (0..PAGES).map(page).map(Job::new).collect();
     for round in 1..=ROUNDS {
         sections.iter_mut().flatten().for_each(Job::round);
+        pages.iter_mut().for_each(Job::round);
         if round % SILENT_ROUNDS == 0 {
             eprintln!("times: {round} of {ROUNDS} rounds");
         }
@@ -28,6 +31,8 @@ pub fn print() {
     print_growth(&growth);
     println!();
     print_forms(&growth[0], &forms);
+    println!();
+    print_pages(&pages);
 }
 
 fn speed_jobs() -> Vec<Job> {
@@ -142,6 +147,20 @@ fn print_forms(empty: &Job, jobs: &[Job]) {
             grouped(lengths[at] as f64),
             library / flat[0],
             reference / flat[1]
+        );
+    }
+}
+
+fn print_pages(jobs: &[Job<Page>]) {
+    println!("| nodes | call | library, ns a node | reference, ns a node | library/reference |");
+    println!("|--:|---|--:|--:|--:|");
+    for job in jobs {
+        println!(
+            "| {} | {:.2} | {:.2} | {:.2} |",
+            job.work.name,
+            job.library(),
+            job.reference(),
+            job.speed_ratio()
         );
     }
 }

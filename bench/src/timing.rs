@@ -1,27 +1,46 @@
-//! Times both setters on the same formulas, in turns.
+//! Times both setters on the same work, in turns.
 
 use crate::work::{Setter, Work};
 use std::time::{Duration, Instant};
 
 const ROUND: Duration = Duration::from_millis(10);
 
-/// Formulas to time, and the times so far.
-pub struct Job {
-    pub work: Work,
+/// What is timed, by how much of it is done.
+pub trait Timed {
+    /// Does all of it once in every turn.
+    fn run(&mut self, setter: Setter, turns: usize);
+
+    /// How much is done in so many turns.
+    fn done_in(&self, turns: usize) -> f64;
+}
+
+impl Timed for Work {
+    fn run(&mut self, setter: Setter, turns: usize) {
+        Work::run(self, setter, turns);
+    }
+
+    fn done_in(&self, turns: usize) -> f64 {
+        self.formulas_in(turns)
+    }
+}
+
+/// Formulas to time, or something else, and the times so far.
+pub struct Job<W = Work> {
+    pub work: W,
     library: Timer,
     reference: Timer,
 }
 
-/// How often the formulas are set in a round, and the nanoseconds that one took
-/// in each.
+/// How many turns there are in a round, and the nanoseconds that one formula or
+/// node took in each.
 struct Timer {
     setter: Setter,
     turns: usize,
     rounds: Vec<f64>,
 }
 
-impl Job {
-    pub fn new(mut work: Work) -> Job {
+impl<W: Timed> Job<W> {
+    pub fn new(mut work: W) -> Job<W> {
         let [library, reference] = Setter::BOTH.map(|setter| Timer::new(setter, &mut work));
         Job {
             work,
@@ -59,7 +78,7 @@ impl Job {
 
 impl Timer {
     /// The turns are so many that they fill a round.
-    fn new(setter: Setter, work: &mut Work) -> Timer {
+    fn new(setter: Setter, work: &mut impl Timed) -> Timer {
         let mut turns = 1;
         while time(work, setter, turns) < ROUND {
             turns *= 2;
@@ -71,13 +90,13 @@ impl Timer {
         }
     }
 
-    fn round(&mut self, work: &mut Work) {
+    fn round(&mut self, work: &mut impl Timed) {
         let nanoseconds = time(work, self.setter, self.turns).as_nanos() as f64;
-        self.rounds.push(nanoseconds / work.formulas_in(self.turns));
+        self.rounds.push(nanoseconds / work.done_in(self.turns));
     }
 }
 
-fn time(work: &mut Work, setter: Setter, turns: usize) -> Duration {
+fn time(work: &mut impl Timed, setter: Setter, turns: usize) -> Duration {
     let start = Instant::now();
     work.run(setter, turns);
     start.elapsed()

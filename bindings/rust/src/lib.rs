@@ -21,6 +21,7 @@
 //! # Ok::<(), torfianka::Refusal>(())
 //! ```
 
+pub mod dvi;
 mod node;
 mod reason;
 pub mod sys;
@@ -73,8 +74,9 @@ pub struct Measured {
     pub count: usize,
 }
 
-/// Why a formula was not accepted, in the order tested. Number 19, too few words
-/// for an index, never comes here: a [`Font`] has enough.
+/// Why a formula was not accepted, in the order tested, or nodes or a body of a
+/// page. Number 19, too few words for an index, never comes here: a [`Font`] has
+/// enough.
 ///
 /// | number | given when | place |
 /// |---|---|---|
@@ -87,6 +89,9 @@ pub struct Measured {
 /// | 6 | a list's size, or a node's x or y seen from a list around it, passes 1,073,741,823 | 0 |
 /// | 7 | setting only: the buffer is shorter than [`NODE_BYTES`] for each node | 0 |
 /// | 9 | [`why`] only: no fraction, and no item whose scripts are set beside it, that is set starts at the place asked for | 0 |
+/// | 16 | [`dvi::write`]: not nodes, or a length past 1,073,741,823 | 0 |
+/// | 17 | [`dvi::read`]: no nodes have this body | 0 |
+/// | 18 | either: the buffer is too short | 0 |
 #[derive(Clone, Copy, Debug, PartialEq, Eq)]
 pub struct Refusal {
     pub number: u8,

@@ -5,7 +5,10 @@
 /// same of the shift down.
 pub const ANSWER_WORDS: usize = 5;
 
-/// What a call with fewer than [`ANSWER_WORDS`] returns.
+/// The words of an answer of the calls for DVI: place, bytes written.
+pub const DVI_ANSWER_WORDS: usize = 2;
+
+/// What a call with fewer words for its answer returns.
 pub const SHORT_ANSWER: u8 = 255;
 
 /// The words of an index.
@@ -59,6 +62,24 @@ extern "C" {
         index_len: usize,
         client_index: *mut u64,
         client_index_len: usize,
+        answer: *mut i64,
+        answer_len: usize,
+    ) -> u8;
+
+    pub fn torfianka_dvi_write(
+        nodes: *const u8,
+        nodes_len: usize,
+        body: *mut u8,
+        body_len: usize,
+        answer: *mut i64,
+        answer_len: usize,
+    ) -> u8;
+
+    pub fn torfianka_dvi_read(
+        body: *const u8,
+        body_len: usize,
+        nodes: *mut u8,
+        nodes_len: usize,
         answer: *mut i64,
         answer_len: usize,
     ) -> u8;

@@ -1,6 +1,6 @@
 //! Calls through the safe functions, over the bench table.
 
-use torfianka::{measure, nodes, set, Font, Measured, Refusal, NODE_BYTES};
+use torfianka::{dvi, measure, nodes, set, Font, Measured, Refusal, NODE_BYTES};
 
 const TABLE: &[u8] = include_bytes!("../../../data/bench.tab");
 /// The a of the bench table at text size, wider.
@@ -96,4 +96,37 @@ fn a_short_buffer_stays_as_it_is() {
     let answer = set(TEXT, &mut font(), UNDERLINED, &mut buffer);
     assert_eq!(answer.unwrap_err().number, 7);
     assert_eq!(buffer, [FILLING; 2 * NODE_BYTES - 1]);
+}
+
+#[test]
+fn an_underlined_letter_is_the_body_of_a_page() {
+    let mut nodes = [0; 2 * NODE_BYTES];
+    set(TEXT, &mut font(), UNDERLINED, &mut nodes).unwrap();
+    let mut body = [FILLING; 37];
+    assert_eq!(dvi::write(&nodes, &mut body), Ok(36));
+    assert_eq!(
+        body,
+        *b"\xac\x8d\x92\0\0\0\0\xa0\0\0\0\0\x80a\x8e\
+           \x8d\x92\0\0\0\0\xa0\0\0\0\xa0\x84\0\0\0\x28\0\0\x01\xf4\x8e\xa5"
+    );
+    let mut back = [FILLING; 2 * NODE_BYTES + 1];
+    assert_eq!(dvi::read(&body[..36], &mut back), Ok(36));
+    assert_eq!(back[..36], nodes);
+    assert_eq!(back[36], FILLING);
+}
+
+#[test]
+fn refusals_of_a_body_change_nothing() {
+    let refused = |number| Err(Refusal { number, place: 0 });
+    let mut nodes = [0; NODE_BYTES];
+    set(TEXT, &mut font(), b"AT\0\0\x01\x01a\0\0", &mut nodes).unwrap();
+    let mut body = [FILLING; 15];
+    assert_eq!(dvi::write(&nodes[..17], &mut body), refused(16));
+    assert_eq!(dvi::write(&nodes, &mut body[..14]), refused(18));
+    assert_eq!(body, [FILLING; 15]);
+    assert_eq!(dvi::write(&nodes, &mut body), Ok(15));
+    let mut back = [FILLING; NODE_BYTES];
+    assert_eq!(dvi::read(&body[..14], &mut back), refused(17));
+    assert_eq!(dvi::read(&body, &mut back[..17]), refused(18));
+    assert_eq!(back, [FILLING; NODE_BYTES]);
 }

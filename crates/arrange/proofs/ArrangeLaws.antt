@@ -34,7 +34,7 @@ record Counted (o : Own) (n : OwnCounts) : Type 0 where
 
 -- ---- a base with scripts has the own nodes of its nucleus
 
-atom-own : (axis : ℤ) (operator limits subscript : Bool) (x : Shape) → atomNucleus axis operator limits subscript x .own ≡ noOwn
+pub atom-own : (axis : ℤ) (operator limits subscript : Bool) (x : Shape) → atomNucleus axis operator limits subscript x .own ≡ noOwn
 atom-own axis operator limits subscript nothing = refl
 atom-own axis true limits subscript (char m) = refl
 atom-own axis false limits true (char m) = refl
@@ -53,7 +53,7 @@ sign-counted place none = refl
 sign-counted place (some found) = refl
 
 module _ (p : Parameters) (s : Style) where
-  set-own : (limits : Bool) (n : Nucleus) (y z : Option Size) → setScripts p s limits n y z .own ≡ n .own
+  pub set-own : (limits : Bool) (n : Nucleus) (y z : Option Size) → setScripts p s limits n y z .own ≡ n .own
   unfolding limited scripted
   set-own true n y z = refl
   set-own false n none none = refl

@@ -1,4 +1,6 @@
-// The interface for C, and through C for Rust (include/torfianka.h). What the calls give is defined in specs/Words.antt.
+// The interface for C, and through C for Rust (include/torfianka.h). What the calls give is defined in specs/Words.antt, and of
+// pages in specs/PageWords.antt.
+mod pages;
 
 ghost use mathlib.Core.Path.{_≡_};
 ghost use Prim.Native.Nat.{_≤_};
@@ -16,7 +18,7 @@ use layout::parts::parts_of;
 // How many words an answer takes.
 pub const ANSWER_SPACE: usize = 5;
 
-// The number where the answer has no room. Nothing is measured or set then.
+// The number where the answer has no room. Nothing is done then.
 pub const NO_ANSWER: u8 = 255;
 
 // Measures a formula.

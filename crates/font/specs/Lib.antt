@@ -6,6 +6,7 @@ pub mod Chains
 pub mod Table
 pub mod Values
 pub mod FontLaws
+pub mod FairFont
 pub mod Keys
 pub mod Halving
 pub mod Index

@@ -5,9 +5,10 @@ use lib.IntN.{pos, negsuc}
 use Rattle.scaled.specs.Length.{pick, maxℤ}
 use Rattle.words.specs.Words.{littleEndian, signedWord, wordOf, fourBytes}
 use Rattle.nodes.specs.Nodes.{glyph, rule, signedBytes, nodeBytes}
+use Rattle.nodes.specs.Stored.{nodeIn}
 use Rattle.answers.specs.Answers.{refusal}
 use Rattle.listing.specs.Decimals.{digitsBy, decimalOf, textOf}
-use Rattle.listing.specs.Texts.{answerText, nodeText, nodeIn}
+use Rattle.listing.specs.Texts.{answerText, nodeText}
 
 -- the least number of 64 bits
 least : textOf (negsuc 9_223_372_036_854_775_807) ≡ 45 ∷ 57 ∷ 50 ∷ 50 ∷ 51 ∷ 51 ∷ 55 ∷ 50 ∷ 48 ∷ 51 ∷ 54 ∷ 56 ∷ 53 ∷ 52 ∷ 55 ∷ 55 ∷ 53 ∷ 56 ∷ 48 ∷ 56 ∷ []

@@ -1,16 +1,14 @@
--- The lines by the tests that the code makes: of an answer's number, of a node's first byte, and of whether there is a shift.
+-- The lines by the tests that the code makes: of an answer's number, and of whether there is a shift.
 -- Assumes nothing.
 use mathlib.Core.Path.{_≡_, sym, ap}
 use mathlib.Core.Bool.{Bool, true, false, cond}
 use mathlib.Core.List.{List, [], _++_}
 use Prim.Native.Nat.{ℕ}
 use borrow.Author.Tests.{eq-eqb, ne-eqb}
-use lib.ListN.{getD}
 use Rattle.answers.specs.Answers.{Answered, acceptedNumber}
 use Rattle.reasons.specs.Reasons.{Decided}
-use Rattle.nodes.specs.Nodes.{Node}
 use Rattle.listing.specs.Decimals.{textOf}
-use Rattle.listing.specs.Texts.{newline, sizesText, refusalText, answerText, glyphIn, ruleIn, nodeIn, reasonMark, isThere, shiftText}
+use Rattle.listing.specs.Texts.{newline, sizesText, refusalText, answerText, reasonMark, isThere, shiftText}
 
 module _ (a : Answered) where
   abbrev by : Bool → List ℕ
@@ -23,18 +21,6 @@ module _ (a : Answered) where
   pub refused-line : (a .number ≡ acceptedNumber → ⊥) → refusalText (a .number) (a .place) ≡ answerText a
   unfolding answerText
   refused-line e = sym (ap by (ne-eqb (a .number) acceptedNumber e))
-
-module _ (s : List ℕ) where
-  abbrev either : Bool → Node
-  either t = cond t (glyphIn s) (ruleIn s)
-
-  pub glyph-in : getD s 0 0 ≡ 71 → glyphIn s ≡ nodeIn s
-  unfolding nodeIn
-  glyph-in e = sym (ap either (eq-eqb (getD s 0 0) 71 e))
-
-  pub rule-in : (getD s 0 0 ≡ 71 → ⊥) → ruleIn s ≡ nodeIn s
-  unfolding nodeIn
-  rule-in e = sym (ap either (ne-eqb (getD s 0 0) 71 e))
 
 module _ (mark : List ℕ) (d : Decided) where
   abbrev shown : Bool → List ℕ

@@ -1,16 +1,12 @@
 -- The text of an answer and of its nodes, a line each.
 --     answerText    an acceptance, as `w 500 h 430 d 200 n 2`, or a refusal, as `refused 5 at 4`
 --     nodeText      a node: `glyph x y size family code`, or `rule x y width thickness`
---     nodeIn        the node that stands at the front of some bytes
 --     shiftText     request 7: a shift and what decided it, as `down gap 250`; nothing where there is no shift
 -- Assumes nothing.
 use mathlib.Core.Bool.{Bool, true, false, cond}
 use mathlib.Core.List.{List, [], _∷_, _++_}
 use Prim.Native.Nat.{ℕ}
 use lib.Dec.{eqb}
-use lib.IntN.{ℤ}
-use lib.ListN.{drop, getD}
-use Rattle.words.specs.Words.{littleEndian, signedWord}
 use Rattle.boxes.specs.Boxes.{Size}
 use Rattle.nodes.specs.Nodes.{Node, glyph, rule}
 use Rattle.reasons.specs.declared.Reason.{Reason}
@@ -83,20 +79,6 @@ nodeText (glyph x y size family code) =
     ++ newline
 nodeText (rule x y width thickness) =
     ruleMark ++ textOf x ++ (space ++ textOf y) ++ (space ++ textOf width) ++ (space ++ textOf thickness) ++ newline
-
--- the signed word at a place
-abbrev pub numberAt : ℕ → List ℕ → ℤ
-numberAt k s = signedWord (littleEndian 4 (drop k s))
-
-abbrev pub glyphIn : List ℕ → Node
-glyphIn s = glyph (numberAt 2 s) (numberAt 6 s) (getD s 10 0) (getD s 11 0) (getD s 12 0)
-
-abbrev pub ruleIn : List ℕ → Node
-ruleIn s = rule (numberAt 2 s) (numberAt 6 s) (numberAt 10 s) (numberAt 14 s)
-
--- `G` opens a glyph
-unfoldable pub nodeIn : List ℕ → Node
-nodeIn s = cond (eqb (getD s 0 0) 71) (glyphIn s) (ruleIn s)
 
 -- ---- what decided a shift
 

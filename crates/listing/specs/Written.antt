@@ -10,9 +10,10 @@ use mathlib.Core.Path.{_≡_}
 use mathlib.Core.List.{List, _∷_, _++_}
 use Prim.Native.Nat.{ℕ, _+_, _≤_}
 use lib.ListN.{length, take, drop}
+use Rattle.nodes.specs.Stored.{numberAt}
 use Rattle.listing.specs.declared.Number.{Number}
 use Rattle.listing.specs.Decimals.{decimalOf, minus, textOf}
-use Rattle.listing.specs.Texts.{space, numberAt}
+use Rattle.listing.specs.Texts.{space}
 
 pub record Written (t before after : List ℕ) (end : ℕ) : Type 0 where
   pub size : end ≡ length t

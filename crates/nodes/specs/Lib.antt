@@ -1,6 +1,7 @@
--- Nodes, their bytes and how far they reach; what becomes of a buffer of nodes; what is known of a run of nodes; the laws of
--- these. Assumes nothing.
+-- Nodes, their bytes, the node that some bytes are, and how far nodes reach; what becomes of a buffer of nodes; what is known of a run
+-- of nodes; the laws of these. Assumes nothing.
 pub mod Nodes
+pub mod Stored
 pub mod Bounds
 pub mod NodeLaws
 pub mod Buffer

@@ -1,7 +1,7 @@
 //! The calls made for an input, and what is compared.
 
-use crate::guarded::Guarded;
 use crate::input::Input;
+use differential::guarded::Guarded;
 use reference::generate::Random;
 use reference::{item_places, Answer, Decided, Explanation, Lent, INDEX_WORDS, NODE_BYTES};
 use std::ptr;

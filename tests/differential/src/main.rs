@@ -3,7 +3,6 @@
 //! `differential [INPUTS [SEED]]`, by default 200,000 and 1.
 
 mod calls;
-mod guarded;
 mod input;
 mod report;
 mod shrink;

@@ -9,6 +9,7 @@ mod answer;
 mod boxes;
 mod chains;
 pub mod compose;
+pub mod dvi;
 pub mod generate;
 pub mod index;
 mod layout;

@@ -92,8 +92,8 @@ impl Node {
         },
     };
 
-    /// Only for nodes that keep the size limit.
-    fn bytes(&self) -> [u8; NODE_BYTES] {
+    /// Of a node that keeps the size limit.
+    pub fn bytes(&self) -> [u8; NODE_BYTES] {
         let mut bytes = [0; NODE_BYTES];
         bytes[2..6].copy_from_slice(&(self.x as i32).to_le_bytes());
         bytes[6..10].copy_from_slice(&(self.y as i32).to_le_bytes());

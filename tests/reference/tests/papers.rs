@@ -4,7 +4,7 @@ mod bench;
 
 use bench::*;
 use reference::compose::*;
-use reference::{measure, set, NODE_BYTES};
+use reference::{dvi, measure, set, NODE_BYTES};
 
 #[test]
 fn p1_empty_formula() {
@@ -186,4 +186,26 @@ fn wide_gap_leaves_the_superscript() {
 fn empty_limits_count_as_width_0() {
     let formula = atom(1, 1, [&list(&kern(-100)), EMPTY, EMPTY]);
     assert_eq!(outcome(TEXT, &formula).sizes[0], 0);
+}
+
+#[test]
+fn an_underlined_letter_as_the_body_of_a_page() {
+    let mut nodes = [0; 2 * NODE_BYTES];
+    set(
+        TEXT,
+        &bench_table(),
+        &[],
+        &underline([&A, EMPTY, EMPTY]),
+        &mut nodes,
+    );
+    let mut body = [0; 36];
+    assert_eq!(dvi::write(&nodes, &mut body).bytes, 36);
+    assert_eq!(
+        body,
+        *b"\xac\x8d\x92\0\0\0\0\xa0\0\0\0\0\x80a\x8e\
+           \x8d\x92\0\0\0\0\xa0\0\0\0\xa0\x84\0\0\0\x28\0\0\x01\xf4\x8e"
+    );
+    let mut back = [0; 2 * NODE_BYTES];
+    assert_eq!(dvi::read(&body, &mut back).bytes, 36);
+    assert_eq!(back, nodes);
 }

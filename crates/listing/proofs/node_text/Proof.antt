@@ -1,8 +1,8 @@
 -- `node_text` meets its contract, by the node's first byte. Assumes nothing.
-use mathlib.Core.Path.{ap}
+use mathlib.Core.Path.{sym, ap}
 use denote.Ref.{now}
+use Rattle.nodes.specs.Stored.{glyph-in, rule-in}
 use Rattle.listing.specs.Texts.{nodeText}
-use Rattle.listing.proofs.TextLaws.{glyph-in, rule-in}
 use Rattle.listing.proofs.PutLaws.{written-as}
 use borrow.Author.Needs.{needs}
 use Rattle.listing.proofs.node_text.Statement.{statement}
@@ -22,7 +22,7 @@ returns c =
     let line = c .before .before in
     let tested = line .before .before in
     let node = now (tested .before .before .before .before .args .node) in
-    written-as (ap nodeText (glyph-in node (tested .if1 .taken))) (line .glyph-text .ensures)
+    written-as (ap nodeText (sym (glyph-in node (tested .if1 .taken)))) (line .glyph-text .ensures)
 
 rule-text-requires : tie.Need-rule-text-requires
 rule-text-requires c κs = search needs
@@ -35,7 +35,7 @@ returns-2 c =
     let line = c .before .before in
     let tested = line .before .before in
     let node = now (tested .before .before .before .before .args .node) in
-    written-as (ap nodeText (rule-in node (tested .if1 .left))) (line .rule-text .ensures)
+    written-as (ap nodeText (sym (rule-in node (tested .if1 .left)))) (line .rule-text .ensures)
 
 pub node-text-spec : {M : Type 1} → statement M
 node-text-spec =

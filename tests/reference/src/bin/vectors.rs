@@ -3,9 +3,12 @@
 //! The file has parts: `T`, a four-byte length and a table, which holds from
 //! there on; `C`, the same of a client's table, which is empty at first; `F`, a
 //! style byte, a two-byte length and a formula; `L`, the same with a four-byte
-//! length; or `W`, as `F` with a four-byte place behind the formula, of an item
-//! whose shifts are to be explained.
+//! length; `W`, as `F` with a four-byte place behind the formula, of an item
+//! whose shifts are to be explained; `N` for nodes to be written as the body of
+//! a page, or `D` for a body to be read, a four-byte length, the bytes and a
+//! four-byte room.
 
+use reference::dvi::{self, PageAnswer};
 use reference::{measure, printed, printed_reasons, set, why, NODE_BYTES};
 use std::io::{self, BufWriter, Write};
 use std::process::ExitCode;
@@ -47,10 +50,31 @@ fn run(mut cases: &[u8]) -> io::Result<()> {
                 let explanation = why(style, table, client, formula, place);
                 out.write_all(printed_reasons(&explanation).as_bytes())?;
             }
+            b'N' | b'D' => {
+                let bytes = take_long(&mut cases)?;
+                let room = u32::from_le_bytes(take(&mut cases)?);
+                let call = if mark == b'N' { dvi::write } else { dvi::read };
+                let mut result = vec![0; room as usize];
+                let answer = call(bytes, &mut result);
+                writeln!(out, "{}", page_line(&answer, &result))?;
+            }
             _ => return Err(malformed()),
         }
     }
     out.flush()
+}
+
+/// A refusal, or the result in hex.
+fn page_line(answer: &PageAnswer, result: &[u8]) -> String {
+    if answer.number != 0 {
+        return format!("refused {} at {}", answer.number, answer.place);
+    }
+    let written = &result[..answer.bytes as usize];
+    if written.is_empty() {
+        return "bytes -".to_string();
+    }
+    let hex: String = written.iter().map(|byte| format!("{byte:02x}")).collect();
+    format!("bytes {hex}")
 }
 
 fn outcome(style: u8, table: &[u8], client: &[u8], formula: &[u8]) -> String {

@@ -1,7 +1,7 @@
 //! Random cases for a differential test and for timing.
 //!
-//! [`case`] draws from all kinds; [`case_of`] keeps to one. The same seed
-//! gives the same cases.
+//! [`case`] draws from all kinds; [`case_of`] keeps to one; [`page_case`] is for
+//! bodies of pages. The same seed gives the same cases.
 
 mod chains;
 mod choices;
@@ -12,6 +12,7 @@ mod formulas;
 mod graded;
 mod indexes;
 mod long;
+mod pages;
 mod random;
 mod roots;
 mod tables;
@@ -25,6 +26,7 @@ pub use formulas::{deep_formula, operator_formula, tall_case, tall_roots, wide_f
 pub use graded::graded_case;
 pub use indexes::lent_words;
 pub use long::{long_formula, long_list_fault};
+pub use pages::{page_case, PageCase};
 pub use random::Random;
 pub use roots::root_formula;
 pub use tables::{good_table, Symbols};

@@ -1,0 +1,54 @@
+-- `put` meets its contract: each kind of node is written by a function of its own, whose needs a node that can be written meets.
+-- Assumes nothing.
+use borrow.Author.Needs.{needs}
+use Rattle.dvi.specs.ProfileLaws.{facts}
+use Rattle.dvi.proofs.Stores.{glyph-asks, rule-asks}
+use Rattle.dvi.proofs.body.put.Statement.{statement}
+use Rattle.dvi.proofs.body.put.Tie as tie
+
+enum-known-node : tie.Need-enum-known-node
+enum-known-node c = search needs
+
+put-glyph-requires : tie.Need-put-glyph-requires
+put-glyph-requires c κs =
+    let node = c .before .before in
+    let pre = rw (node .node .given .1) at (node .before .before .before .pre) in
+    glyph-asks (facts _ (pre .0)) (pre .1)
+
+enum-known-node-2 : tie.Need-enum-known-node-2
+enum-known-node-2 c = search needs
+
+put-rule-requires : tie.Need-put-rule-requires
+put-rule-requires c κs =
+    let node = c .before .before in
+    let pre = rw (node .node2 .given .1) at (node .before .before .before .pre) in
+    rule-asks (facts _ (pre .0)) (pre .1)
+
+same-length : tie.Need-same-length
+same-length c = search needs
+
+returns : tie.Need-returns
+returns c =
+    let put = c .before .before in
+    rw (put .before .before .before .node .given .1) (put .put-glyph .ensures)
+
+same-length-2 : tie.Need-same-length-2
+same-length-2 c = search needs
+
+returns-2 : tie.Need-returns-2
+returns-2 c =
+    let put = c .before .before in
+    rw (put .before .before .before .node2 .given .1) (put .put-rule .ensures)
+
+pub put-spec : {M : Type 1} → statement M
+put-spec =
+    tie.close
+    (tie.spec
+    enum-known-node
+    put-glyph-requires
+    enum-known-node-2
+    put-rule-requires
+    same-length
+    returns
+    same-length-2
+    returns-2)

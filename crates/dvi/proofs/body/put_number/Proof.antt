@@ -1,0 +1,32 @@
+-- `put_number` meets its contract: what is stored is the word turned round (`number-stored`).
+-- Assumes nothing.
+use mathlib.Core.Path.{ap, _∙_}
+use borrow.Author.Needs.{needs}
+use lib.Seq.{sets}
+use Rattle.dvi.proofs.Stores.{number-stored}
+use Rattle.dvi.proofs.body.put_number.Statement.{statement}
+use Rattle.dvi.proofs.body.put_number.Tie as tie
+
+word-of-requires : tie.Need-word-of-requires
+word-of-requires c κs = search needs
+
+turned-requires : tie.Need-turned-requires
+turned-requires c κs = search needs
+
+store-requires : tie.Need-store-requires
+store-requires c κs = search needs
+
+same-length : tie.Need-same-length
+same-length c = search needs
+
+returns : tie.Need-returns
+returns c =
+    let store = c .before .before in
+    let turned = store .before in
+    let word = turned .before in
+    let args = word .before .before .before .args in
+    store .store .ensures ∙ ap (sets (args .out .now) (args .at)) (number-stored (args .z .0) (word .word-of .ensures) (turned .turned .ensures))
+
+pub put-number-spec : {M : Type 1} → statement M
+put-number-spec =
+    tie.close (tie.spec word-of-requires turned-requires store-requires same-length returns)

@@ -1,0 +1,65 @@
+-- `rule_front` meets its contract: bytes that open with push look like a rule, and are one where its bytes lead (`front-by`).
+-- Assumes nothing.
+use mathlib.Core.Path.{_∙_}
+use native.Mathlib.Omega.{arith}
+use borrow.Author.Needs.{needs}
+use Rattle.dvi.specs.declared.forms.Form.the-variants.{Body}
+use Rattle.dvi.specs.BodyLaws.{rule-size}
+use Rattle.dvi.specs.FrontLaws.{front-by, front-short, looks-body-rule}
+use Rattle.dvi.proofs.body.rule_front.Statement.{statement}
+use Rattle.dvi.proofs.body.rule_front.Tie as tie
+
+returns : tie.Need-returns
+returns c =
+    let start = c .before .before in
+    let s = start .args .s .now in
+    front-short Body s (rw (looks-body-rule s (start .pre), rule-size) (omega arith))
+
+number-requires : tie.Need-number-requires
+number-requires c κs = search needs
+
+negated-requires : tie.Need-negated-requires
+negated-requires c κs = search needs
+
+is-rule-requires : tie.Need-is-rule-requires
+is-rule-requires c κs = search needs
+
+number-requires-2 : tie.Need-number-requires-2
+number-requires-2 c κs = search needs
+
+number-requires-3 : tie.Need-number-requires-3
+number-requires-3 c κs = search needs
+
+number-requires-4 : tie.Need-number-requires-4
+number-requires-4 c κs = search needs
+
+found-requires : tie.Need-found-requires
+found-requires c κs = search needs
+
+returns-2 : tie.Need-returns-2
+returns-2 c =
+    let thickness = c .before in
+    let width = thickness .before in
+    let x = width .before in
+    let rule = x .before in
+    let up = rule .before in
+    let down = up .before in
+    let start = down .before .before .before in
+    let s = start .args .s .now in
+    c .found .ensures
+    ∙ rw (x .number2 .ensures .0, up .negated .ensures .is, down .number .ensures .0, width .number3 .ensures .0, thickness .number4 .ensures .0)
+    (front-by Body s (rule .is-rule .result) (looks-body-rule s (start .pre)) (rule .is-rule .ensures))
+
+pub rule-front-spec : {M : Type 1} → statement M
+rule-front-spec =
+    tie.close
+    (tie.spec
+    returns
+    number-requires
+    negated-requires
+    is-rule-requires
+    number-requires-2
+    number-requires-3
+    number-requires-4
+    found-requires
+    returns-2)

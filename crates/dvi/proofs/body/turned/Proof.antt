@@ -1,0 +1,35 @@
+-- `turned` meets its contract: the four bytes, the last one first.
+-- Assumes nothing.
+use mathlib.Core.Path.{_≡_, _∙_}
+use Prim.Native.Nat.{_/_, _%_}
+use native.Mathlib.Omega.{arith}
+use borrow.Author.Needs.{needs}
+use Rattle.words.specs.Words.{littleEndian, fourBytes}
+use Rattle.dvi.specs.Commands.{turnedWord}
+use Rattle.dvi.proofs.body.turned.Statement.{statement}
+use Rattle.dvi.proofs.body.turned.Tie as tie
+
+cast-a : tie.Need-cast-a
+cast-a c = search needs
+
+cast-b : tie.Need-cast-b
+cast-b c = search needs
+
+cast-c : tie.Need-cast-c
+cast-c c = search needs
+
+cast-d : tie.Need-cast-d
+cast-d c = search needs
+
+of-bytes-requires : tie.Need-of-bytes-requires
+of-bytes-requires c κs = search needs
+
+returns : tie.Need-returns
+unfolding turnedWord littleEndian fourBytes
+returns c =
+    let w = c .before .args .w in
+    let top : w / 16_777_216 % 256 ≡ w / 16_777_216 = omega arith in
+    c .of-bytes .ensures ∙ rw top (omega arith)
+
+pub turned-spec : {M : Type 1} → statement M
+turned-spec = tie.close (tie.spec cast-a cast-b cast-c cast-d of-bytes-requires returns)

@@ -1,0 +1,61 @@
+// The two forms of nodes as bytes.
+ghost use mathlib.Core.Path.{_≡_};
+ghost use mathlib.Core.Bool.{true};
+ghost use Prim.Native.Nat.{_≤_};
+ghost use lib.ListN.{length};
+ghost use lib.Seq.{sets};
+ghost use Rattle.dvi.specs.Profile.{writable};
+ghost use Rattle.dvi.specs.Forms.{otherForm, bytesIn, frontIn};
+ghost use Rattle.dvi.specs.Values.{nodeAs, frontAs};
+use crate::body;
+use crate::items::Front;
+use crate::items::Node;
+use crate::stored;
+use nodes::BYTES_IN_NODE;
+
+// Nodes are stored as document 01 has them, or stand in the body of a page.
+pub enum Form {
+    Stored,
+    Body,
+}
+
+// The form that nodes in this one are converted to.
+pub fn other(form: Form) -> Form
+    ensures { λ r. ⌜ r ≡ otherForm form ⌝ }
+{
+    match form {
+        Form::Stored => Form::Body,
+        Form::Body => Form::Stored,
+    }
+}
+
+// The node at the front of some bytes.
+pub fn front(form: Form, s: &[u8]) -> Front
+    ensures { λ r. ⌜ frontAs r ≡ frontIn form (now (s .entry)) ⌝ }
+{
+    match form {
+        Form::Stored => stored::front(s),
+        Form::Body => body::front(s),
+    }
+}
+
+// How many bytes a node has.
+pub fn size(form: Form, node: Node) -> usize
+    ensures { λ r. ⌜ r ≡ length (bytesIn form (nodeAs node)) ⌝ }
+{
+    match form {
+        Form::Stored => BYTES_IN_NODE,
+        Form::Body => body::size(node),
+    }
+}
+
+// Writes a node at the front of the buffer.
+pub fn put(form: Form, node: Node, out: &mut [u8])
+    requires { ⌜ (writable (nodeAs node) ≡ true) × (length (bytesIn form (nodeAs node)) ≤ length (now out)) ⌝ }
+    ensures { λ _. ⌜ now (out .exit) ≡ sets (now (out .entry)) 0 (bytesIn form (nodeAs node)) ⌝ }
+{
+    match form {
+        Form::Stored => stored::put(node, out),
+        Form::Body => body::put(node, out),
+    }
+}

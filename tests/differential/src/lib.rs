@@ -1,0 +1,3 @@
+//! What both comparisons lend to the library.
+
+pub mod guarded;
