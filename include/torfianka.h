@@ -249,6 +249,9 @@ static inline uint8_t torfianka_why_in(struct torfianka_font *font, uint8_t styl
  * The answer has two words: the place, which is 0, and how many bytes were
  * written, 0 on a refusal. Words past the second are left as they are. With
  * fewer than two words a call returns 255 and changes nothing.
+ *
+ * The memory lent by pointers must not overlap. A pointer lent with length 0
+ * is not followed, but must be aligned and not null.
  */
 enum torfianka_dvi_word {
     TORFIANKA_DVI_PLACE = 0,
