@@ -34,8 +34,8 @@ use std::fmt;
 
 /// The tables that symbols are looked up in, and an index of each.
 ///
-/// The first call with good tables builds the indexes; keep the font, so that
-/// later calls find them built.
+/// Every call with good tables builds both indexes anew, in words that the font
+/// owns.
 #[derive(Clone, Debug)]
 pub struct Font<'a> {
     table: &'a [u8],
