@@ -1,5 +1,5 @@
--- What decided the shifts of an item (change request 7), from what `arrange` sees of it. Limits are shifted by other rules, and an item
--- without scripts not at all: of those there is nothing to say.
+-- What decided the shifts of an item (change request 7), from what `arrange` sees of it, and what its shifts go through. Limits are shifted by
+-- other rules, and an item without scripts not at all: of those there is nothing to say.
 -- Assumes nothing.
 use mathlib.Core.Bool.{Bool, true, false}
 use mathlib.Core.Option.{Option, none, some}
@@ -11,8 +11,11 @@ use Rattle.boxes.specs.Boxes.{Size, Shape, sizeOf, given}
 use Rattle.delimiters.specs.Delimiters.{Signs}
 use Rattle.nucleus.specs.Nucleus.{Nucleus}
 use Rattle.reasons.specs.Reasons.{Reasons}
+use Rattle.reasons.specs.Courses.{Courses}
 use Rattle.scripts.specs.Reasons.{scriptReasons}
+use Rattle.scripts.specs.Courses.{scriptCourses}
 use Rattle.fractions.specs.Reasons.{fractionReasons}
+use Rattle.fractions.specs.Courses.{fractionCourses}
 use Rattle.arrange.specs.Arrange.{isGiven, setsLimits, nucleusOf}
 
 -- the test is whether the scripts are set as limits
@@ -24,3 +27,8 @@ unfoldable pub reasons : Parameters → Style → Kind → Signs → Shape → S
 reasons p s (Scripted base) signs x y z =
     besideReasons p s (setsLimits s base) (nucleusOf p s base signs (isGiven (given z)) x) (given y) (given z)
 reasons p s (Fraction bar) signs x y z = some (fractionReasons p s bar (sizeOf x) (sizeOf y))
+
+-- where they are set by 18a to 18f, or by 15
+unfoldable pub courses : Parameters → Style → Kind → Signs → Shape → Shape → Shape → Courses
+courses p s (Scripted base) signs x y z = scriptCourses p s (nucleusOf p s base signs (isGiven (given z)) x) (given y) (given z)
+courses p s (Fraction bar) signs x y z = fractionCourses p s bar (sizeOf x) (sizeOf y)

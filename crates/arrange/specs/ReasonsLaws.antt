@@ -1,6 +1,8 @@
--- The shifts that are given with the reasons of an item are those at which `arrange` puts its fields.
+-- The reasons of an item are true.
+--     reasons-true     true of what its shifts go through
+--     used             the shifts that are given with them are those at which `arrange` puts its fields
 -- Assumes nothing.
-use mathlib.Core.Path.{_≡_, ap, _∙_}
+use mathlib.Core.Path.{_≡_, ap, subst, _∙_}
 use mathlib.Core.Bool.{Bool, true, false}
 use mathlib.Core.Option.{Option, none, some}
 use Prim.Native.Nat.{ℕ}
@@ -14,11 +16,14 @@ use Rattle.boxes.specs.Boxes.{Size, Shape, sizeOf, given, Arranged}
 use Rattle.delimiters.specs.Delimiters.{Signs}
 use Rattle.nucleus.specs.Nucleus.{Nucleus}
 use Rattle.reasons.specs.Reasons.{Reasons}
-use Rattle.scripts.specs.ReasonsLaws.{scripts-used}
+use Rattle.reasons.specs.Courses.{AllTrue}
+use Rattle.scripts.specs.Courses.{scriptCourses}
+use Rattle.scripts.specs.ReasonsLaws.{scripts-true, scripts-used}
 use Rattle.fractions.specs.Reasons.{fractionReasons}
-use Rattle.fractions.specs.ReasonsLaws.{fraction-used}
+use Rattle.fractions.specs.Courses.{fractionCourses}
+use Rattle.fractions.specs.ReasonsLaws.{fraction-true, fraction-used}
 use Rattle.arrange.specs.Arrange.{isGiven, setsLimits, nucleusOf, setScripts, arrange}
-use Rattle.arrange.specs.Reasons.{besideReasons, reasons}
+use Rattle.arrange.specs.Reasons.{besideReasons, reasons, courses}
 
 -- how far up the field stands that is shifted up, a superscript or a numerator
 abbrev pub raised : Kind → Arranged → ℤ
@@ -35,6 +40,20 @@ module _ (p : Parameters) (s : Style) where
       (setScripts p s limits n x y .second .up ≡ r .up .shift) × (setScripts p s limits n x y .third .up ≡ negℤ (r .down .shift))
   beside-used true n x y r e = let z : _≡_ {A = ℕ} 0 1 = cc in absurd (omega arith)
   beside-used false n x y r e = scripts-used p s n x y r e
+
+  beside-true : (limits : Bool) (n : Nucleus) (x y : Option Size) (r : Reasons) → besideReasons p s limits n x y ≡ some r →
+      AllTrue (scriptCourses p s n x y) r
+  beside-true true n x y r e = let z : _≡_ {A = ℕ} 0 1 = cc in absurd (omega arith)
+  beside-true false n x y r e = scripts-true p s n x y r e
+
+  pub reasons-true : (kind : Kind) (signs : Signs) (x y z : Shape) (r : Reasons) → reasons p s kind signs x y z ≡ some r →
+      AllTrue (courses p s kind signs x y z) r
+  unfolding reasons courses
+  reasons-true (Scripted base) signs x y z r e =
+      beside-true (setsLimits s base) (nucleusOf p s base signs (isGiven (given z)) x) (given y) (given z) r e
+  reasons-true (Fraction bar) signs x y z r e =
+      let is : fractionReasons p s bar (sizeOf x) (sizeOf y) ≡ r = cc in
+      subst (AllTrue (fractionCourses p s bar (sizeOf x) (sizeOf y))) is (fraction-true p s bar (sizeOf x) (sizeOf y))
 
   pub used : (kind : Kind) (signs : Signs) (x y z : Shape) (r : Reasons) → reasons p s kind signs x y z ≡ some r →
       (raised kind (arrange p s kind signs x y z) ≡ r .up .shift) × (lowered kind (arrange p s kind signs x y z) ≡ negℤ (r .down .shift))

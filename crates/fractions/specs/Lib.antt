@@ -1,4 +1,5 @@
 -- Fractions; what decided a shift. Assumes nothing.
 pub mod Fractions
 pub mod Reasons
+pub mod Courses
 pub mod ReasonsLaws

@@ -1,4 +1,5 @@
--- What decided a shift. Assumes nothing.
+-- What decided a shift; what makes its reason true. Assumes nothing.
 pub mod Reasons
+pub mod Courses
 pub mod Values
 pub mod ReasonsLaws

@@ -3,4 +3,5 @@ pub mod Scripts
 pub mod Values
 pub mod Bounds
 pub mod Reasons
+pub mod Courses
 pub mod ReasonsLaws

@@ -2,7 +2,8 @@
 --     Picked          an item with fields that the setter uses, and the style in which it sets it
 --     pickIn          the one that starts at a place of a list, if one does: the place lies in one item of the list, and is that item's
 --                     first byte, or lies in a list that the item holds
---     reasonsAt       what decided its shifts, from the shapes that the setter gives its fields
+--     pickedReasons, reasonsAt     what decided its shifts, from the shapes that the setter gives its fields
+--     pickedCourses   what its shifts go through
 -- As in the reading, a place within a list counts from the list's first byte, and a place within an item from the item's. Of a choice only
 -- the list taken is looked into, and the style is that current at each item.
 -- Assumes nothing.
@@ -14,11 +15,14 @@ use Rattle.font.specs.Font.{Font}
 use Rattle.formula.specs.declared.Kind.{Kind}
 use Rattle.formula.specs.Tree.{Items, Item, Field, nil, cons, noad, kern, restyle, choice, empty, symbol, list, openingBytes, choiceOpeningBytes, listOpeningBytes, sublistBytes, itemsBytes, itemBytes, fieldBytes}
 use Rattle.boxes.specs.declared.styles.Style.{Style}
+use Rattle.boxes.specs.Parameters.{Parameters}
 use Rattle.boxes.specs.Boxes.{Shape}
+use Rattle.delimiters.specs.Delimiters.{Signs}
 use Rattle.arrange.specs.declared.Manner.the-variants.{Plain}
 use Rattle.arrange.specs.Arrange.{firstStyle, secondStyle, thirdStyle, firstManner}
-use Rattle.arrange.specs.Reasons.{reasons}
+use Rattle.arrange.specs.Reasons.{reasons, courses}
 use Rattle.reasons.specs.Reasons.{Reasons}
+use Rattle.reasons.specs.Courses.{Courses}
 use Rattle.setting.specs.Setting.{taken, styleBehind, signsIn, setField}
 
 pub record Picked : Type 0 where
@@ -78,14 +82,20 @@ unfoldable mutual
       let start = at + listOpeningBytes (itemsBytes l) in
       ifReached (leb start place) (pickIn s (place - start) l)
 
--- from the shapes of its fields and the signs that are found for them, as `arrangedIn` has them
-unfoldable pub pickedReasons : Font → Picked → Option Reasons
-pickedReasons F q =
+-- a function of what `arrange` sees of it: the shapes of its fields, and the signs that are found for them, as `arrangedIn` has them
+abbrev pub ofPicked : {A : Type 0} → (Parameters → Style → Kind → Signs → Shape → Shape → Shape → A) → Font → Picked → A
+ofPicked f F q =
     let s = q .style in
     let x = setField F (firstStyle (q .kind) s) (firstManner (q .kind) s) (q .first) .shape in
     let y = setField F (secondStyle (q .kind) s) Plain (q .second) .shape in
     let z = setField F (thirdStyle s) Plain (q .third) .shape in
-    reasons (F .parameter) s (q .kind) (signsIn F s (q .kind) x) x y z
+    f (F .parameter) s (q .kind) (signsIn F s (q .kind) x) x y z
+
+unfoldable pub pickedReasons : Font → Picked → Option Reasons
+pickedReasons F q = ofPicked reasons F q
+
+unfoldable pub pickedCourses : Font → Picked → Courses
+pickedCourses F q = ofPicked courses F q
 
 unfoldable pub reasonsAt : Font → Style → ℕ → Items → Option Reasons
 reasonsAt F s place l = elim (pickIn s place l) [ none ↦ none | some q ↦ pickedReasons F q ]

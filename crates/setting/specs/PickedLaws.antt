@@ -4,7 +4,8 @@
 --     pickField-before, pickField-past     none of a field that does not hold the place
 --     pickAt-choice                 a choice is asked for what its taken list is
 --     picked-there                  where nothing is missing of a list and all in it fits, so it is of the item
---     reasons-used                  the shifts that are given with the reasons are those at which the setter puts the fields
+--     picked-of                     where there are reasons there is an item, and they are its own
+--     Because, picked-because       they are true of what its shifts go through, and the shifts are those at which the setter puts its fields
 -- Assumes nothing.
 use mathlib.Core.Path.{_≡_, refl, sym, ap, subst, _∙_}
 use mathlib.Core.Logic.{_⊎_, inl, inr, ⊎-elim}
@@ -26,14 +27,15 @@ use Rattle.boxes.specs.Boxes.{Arranged}
 use Rattle.arrange.specs.declared.Manner.{Manner}
 use Rattle.arrange.specs.declared.Manner.the-variants.{Plain}
 use Rattle.arrange.specs.Arrange.{firstStyle, secondStyle, thirdStyle, firstManner}
-use Rattle.arrange.specs.ReasonsLaws.{raised, lowered, used}
+use Rattle.arrange.specs.ReasonsLaws.{raised, lowered, reasons-true, used}
 use Rattle.reasons.specs.Reasons.{Reasons}
+use Rattle.reasons.specs.Courses.{AllTrue}
 use Rattle.setting.specs.Setting.{taken, styleBehind, arrangedIn, sidesOf, setField, setList}
 use Rattle.setting.specs.SettingLaws.{taken-all, missingItem-choice, itemFits-choice}
 use Rattle.setting.specs.Missing.{_orElse_, later, missingItems, missingItem, missingField}
 use Rattle.setting.specs.Fitting.{boxFits, itemsFit, itemFits, fieldFits}
 use Rattle.setting.specs.FieldAlone.{neither-missing, none-of-three-missing, not-later, all-true, fields-there, fields-fit}
-use Rattle.setting.specs.Picked.{Picked, picked, _orIn_, ifReached, pickIn, pickAt, pickField, pickedReasons}
+use Rattle.setting.specs.Picked.{Picked, picked, _orIn_, ifReached, pickIn, pickAt, pickField, pickedReasons, pickedCourses, reasonsAt}
 
 -- ---- where the place lies
 
@@ -179,7 +181,7 @@ module _ (F : Font) where
         (and-eq-true-iff (boxFits (setList F (sidesOf manner) s l)) (itemsFit F s l) .0 f .1)
         (reached (leb start place) (pickIn s (place - start) l) e)
 
--- ---- the shifts are those of the setter
+-- ---- the reasons are true, and the shifts those of the setter
 
 -- how the setter arranges it
 abbrev pub pickedArranged : Font → Picked → Arranged
@@ -188,7 +190,28 @@ pickedArranged F q =
     arrangedIn F s (q .kind) (setField F (firstStyle (q .kind) s) (firstManner (q .kind) s) (q .first) .shape)
     (setField F (secondStyle (q .kind) s) Plain (q .second) .shape) (setField F (thirdStyle s) Plain (q .third) .shape)
 
-pub reasons-used : (F : Font) (q : Picked) (r : Reasons) → pickedReasons F q ≡ some r →
-    (raised (q .kind) (pickedArranged F q) ≡ r .up .shift) × (lowered (q .kind) (pickedArranged F q) ≡ negℤ (r .down .shift))
-unfolding pickedReasons
-reasons-used F q r e = used (F .parameter) (q .style) (q .kind) _ _ _ _ r e
+-- what makes the reasons of an item true
+pub record Because (F : Font) (q : Picked) (r : Reasons) : Type 0 where
+  pub all-true : AllTrue (pickedCourses F q) r
+  pub up-used : raised (q .kind) (pickedArranged F q) ≡ r .up .shift
+  pub down-used : lowered (q .kind) (pickedArranged F q) ≡ negℤ (r .down .shift)
+
+pub picked-because : (F : Font) (q : Picked) (r : Reasons) → pickedReasons F q ≡ some r → Because F q r
+unfolding pickedReasons pickedCourses
+picked-because F q r e =
+    let there = used (F .parameter) (q .style) (q .kind) _ _ _ _ r e in
+    record { all-true = reasons-true (F .parameter) (q .style) (q .kind) _ _ _ _ r e; up-used = there .0; down-used = there .1 }
+
+-- the item of which reasons are given
+pub record PickedOf (F : Font) (s : Style) (place : ℕ) (l : Items) (r : Reasons) : Type 0 where
+  pub item : Picked
+  pub picks : pickIn s place l ≡ some item
+  pub reasons-are : pickedReasons F item ≡ some r
+
+pub picked-of : (F : Font) (s : Style) (place : ℕ) (l : Items) (r : Reasons) → reasonsAt F s place l ≡ some r → PickedOf F s place l r
+unfolding reasonsAt
+picked-of F s place l r = go (pickIn s place l) refl
+  where
+    go : (q : Option Picked) → pickIn s place l ≡ q → elim q [ none ↦ none | some q ↦ pickedReasons F q ] ≡ some r → PickedOf F s place l r
+    go none is e = let z : _≡_ {A = ℕ} 0 1 = cc in absurd (omega arith)
+    go (some q) is e = record { item = q; picks = is; reasons-are = e }
