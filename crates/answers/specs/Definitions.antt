@@ -18,17 +18,23 @@ use Rattle.fences.specs.Fences.{fenceOf}
 use Rattle.spacing.specs.Classes.{changedClass}
 use Rattle.spacing.specs.Spacing.{row, chart, spaceBefore}
 use Rattle.scripts.specs.Scripts.{drops, greatest, subscriptCandidates, leastUp, superscriptCandidates, pairCandidates, gapDown, ψOf, lifted, spread, pairShifts, reach, scripted}
+use Rattle.reasons.specs.Reasons.{corrected}
+use Rattle.scripts.specs.Reasons.{firstGreatest, widened, pairReasons, scriptReasons}
 use Rattle.limits.specs.Limits.{limited}
 use Rattle.fractions.specs.Fractions.{fractionShifts, parted, shiftsWithoutBar, cleared, shiftsWithBar, fraction}
+use Rattle.fractions.specs.Reasons.{fractionReasons}
 use Rattle.arrange.specs.Arrange.{nucleusOf, arrange}
+use Rattle.arrange.specs.Reasons.{reasons}
 use Rattle.nodes.specs.Nodes.{moved, signedBytes, nodeBytes, bytesOf}
 use Rattle.nodes.specs.Bounds.{nodesFit}
 use Rattle.setting.specs.Setting.{found, successor, enlarged, symbolIn, symbolPart, signsIn, hasSigns, ownNodes, itemNodes, itemBox, styleAfter, styleBehind, nextClass, classAt, placed, setItems, setItem, setField, setList}
 use Rattle.setting.specs.Missing.{later, absentAt, missingItems, missingItem, missingField}
 use Rattle.setting.specs.Fitting.{boxFits, itemsFit, itemFits, fieldFits, listFits}
+use Rattle.setting.specs.Picked.{pickIn, pickAt, pickField, pickedReasons, reasonsAt}
 use Rattle.answers.specs.Lent.{enough, builds, builtIf}
 use Rattle.answers.specs.Answers.{ifFits, ifPresent, ifRead, ifEnough, ifClient, ifGood, ifStyle, resultBetween, measuredBy, measuredBetween, hasRoom, setBy, settingBetween, bufferBy, bufferBetween}
+use Rattle.answers.specs.Explained.{ifPicked, explainedBy, reasonsIn, explained}
 
 unfoldable pub definitions : Unit {0}
-unfolding pick maxℤ minℤ half atQuad littleEndian signedWord wordOf fourBytes pieces characterCount parameterRecords characterRecords clientCount clientRecords words marked parameterWords metricWords every goodParameters goodCharacter before rising goodLength goodRecords goodClientLength goodClientRecords successorOf metricsOf isOf lookup fontOf fontWith has bits tally earlier each indexOf next goesOn chainEnds goodTable seenEnds goodClient listOpeningBytes itemsBytes itemBytes fieldBytes markIn markOf atomOf atomOpening fractionOf fractionOpening kernWithin kernOpening styleOpening rootOf behindDelimiter rootOpening fenceRead fenceOpening opens openingOf symbolHead sublistHead listHead longListHead fieldHeadUnder listGot fieldBy onlyList heldIn fieldAt firstAt thirdAt noadAt listAt choiceAt openedBy itemBy beforeReading restBy listBy readBy readUnder readFormulaUnder styleOf chainBy chain inSizes ofPair candidates extent firstEnough taller tallest taken signFor hasAny hasSign root fenceOf changedClass row chart spaceBefore limited drops greatest subscriptCandidates leastUp superscriptCandidates pairCandidates gapDown ψOf lifted spread pairShifts reach scripted fractionShifts parted shiftsWithoutBar cleared shiftsWithBar fraction nucleusOf arrange moved signedBytes nodeBytes bytesOf found successor enlarged symbolIn symbolPart signsIn hasSigns ownNodes itemNodes itemBox styleAfter styleBehind nextClass classAt placed setItems setItem setField setList later absentAt missingItems missingItem missingField nodesFit boxFits itemsFit itemFits fieldFits listFits enough builds builtIf ifFits ifPresent ifRead ifEnough ifClient ifGood ifStyle resultBetween measuredBy measuredBetween hasRoom setBy settingBetween bufferBy bufferBetween
+unfolding pick maxℤ minℤ half atQuad littleEndian signedWord wordOf fourBytes pieces characterCount parameterRecords characterRecords clientCount clientRecords words marked parameterWords metricWords every goodParameters goodCharacter before rising goodLength goodRecords goodClientLength goodClientRecords successorOf metricsOf isOf lookup fontOf fontWith has bits tally earlier each indexOf next goesOn chainEnds goodTable seenEnds goodClient listOpeningBytes itemsBytes itemBytes fieldBytes markIn markOf atomOf atomOpening fractionOf fractionOpening kernWithin kernOpening styleOpening rootOf behindDelimiter rootOpening fenceRead fenceOpening opens openingOf symbolHead sublistHead listHead longListHead fieldHeadUnder listGot fieldBy onlyList heldIn fieldAt firstAt thirdAt noadAt listAt choiceAt openedBy itemBy beforeReading restBy listBy readBy readUnder readFormulaUnder styleOf chainBy chain inSizes ofPair candidates extent firstEnough taller tallest taken signFor hasAny hasSign root fenceOf changedClass row chart spaceBefore limited drops greatest subscriptCandidates leastUp superscriptCandidates pairCandidates gapDown ψOf lifted spread pairShifts reach scripted fractionShifts parted shiftsWithoutBar cleared shiftsWithBar fraction nucleusOf arrange moved signedBytes nodeBytes bytesOf found successor enlarged symbolIn symbolPart signsIn hasSigns ownNodes itemNodes itemBox styleAfter styleBehind nextClass classAt placed setItems setItem setField setList later absentAt missingItems missingItem missingField nodesFit boxFits itemsFit itemFits fieldFits listFits enough builds builtIf ifFits ifPresent ifRead ifEnough ifClient ifGood ifStyle resultBetween measuredBy measuredBetween hasRoom setBy settingBetween bufferBy bufferBetween corrected firstGreatest widened pairReasons scriptReasons fractionReasons reasons pickIn pickAt pickField pickedReasons reasonsAt ifPicked explainedBy reasonsIn explained
 definitions = tt

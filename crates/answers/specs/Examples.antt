@@ -5,7 +5,8 @@
 -- request 4, `fences-hold`: the sum on either side of a Punct, with the space before the unseen Close, and a superscript; a Bin between the
 -- unseen atoms, which is an Ord, with a blank for the absent delimiter on its left. Of request 6, `client-set`: P12's operator, behind an a,
 -- takes its successor from the client's table, and the a in it, of script size, from ours; `client-refused`: refusal 8, where it stands
--- among the others. Of request 9, `words-refused`: the same of refusal 19; `client-index`: the front of the words for the client's index.
+-- among the others. Of request 7, `explained-hold`: what decided the shifts of P7 to P10 and of items that each other quantity decided, and
+-- refusal 9. Of request 9, `words-refused`: the same of refusal 19; `client-index`: the front of the words for the client's index.
 -- Assumes nothing.
 use mathlib.Core.Path.{_≡_, refl}
 use mathlib.Core.List.{List, [], _∷_, _++_, map}
@@ -14,9 +15,12 @@ use lib.IntN.{ℤ, pos, negℤ}
 use lib.ListN.{take}
 use Rattle.font.specs.Index.{indexWords, each}
 use Rattle.nodes.specs.Nodes.{Node, glyph, rule}
+use Rattle.reasons.specs.declared.Reason.the-variants.{Drop, Sigma, XHeight, Gap, Psi, Clearance}
+use Rattle.reasons.specs.Reasons.{Decided, decided, unshifted}
 use Rattle.setting.specs.Setting.{Box}
 use Rattle.answers.specs.Lent.{lends, clientIndexAfter}
 use Rattle.answers.specs.Answers.{Result, boxed, refused, resultOf, Answered, measured, setting, bufferAfter}
+use Rattle.answers.specs.Explained.{Explanation, unexplained, explained}
 use Rattle.answers.specs.BenchTable.{justEnough, benchTable, clientTable, turningTable}
 use Rattle.answers.specs.Definitions.{definitions}
 
@@ -228,6 +232,78 @@ fences =
 fences-hold : map computed fences ≡ map stated fences
 unfolding definitions benchTable fences computed stated
 fences-hold = refl
+
+-- ---- why a shift is what it is
+
+record Question : Type 0 where
+  formula : List ℕ
+  style : ℕ
+  place : ℕ
+  explanation : Explanation
+
+abbrev ask : List ℕ → ℕ → ℕ → Explanation → Question
+ask formula style place explanation = record { formula = formula; style = style; place = place; explanation = explanation }
+
+abbrev because : Decided → Decided → Explanation
+because up down = record { number = 0; place = 0; reasons = record { up = up; down = down } }
+
+abbrev unpicked : Explanation
+unpicked = unexplained 9 0
+
+-- f with two scripts, for D alone
+abbrev chosenForD : List ℕ
+chosenForD = choice (sublist 13 (atom ord f a a)) (sublist 0 []) (sublist 0 []) (sublist 0 [])
+
+-- formula, style, place, what decided the shift up and the shift down
+questions : List Question
+questions =
+    -- P7: σ14, and σ15 in T'
+    ask (atom ord a a empty) T 0 (because (decided Sigma (pos 370)) unshifted)
+    ∷ ask (atom ord a a empty) T′ 0 (because (decided Sigma (pos 290)) unshifted)
+    -- P8: the gap is wide enough
+    ∷ ask (atom ord f a a) T 0 (because (decided Sigma (pos 370)) (decided Sigma (pos 250)))
+    -- P9: the gap, and then ψ
+    ∷ ask (atom ord f a a) T′ 0 (because (decided Psi (pos 344)) (decided Psi (pos 246)))
+    -- a subscript as high as f: the gap, and no ψ
+    ∷ ask (atom ord f a f) T 0 (because (decided Sigma (pos 370)) (decided Gap (pos 490)))
+    -- that subscript alone: the x-height term
+    ∷ ask (atom ord a empty f) T 0 (because unshifted (decided XHeight (pos 356)))
+    -- the subscript of a root: the drop
+    ∷ ask (root a a) T 0 (because unshifted (decided Drop (pos 310)))
+    -- of a list f the drop and σ17 are equal: the first
+    ∷ ask (atom ord (sublist 9 (alone ord f)) a a) T 0 (because (decided Sigma (pos 370)) (decided Drop (pos 250)))
+    -- P10
+    ∷ ask (fraction 0) T 0 (because (decided Sigma (pos 400)) (decided Sigma (pos 350)))
+    -- f over a: the clearance of the numerator alone
+    ∷ ask (70 ∷ 82 ∷ 0 ∷ (f ++ a)) T 0 (because (decided Clearance (pos 510)) (decided Sigma (pos 350)))
+    -- behind another item, and in a list
+    ∷ ask (plus ++ fraction 0) T 9 (because (decided Sigma (pos 400)) (decided Sigma (pos 350)))
+    ∷ ask (alone ord (sublist 13 (atom ord f a a))) T 7 (because (decided Sigma (pos 370)) (decided Sigma (pos 250)))
+    -- in the list that a choice takes
+    ∷ ask chosenForD D 5 (because (decided Sigma (pos 420)) (decided Sigma (pos 250)))
+    -- 9: in one that it does not take
+    ∷ ask chosenForD T 5 unpicked
+    -- 9: within an item, and behind the last
+    ∷ ask (atom ord f a a) T 1 unpicked
+    ∷ ask (atom ord f a a) T 13 unpicked
+    -- 9: without scripts, and a kern
+    ∷ ask (alone ord a) T 0 unpicked
+    ∷ ask (75 ∷ 78 ∷ 0 ∷ 0 ∷ 0 ∷ 0 ∷ []) T 0 unpicked
+    -- 9: P12's limits
+    ∷ ask (atom op (symbol 3 80) empty a) D 0 unpicked
+    -- the refusals of measuring come first
+    ∷ ask (65 ∷ []) T 0 (unexplained 3 0)
+    ∷ []
+
+told : Question → Explanation
+told q = explained (q .style) benchTable [] justEnough (q .formula) (q .place)
+
+explanationOf : Question → Explanation
+explanationOf q = q .explanation
+
+explained-hold : map told questions ≡ map explanationOf questions
+unfolding definitions benchTable questions told explanationOf
+explained-hold = refl
 
 -- ---- a client's table
 

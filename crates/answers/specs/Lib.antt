@@ -1,7 +1,7 @@
 -- The lent words; the answers; the laws of both; how small answers are; that an accepted formula's nodes are the body of a page; measuring
 -- and setting agree; a formula without style changes, choices and fences is answered as before, and so is every formula without a client's
--- table, and every one that the short format accepts; a list field in the whole as it stands alone; what decided a shift; the worked
--- examples.
+-- table, and every one that the short format accepts; a list field in the whole as it stands alone; what decided a shift, and that it is
+-- true; the worked examples.
 -- Assumes nothing.
 pub mod Lent
 pub mod Answers
@@ -12,6 +12,7 @@ pub mod Small
 pub mod PageNodes
 pub mod Agreement
 pub mod Accepting
+pub mod ExplainedLaws
 pub mod AsBefore
 pub mod OursAlone
 pub mod Formats
