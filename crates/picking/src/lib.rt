@@ -30,7 +30,7 @@ use walk::current::taken_span;
 use walk::places::look_at;
 
 // An item with fields that is set in a style, and the end of the list that holds it.
-pub enum Spot {
+enum Spot {
     Nowhere,
     Item(Style, usize),
 }
@@ -45,7 +45,7 @@ enum Step {
 }
 
 // The item that starts at a place of the list s, which starts in a style.
-pub fn pick(style: Style, place: usize, s: &[u8]) -> Spot
+fn pick(style: Style, place: usize, s: &[u8]) -> Spot
     requires { ⌜ tree.Readable (now s) × (length (now s) ≤ longest) ⌝ }
     ensures { λ r. ⌜ PickDone style place (now (s .entry)) r ⌝ }
 {
@@ -140,7 +140,7 @@ fn step_from(style: Style, kind: Kind, place: usize, s: &[u8]) -> Step
 }
 
 // The items of the field whose kind byte stands at a place of s, up to the field's end; one that is no list has none.
-pub fn held(s: &[u8], at: usize) -> Span
+fn held(s: &[u8], at: usize) -> Span
     requires { ⌜ tree.GoodFieldAt (now s) at × (at ≤ length (now s)) × (length (now s) ≤ longest) ⌝ }
     ensures { λ r. ⌜ HeldSpan (now (s .entry)) at r ⌝ }
 {

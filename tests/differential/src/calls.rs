@@ -40,6 +40,11 @@ pub struct Disagreement {
 
 /// The first call whose outcomes differ, if any.
 pub fn disagreement(input: &Input) -> Option<Disagreement> {
+    disagreement_noting(input, |_| ())
+}
+
+/// The same; `note` is told every answer number that the reference gives.
+pub fn disagreement_noting(input: &Input, mut note: impl FnMut(u8)) -> Option<Disagreement> {
     let mut random = Random::new(input.filling);
     let long = ANSWER_WORDS + random.below(4);
     let short = random.below(ANSWER_WORDS);
@@ -50,7 +55,7 @@ pub fn disagreement(input: &Input) -> Option<Disagreement> {
         .chain(asked.into_iter().map(Call::Why))
         .map(|call| (call, long))
         .chain(short_calls.map(|call| (call, short)))
-        .find_map(|(call, words)| disagreement_in(call, words, input, &mut random))
+        .find_map(|(call, words)| disagreement_in(call, words, input, &mut random, &mut note))
 }
 
 /// Where to ask why: at every item of a short formula, at some of a long one,
@@ -71,6 +76,7 @@ fn disagreement_in(
     words: usize,
     input: &Input,
     random: &mut Random,
+    note: &mut impl FnMut(u8),
 ) -> Option<Disagreement> {
     let room = match call {
         Call::Measure | Call::Why(_) => 0,
@@ -86,6 +92,7 @@ fn disagreement_in(
     let client = client_pointer(input, random);
     let library = by_library(call, input, client, before.clone());
     let reference = by_reference(call, input, before.clone());
+    note(reference.number);
     let fault = fault(call, &before, &library, &reference).or_else(|| {
         (!binding_agrees(call, input, &library)).then_some("the Rust binding differs")
     })?;

@@ -1,7 +1,7 @@
 //! What both setters are given.
 
 use reference::generate::{case, Random};
-use reference::{measure, set_lent, Lent, NODE_BYTES};
+use reference::{measure, NODE_BYTES};
 
 #[derive(Clone)]
 pub struct Input {
@@ -45,22 +45,5 @@ impl Input {
             client_index: case.client_index,
             filling: random.word(),
         }
-    }
-
-    /// The reference's answer number when setting.
-    pub fn number(&self) -> u8 {
-        let Input {
-            style,
-            table,
-            client,
-            formula,
-            ..
-        } = self;
-        let mut nodes = vec![0; self.room];
-        let lent = Lent {
-            index: &mut self.index.clone(),
-            client_index: &mut self.client_index.clone(),
-        };
-        set_lent(*style, table, client, formula, &mut nodes, lent).number
     }
 }

@@ -8,15 +8,15 @@ mod report;
 mod shrink;
 mod watch;
 
-use calls::disagreement;
+use calls::disagreement_noting;
 use input::Input;
 use reference::generate::Random;
 use std::collections::BTreeMap;
 use std::env;
 use std::process::ExitCode;
 
-/// Answer numbers, in the order tested.
-const NUMBERS: [u8; 10] = [0, 1, 2, 8, 19, 3, 4, 5, 6, 7];
+/// Answer numbers, in the order tested: 7 when setting, 9 when asking why.
+const NUMBERS: [u8; 11] = [0, 1, 2, 8, 19, 3, 4, 5, 6, 7, 9];
 /// So many inputs meet every answer number.
 const ENOUGH_FOR_ALL_NUMBERS: u64 = 5_000;
 /// Disagreements printed in full; further ones are only counted.
@@ -46,7 +46,7 @@ fn main() -> ExitCode {
 struct Tally {
     agreed: u64,
     disagreed: u64,
-    /// How often the reference gave each answer number when setting.
+    /// How often the reference gave each answer number, by any call.
     numbers: BTreeMap<u8, u64>,
 }
 
@@ -65,8 +65,8 @@ impl Tally {
     }
 
     fn compare(&mut self, input: Input) {
-        *self.numbers.entry(input.number()).or_default() += 1;
-        match disagreement(&input) {
+        let note = |number| *self.numbers.entry(number).or_default() += 1;
+        match disagreement_noting(&input, note) {
             None => self.agreed += 1,
             Some(_) => {
                 self.disagreed += 1;
