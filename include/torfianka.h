@@ -21,7 +21,8 @@ extern "C" {
 
 /*
  * What a call returns; 1 to 9 and 19 are refusals, listed in the order tested,
- * and 16 to 18 those of the two calls for DVI.
+ * 16 to 18 those of the two calls for DVI, and 10 to 13, 20 and 21 those of the
+ * two calls for typed text.
  */
 enum torfianka_number {
     TORFIANKA_ACCEPTED = 0,
@@ -53,8 +54,22 @@ enum torfianka_number {
     TORFIANKA_OUTSIDE_PROFILE = 17, /* torfianka_dvi_read: no nodes have this
                                   body */
     TORFIANKA_BODY_NO_ROOM = 18, /* the result of either has no room */
-    TORFIANKA_SHORT_ANSWER = 255 /* answer_len is less than 5, or for DVI less
-                                  than 2; nothing was changed */
+    TORFIANKA_BAD_NAMES = 20,  /* both calls for typed text: the name table is
+                                  malformed, repeats a name or names a keyword
+                                  (the first byte of the first such record, of
+                                  two with one name the later) */
+    TORFIANKA_UNKNOWN_WORD = 10, /* torfianka_eqn_read: a word that the table
+                                  has not (its first byte) */
+    TORFIANKA_OUTSIDE_GRAMMAR = 11, /* torfianka_eqn_read: a text outside the
+                                  grammar (the first byte of the first token
+                                  that can continue no text, or the end) */
+    TORFIANKA_LONG_OR_DEEP = 12, /* torfianka_eqn_read: too long or too deep for
+                                  a formula */
+    TORFIANKA_NOT_TYPED = 21,  /* torfianka_eqn_write: no text with that table
+                                  gives the formula */
+    TORFIANKA_TYPED_NO_ROOM = 13, /* the result of either has no room */
+    TORFIANKA_SHORT_ANSWER = 255 /* answer_len is less than 5, or for DVI and
+                                  typed text less than 2; nothing was changed */
 };
 
 /* The words of an answer. */
@@ -286,6 +301,75 @@ uint8_t torfianka_dvi_write(const uint8_t *nodes, size_t nodes_len,
 uint8_t torfianka_dvi_read(const uint8_t *body, size_t body_len,
                            uint8_t *nodes, size_t nodes_len,
                            int64_t *answer, size_t answer_len);
+
+/*
+ * Typed text as a formula, and back, in the manner of eqn.
+ *
+ * A text has words, the keywords sub, sup, over, from and to, and braces; bytes
+ * 9, 10 and 32 separate. A word is a longest run of bytes 33 to 126 without
+ * braces. From the tightest to the loosest:
+ *
+ *   x sub i sup 2      scripts of one word or one group in braces; either may
+ *                      be absent
+ *   a over b           a fraction; a over b over c is { a over b } over c
+ *   s from a to b      an operator with limits; either may be absent
+ *   a b                side by side
+ *
+ * A group by itself is an Ord atom, a word one of its own class. An operand that
+ * is one bare word is a symbol field, any other a list field of its items; of a
+ * group they are those inside. A text may be empty, and so may a group.
+ *
+ * A name table has a record for each word:
+ *
+ *   1 byte       the length, 1 to 32
+ *   so many      the word; no keyword, and none that an earlier record has
+ *   3 bytes      family (0 to 15), code, class (0 to 7)
+ *
+ * The answer has two words: the place of a refusal, a byte of the name table for
+ * 20 and of the text for 10 and 11, counted from 0, else 0; and how many bytes
+ * were written, 0 on a refusal. Words past the second are left as they are. With
+ * fewer than two words a call returns 255 and changes nothing. No memory has more
+ * bytes than a word can count, so that each place is told.
+ */
+enum torfianka_eqn_word {
+    TORFIANKA_EQN_PLACE = 0,
+    TORFIANKA_EQN_BYTES = 1,
+    TORFIANKA_EQN_ANSWER_WORDS = 2
+};
+
+/*
+ * Reads a text. Refusals, in the order tested:
+ *
+ *   20   the name table breaks a rule above, or its last record is cut off
+ *   10   a word of the text is neither a keyword nor in the table
+ *   11   the text is outside the grammar
+ *   12   the formula has over 131,072 bytes, or a list at depth 33
+ *   13   the formula has no room; 9 bytes for each of the text are enough, and so
+ *        are 131,072
+ *
+ * torfianka_measure and torfianka_set never refuse the formula by 3 or 4. An
+ * acceptance leaves the bytes after it as they are, a refusal all of them.
+ */
+uint8_t torfianka_eqn_read(const uint8_t *names, size_t names_len,
+                           const uint8_t *text, size_t text_len,
+                           uint8_t *formula, size_t formula_len,
+                           int64_t *answer, size_t answer_len);
+
+/*
+ * Writes a formula as text: one space between tokens, each list in braces, for a
+ * symbol the first word of the table that will do. Refusals, in the order tested:
+ *
+ *   20   as above
+ *   21   no text with that table gives the formula
+ *   13   the text has no room; 9 bytes for each of the formula are enough
+ *
+ * Reading what was written gives the same formula, and what torfianka_eqn_read
+ * gave is never refused by 21.
+ */
+uint8_t torfianka_eqn_write(const uint8_t *names, size_t names_len,
+                            const uint8_t *formula, size_t formula_len,
+                            uint8_t *text, size_t text_len,
+                            int64_t *answer, size_t answer_len);
 
 #ifdef __cplusplus
 }

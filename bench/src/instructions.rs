@@ -4,7 +4,9 @@ use crate::figures::grouped;
 use crate::pages::{page, PAGES};
 use crate::rows::{row, ROWS};
 use crate::timing::Timed;
+use crate::typed::{typed, TYPED};
 use crate::work::Setter;
+use crate::{FIRST_PAGE, FIRST_TYPED};
 use std::process::Command;
 use std::{env, io};
 
@@ -12,8 +14,9 @@ use std::{env, io};
 pub const TURNS: &str = "turns";
 
 /// The turns of the two runs that are compared, with as many digits.
-const FEW: usize = 10;
-const MANY: usize = 20;
+const SHORT_WORK: [usize; 2] = [10, 20];
+/// For work that is long by itself.
+const LONG_WORK: [usize; 2] = [1, 2];
 
 const CALLGRIND: [&str; 2] = ["--tool=callgrind", "--callgrind-out-file=/dev/null"];
 /// Before the count, on valgrind's error output.
@@ -24,7 +27,7 @@ pub fn print() -> io::Result<()> {
     println!("|---|---|---|--:|--:|--:|");
     for number in 0..ROWS {
         let work = row(number);
-        print_row(&work.name, number, &work)?;
+        print_row(&work.name, number, &work, SHORT_WORK)?;
         eprintln!("instructions: {} of {ROWS} rows", number + 1);
     }
     println!();
@@ -32,15 +35,23 @@ pub fn print() -> io::Result<()> {
     println!("|--:|---|--:|--:|--:|");
     for number in 0..PAGES {
         let page = page(number);
-        print_row(&page.name, ROWS + number, &page)?;
+        print_row(&page.name, FIRST_PAGE + number, &page, SHORT_WORK)?;
+    }
+    println!();
+    println!("| names | words | call | library, instructions | reference, instructions | reference/library |");
+    println!("|--:|--:|---|--:|--:|--:|");
+    for number in 0..TYPED {
+        let typed = typed(number);
+        print_row(&typed.name, FIRST_TYPED + number, &typed, LONG_WORK)?;
+        eprintln!("instructions: {} of {TYPED} typed texts", number + 1);
     }
     Ok(())
 }
 
 /// `number` is that of the work among the turns.
-fn print_row(name: &str, number: usize, work: &impl Timed) -> io::Result<()> {
-    let library = of_one(number, Setter::Library, work)?;
-    let reference = of_one(number, Setter::Reference, work)?;
+fn print_row(name: &str, number: usize, work: &impl Timed, turns: [usize; 2]) -> io::Result<()> {
+    let library = of_one(number, Setter::Library, work, turns)?;
+    let reference = of_one(number, Setter::Reference, work, turns)?;
     println!(
         "| {name} | {} | {} | {:.2} |",
         grouped(library),
@@ -50,11 +61,16 @@ fn print_row(name: &str, number: usize, work: &impl Timed) -> io::Result<()> {
     Ok(())
 }
 
-/// The instructions that a formula or a node takes. What a run does beside its
+/// The instructions that a formula, a node or a typed text takes. What a run does beside its
 /// calls falls out of the difference of two runs.
-fn of_one(number: usize, setter: Setter, work: &impl Timed) -> io::Result<f64> {
-    let more = collected(number, setter, MANY)? - collected(number, setter, FEW)?;
-    Ok(more / work.done_in(MANY - FEW))
+fn of_one(
+    number: usize,
+    setter: Setter,
+    work: &impl Timed,
+    [few, many]: [usize; 2],
+) -> io::Result<f64> {
+    let more = collected(number, setter, many)? - collected(number, setter, few)?;
+    Ok(more / work.done_in(many - few))
 }
 
 /// The instructions of a whole run.

@@ -1,7 +1,9 @@
 //! Compares the library with the reference and prints Markdown tables.
 //!
-//! - `bench times`: formulas a second, nanoseconds a node of a page
-//! - `bench instructions`: instructions a formula, or a node; needs valgrind
+//! - `bench times`: formulas a second, nanoseconds a node of a page, microseconds
+//!   a typed text
+//! - `bench instructions`: instructions a formula, a node, or a typed text; needs
+//!   valgrind
 //! - `bench stack`: bytes of stack a call, of the library alone
 //! - `bench turns ROW SETTER TURNS`: makes calls for `instructions` to count
 
@@ -14,6 +16,7 @@ mod stack;
 mod tables;
 mod times;
 mod timing;
+mod typed;
 mod work;
 
 use pages::{page, PAGES};
@@ -21,7 +24,13 @@ use rows::{row, ROWS};
 use std::env;
 use std::process::ExitCode;
 use timing::Timed;
+use typed::{typed, TYPED};
 use work::Setter;
+
+/// How the rows are numbered: formulas, then pages, then typed texts.
+const FIRST_PAGE: usize = ROWS;
+const FIRST_TYPED: usize = FIRST_PAGE + PAGES;
+const END: usize = FIRST_TYPED + TYPED;
 
 fn main() -> ExitCode {
     let arguments: Vec<String> = env::args().skip(1).collect();
@@ -53,8 +62,10 @@ fn make_turns(number: &str, setter: &str, turns: &str) -> Option<()> {
     let setter = Setter::named(setter)?;
     let turns = turns.parse().ok()?;
     match number {
-        ..ROWS => row(number).run(setter, turns),
-        _ => page(Some(number - ROWS).filter(|page| *page < PAGES)?).run(setter, turns),
+        ..FIRST_PAGE => row(number).run(setter, turns),
+        FIRST_PAGE..FIRST_TYPED => page(number - FIRST_PAGE).run(setter, turns),
+        FIRST_TYPED..END => typed(number - FIRST_TYPED).run(setter, turns),
+        _ => return None,
     }
     Some(())
 }

@@ -3,7 +3,7 @@
 use crate::figures::grouped;
 use crate::timing::Timed;
 use crate::work::Setter;
-use reference::dvi;
+use reference::{dvi, Converted};
 use std::hint::black_box;
 
 /// A glyph and a rule under it.
@@ -71,6 +71,6 @@ impl Timed for Page {
     }
 }
 
-fn accepted(answer: dvi::PageAnswer) -> Option<usize> {
+fn accepted(answer: Converted) -> Option<usize> {
     (answer.number == 0).then_some(answer.bytes as usize)
 }

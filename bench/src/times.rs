@@ -6,6 +6,7 @@ use crate::pages::{page, Page, PAGES};
 use crate::rows::{row, DEEP, LONG, LONGEST, ROWS};
 use crate::tables::{Font, BENCH, FONTS};
 use crate::timing::Job;
+use crate::typed::{typed, Typed, TYPED};
 use crate::work::{Call, Work};
 
 const ROUNDS: usize = 25;
@@ -16,9 +17,11 @@ const SILENT_ROUNDS: usize = 5;
 pub fn print() {
     let mut sections = [speed_jobs(), share_jobs(), growth_jobs(), form_jobs()];
     let mut pages: Vec<Job<Page>> = (0..PAGES).map(page).map(Job::new).collect();
+    let mut texts: Vec<Job<Typed>> = (0..TYPED).map(typed).map(Job::new).collect();
     for round in 1..=ROUNDS {
         sections.iter_mut().flatten().for_each(Job::round);
         pages.iter_mut().for_each(Job::round);
+        texts.iter_mut().for_each(Job::round);
         if round % SILENT_ROUNDS == 0 {
             eprintln!("times: {round} of {ROUNDS} rounds");
         }
@@ -33,6 +36,8 @@ pub fn print() {
     print_forms(&growth[0], &forms);
     println!();
     print_pages(&pages);
+    println!();
+    print_typed(&texts);
 }
 
 fn speed_jobs() -> Vec<Job> {
@@ -160,6 +165,20 @@ fn print_pages(jobs: &[Job<Page>]) {
             job.work.name,
             job.library(),
             job.reference(),
+            job.speed_ratio()
+        );
+    }
+}
+
+fn print_typed(jobs: &[Job<Typed>]) {
+    println!("| names | words | call | library, µs | reference, µs | library/reference |");
+    println!("|--:|--:|---|--:|--:|--:|");
+    for job in jobs {
+        println!(
+            "| {} | {:.1} | {:.1} | {:.2} |",
+            job.work.name,
+            job.library() / 1000.0,
+            job.reference() / 1000.0,
             job.speed_ratio()
         );
     }

@@ -31,8 +31,8 @@ pub struct Job<W = Work> {
     reference: Timer,
 }
 
-/// How many turns there are in a round, and the nanoseconds that one formula or
-/// node took in each.
+/// How many turns there are in a round, and the nanoseconds that one formula,
+/// node or typed text took in each.
 struct Timer {
     setter: Setter,
     turns: usize,

@@ -1,12 +1,13 @@
 /*
- * Sets a stored record over a font table and prints its sizes and nodes.
+ * Sets a formula over a font table and prints its sizes and nodes.
  *
- *   set_formula TABLE RECORD [--client CLIENT]
+ *   set_formula TABLE FORMULA [--typed NAMES STYLE] [--client CLIENT]
  *
- * A record is a style byte and a formula; a client's table has symbols that go
- * before the font table's. An empty record is refused as style, a font table
- * that can't be read as table. The status is 1 for a refusal, 2 if a client's
- * table can't be read.
+ * A formula is a stored record, a style byte and the formula's bytes; or typed
+ * text with the words of a name table, to be set in a style from 0 to 7. A
+ * client's table has symbols that go before the font table's. An empty record
+ * is refused as style, a font table that can't be read as table. The status is
+ * 1 for a refusal, 2 if another file can't be read.
  */
 #include <inttypes.h>
 #include <stdio.h>
@@ -105,33 +106,112 @@ static uint8_t set(struct torfianka_font *font, uint8_t style, struct bytes form
     return torfianka_set_in(font, style, formula.start, formula.length, *nodes, room, answer);
 }
 
-int main(int argc, char **argv)
-{
-    int has_client = argc == 5 && strcmp(argv[3], "--client") == 0;
-    if (argc != 3 && !has_client) {
-        fprintf(stderr, "usage: set_formula TABLE RECORD [--client CLIENT]\n");
-        return 2;
-    }
-    struct bytes table = read_or_empty(argv[1]), record = read_or_empty(argv[2]);
-    struct bytes client = {NULL, 0};
-    if (has_client)
-        client = read_or_fail(argv[4]);
-    uint8_t style = record.length > 0 ? record.start[0] : UINT8_MAX;
-    size_t taken = record.length > 0;
-    struct bytes formula = {record.start + taken, record.length - taken};
+/* What is to be set. */
+struct formula {
+    uint8_t style;
+    struct bytes bytes;
+};
 
+static struct formula stored(const char *path)
+{
+    struct formula formula = {UINT8_MAX, read_or_empty(path)};
+    if (formula.bytes.length > 0) {
+        formula.style = formula.bytes.start[0];
+        formula.bytes.length--;
+        memmove(formula.bytes.start, formula.bytes.start + 1, formula.bytes.length);
+    }
+    return formula;
+}
+
+static int refused(uint8_t number, int64_t place)
+{
+    printf("refused %d at %" PRId64 "\n", number, place);
+    return 1;
+}
+
+/* Reads typed text, and ends here if it is refused. */
+static struct formula typed(const char *path, const char *names_path, uint8_t style)
+{
+    enum { LONGEST = 131072 }; /* no formula has more bytes */
+    struct bytes text = read_or_fail(path), names = read_or_fail(names_path);
+    struct formula formula = {style, {allocated(LONGEST), 0}};
+    int64_t answer[TORFIANKA_EQN_ANSWER_WORDS];
+    uint8_t number = torfianka_eqn_read(names.start, names.length, text.start, text.length,
+                                        formula.bytes.start, LONGEST, answer,
+                                        TORFIANKA_EQN_ANSWER_WORDS);
+    if (number != TORFIANKA_ACCEPTED)
+        exit(refused(number, answer[TORFIANKA_EQN_PLACE]));
+    formula.bytes.length = (size_t)answer[TORFIANKA_EQN_BYTES];
+    free(names.start);
+    free(text.start);
+    return formula;
+}
+
+/* Sets and prints, and gives the status. */
+static int show(const char *table_path, const char *client_path, struct formula formula)
+{
+    struct bytes table = read_or_empty(table_path), client = {NULL, 0};
+    if (client_path != NULL)
+        client = read_or_fail(client_path);
     struct torfianka_font font = {table.start, table.length, client.start, client.length,
                                   {0}, {0}};
     uint8_t *nodes;
     int64_t answer[TORFIANKA_ANSWER_WORDS];
-    uint8_t number = set(&font, style, formula, &nodes, answer);
+    int status = 0;
+    uint8_t number = set(&font, formula.style, formula.bytes, &nodes, answer);
     if (number == TORFIANKA_ACCEPTED)
         print_answer(answer, nodes);
     else
-        printf("refused %d at %" PRId64 "\n", number, answer[TORFIANKA_PLACE]);
+        status = refused(number, answer[TORFIANKA_PLACE]);
     free(nodes);
     free(client.start);
-    free(record.start);
     free(table.start);
-    return number != TORFIANKA_ACCEPTED;
+    return status;
+}
+
+/* What the words after the first two ask for. */
+struct options {
+    const char *client; /* null if there is none */
+    const char *names;  /* null for a stored record */
+    uint8_t style;      /* of typed text */
+};
+
+static int is_style(const char *word)
+{
+    return word[0] >= '0' && word[0] <= '7' && word[1] == '\0';
+}
+
+/* Whether the words are as in the usage; the last is followed by a null. */
+static int read_options(char **words, struct options *options)
+{
+    while (*words != NULL) {
+        if (strcmp(words[0], "--client") == 0 && words[1] != NULL) {
+            options->client = words[1];
+            words += 2;
+        } else if (strcmp(words[0], "--typed") == 0 && words[1] != NULL && words[2] != NULL
+                   && is_style(words[2])) {
+            options->names = words[1];
+            options->style = (uint8_t)(words[2][0] - '0');
+            words += 3;
+        } else {
+            return 0;
+        }
+    }
+    return 1;
+}
+
+int main(int argc, char **argv)
+{
+    struct options options = {NULL, NULL, 0};
+    if (argc < 3 || !read_options(argv + 3, &options)) {
+        fprintf(stderr, "usage: set_formula TABLE FORMULA [--typed NAMES STYLE]"
+                        " [--client CLIENT]\n");
+        return 2;
+    }
+    struct formula formula = options.names == NULL
+                                 ? stored(argv[2])
+                                 : typed(argv[2], options.names, options.style);
+    int status = show(argv[1], options.client, formula);
+    free(formula.bytes.start);
+    return status;
 }

@@ -22,7 +22,7 @@
 //! # Ok::<(), torfianka::Refusal>(())
 //! ```
 
-use crate::{sys, Refusal};
+use crate::{converted, sys, Refusal};
 
 /// The most bytes that a node has in a body: a rule's.
 pub const MOST_BYTES: usize = 21;
@@ -33,7 +33,7 @@ pub const MOST_BYTES: usize = 21;
 /// 1,073,741,823; then by 18 if there is no room. The bytes past the result,
 /// and on a refusal all of them, stay as they are.
 pub fn write(nodes: &[u8], body: &mut [u8]) -> Result<usize, Refusal> {
-    let mut answer = Words::default();
+    let mut answer = [0; sys::DVI_ANSWER_WORDS];
     // SAFETY: every pointer is a slice's, with that slice's length; the ones
     // written through are borrowed alone.
     let number = unsafe {
@@ -46,14 +46,14 @@ pub fn write(nodes: &[u8], body: &mut [u8]) -> Result<usize, Refusal> {
             answer.len(),
         )
     };
-    outcome(number, answer)
+    converted(number, answer)
 }
 
 /// Reads nodes back to the front of `nodes`, and gives how many bytes they are.
 ///
 /// Refused by 17 if no nodes have this body; then by 18 if there is no room.
 pub fn read(body: &[u8], nodes: &mut [u8]) -> Result<usize, Refusal> {
-    let mut answer = Words::default();
+    let mut answer = [0; sys::DVI_ANSWER_WORDS];
     // SAFETY: as in `write`.
     let number = unsafe {
         sys::torfianka_dvi_read(
@@ -65,18 +65,5 @@ pub fn read(body: &[u8], nodes: &mut [u8]) -> Result<usize, Refusal> {
             answer.len(),
         )
     };
-    outcome(number, answer)
-}
-
-type Words = [i64; sys::DVI_ANSWER_WORDS];
-
-/// Neither word is ever negative.
-fn outcome(number: u8, [place, bytes]: Words) -> Result<usize, Refusal> {
-    match number {
-        0 => Ok(bytes as usize),
-        _ => Err(Refusal {
-            number,
-            place: place as usize,
-        }),
-    }
+    converted(number, answer)
 }

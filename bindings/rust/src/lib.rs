@@ -22,6 +22,7 @@
 //! ```
 
 pub mod dvi;
+pub mod eqn;
 mod node;
 mod reason;
 pub mod sys;
@@ -74,9 +75,9 @@ pub struct Measured {
     pub count: usize,
 }
 
-/// Why a formula was not accepted, in the order tested, or nodes or a body of a
-/// page. Number 19, too few words for an index, never comes here: a [`Font`] has
-/// enough.
+/// Why a formula was not accepted, in the order tested, or nodes, a body of a
+/// page, typed text or a formula to be typed. Number 19, too few words for an
+/// index, never comes here: a [`Font`] has enough.
 ///
 /// | number | given when | place |
 /// |---|---|---|
@@ -92,10 +93,17 @@ pub struct Measured {
 /// | 16 | [`dvi::write`]: not nodes, or a length past 1,073,741,823 | 0 |
 /// | 17 | [`dvi::read`]: no nodes have this body | 0 |
 /// | 18 | either: the buffer is too short | 0 |
+/// | 20 | [`eqn::read`], [`eqn::write`]: the name table is malformed, repeats a name or names a keyword | the first byte of the first record at fault, of two with one name the later |
+/// | 10 | [`eqn::read`]: a word that is no keyword and not in the table | its first byte |
+/// | 11 | [`eqn::read`]: a text outside the grammar | the first byte of the first token that can continue no text, or the end |
+/// | 12 | [`eqn::read`]: the formula is too long or too deep | 0 |
+/// | 21 | [`eqn::write`]: no text with that table gives the formula | 0 |
+/// | 13 | either of these: the buffer is too short | 0 |
 #[derive(Clone, Copy, Debug, PartialEq, Eq)]
 pub struct Refusal {
     pub number: u8,
-    /// A byte of the formula, counted from 0.
+    /// A byte of the formula, of the typed text or of the name table, counted
+    /// from 0.
     pub place: usize,
 }
 
@@ -241,6 +249,17 @@ fn outcome(number: u8, [place, width, height, depth, count]: Words) -> Result<Me
             depth,
             count: count as usize,
         }),
+        _ => Err(Refusal {
+            number,
+            place: place as usize,
+        }),
+    }
+}
+
+/// What a call gives that converts bytes; neither word is ever negative.
+fn converted(number: u8, [place, bytes]: [i64; 2]) -> Result<usize, Refusal> {
+    match number {
+        0 => Ok(bytes as usize),
         _ => Err(Refusal {
             number,
             place: place as usize,

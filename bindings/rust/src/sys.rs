@@ -8,6 +8,9 @@ pub const ANSWER_WORDS: usize = 5;
 /// The words of an answer of the calls for DVI: place, bytes written.
 pub const DVI_ANSWER_WORDS: usize = 2;
 
+/// The words of an answer of the calls for typed text: place, bytes written.
+pub const EQN_ANSWER_WORDS: usize = 2;
+
 /// What a call with fewer words for its answer returns.
 pub const SHORT_ANSWER: u8 = 255;
 
@@ -80,6 +83,28 @@ extern "C" {
         body_len: usize,
         nodes: *mut u8,
         nodes_len: usize,
+        answer: *mut i64,
+        answer_len: usize,
+    ) -> u8;
+
+    pub fn torfianka_eqn_read(
+        names: *const u8,
+        names_len: usize,
+        text: *const u8,
+        text_len: usize,
+        formula: *mut u8,
+        formula_len: usize,
+        answer: *mut i64,
+        answer_len: usize,
+    ) -> u8;
+
+    pub fn torfianka_eqn_write(
+        names: *const u8,
+        names_len: usize,
+        formula: *const u8,
+        formula_len: usize,
+        text: *mut u8,
+        text_len: usize,
         answer: *mut i64,
         answer_len: usize,
     ) -> u8;

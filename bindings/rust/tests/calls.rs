@@ -1,6 +1,6 @@
 //! Calls through the safe functions, over the bench table.
 
-use torfianka::{dvi, measure, nodes, set, Font, Measured, Refusal, NODE_BYTES};
+use torfianka::{dvi, eqn, measure, nodes, set, Font, Measured, Refusal, NODE_BYTES};
 
 const TABLE: &[u8] = include_bytes!("../../../data/bench.tab");
 /// The a of the bench table at text size, wider.
@@ -129,4 +129,55 @@ fn refusals_of_a_body_change_nothing() {
     assert_eq!(dvi::read(&body[..14], &mut back), refused(17));
     assert_eq!(dvi::read(&body, &mut back[..17]), refused(18));
     assert_eq!(back, [FILLING; NODE_BYTES]);
+}
+
+/// x and i of family 1, 2 of family 0, all Ord; and a sum, Op.
+const NAMES: &[u8] = b"\x01x\x01x\0\x01i\x01i\0\x012\x002\0\x03sum\x03P\x01";
+
+#[test]
+fn a_typed_formula_is_read_and_written() {
+    let text = b"x sub i sup 2";
+    let mut formula = [FILLING; 14];
+    assert_eq!(eqn::read(NAMES, text, &mut formula), Ok(13));
+    assert_eq!(formula, *b"AT\0\0\x01\x01x\x01\x002\x01\x01i\xa5");
+    let mut back = [FILLING; 14];
+    assert_eq!(eqn::write(NAMES, &formula[..13], &mut back), Ok(13));
+    assert_eq!(back[..13], *text);
+    assert_eq!(back[13], FILLING);
+    assert_eq!(eqn::read(NAMES, b"", &mut []), Ok(0));
+    assert_eq!(eqn::write(NAMES, b"", &mut []), Ok(0));
+}
+
+#[test]
+fn a_typed_sum_has_limits() {
+    let mut formula = [0; 64];
+    let read = eqn::read(NAMES, b"sum from {i} to 2", &mut formula).unwrap();
+    let expected = b"AT\x01\x01\x01\x03P\x01\x002\x02\x09\0AT\0\0\x01\x01i\0\0";
+    assert_eq!(formula[..read], *expected);
+    let mut text = [0; 64];
+    let written = eqn::write(NAMES, expected, &mut text).unwrap();
+    assert_eq!(text[..written], *b"sum from { i } to 2");
+}
+
+#[test]
+fn refusals_of_typed_text_change_nothing() {
+    let refused = |number, place| Err(Refusal { number, place });
+    let mut formula = [FILLING; 12];
+    let mut read = |names: &[u8], text: &[u8]| eqn::read(names, text, &mut formula);
+    let twice = [NAMES, NAMES].concat();
+    assert_eq!(read(&twice, b"y sub"), refused(20, NAMES.len()));
+    assert_eq!(read(NAMES, b"x sub sub y"), refused(10, 10));
+    assert_eq!(read(NAMES, b"x sup i sub 2"), refused(11, 8));
+    assert_eq!(read(NAMES, b"x over "), refused(11, 7));
+    let deep = [[b'{'; 32], [b'}'; 32]].concat();
+    assert_eq!(read(NAMES, &deep), refused(12, 0));
+    assert_eq!(read(NAMES, b"x sub i sup 2"), refused(13, 0));
+    assert_eq!(formula, [FILLING; 12]);
+
+    let mut text = [FILLING; 7];
+    let mut write = |names: &[u8], formula: &[u8]| eqn::write(names, formula, &mut text);
+    assert_eq!(write(&twice, UNDERLINED), refused(20, NAMES.len()));
+    assert_eq!(write(NAMES, UNDERLINED), refused(21, 0));
+    assert_eq!(write(NAMES, b"FR\0\x01\x01x\x01\x01i"), refused(13, 0));
+    assert_eq!(text, [FILLING; 7]);
 }

@@ -1,11 +1,16 @@
-// The tables of a program's working folder, read from their files.
+// The tables of a program's working folder, read from their files; a result and a refusal as the programs write them that convert bytes.
 
 ghost use Rattle.io.specs.Counts.{Counts};
+use libc::STDERR_FILENO;
+use libc::STDOUT_FILENO;
 
 // One byte more than the longest table, ours and a client's, so that a longer one is seen.
 pub const TABLE_SPACE: usize = 47_531;
 
 pub const CLIENT_SPACE: usize = 11_777;
+
+// One byte more than the longest name table that the programs take.
+pub const NAME_SPACE: usize = 131_073;
 
 // Reads a table to the front of a buffer. One that is not there has no bytes: ours is then no good table, and a client's has no symbols.
 // One that cannot be read has a single byte, so that neither is good.
@@ -19,6 +24,27 @@ pub fn read_table(name: &[u8], buffer: &mut [u8]) -> usize
         }
         return io::count(1, buffer);
     }
+    read_open(fd, buffer)
+}
+
+// Reads a table that has to be there: where it is not, cannot be read, or fills the buffer, it has a single byte, so that it is no good table.
+pub fn read_needed(name: &[u8], buffer: &mut [u8]) -> usize
+    ensures { λ r. ⌜ Counts r (now (buffer .exit)) ⌝ }
+{
+    let fd = os::open_read(name);
+    if fd < 0 {
+        return io::count(1, buffer);
+    }
+    let size = read_open(fd, buffer);
+    if size == buffer.len() {
+        return io::count(1, buffer);
+    }
+    size
+}
+
+fn read_open(fd: i32, buffer: &mut [u8]) -> usize
+    ensures { λ r. ⌜ Counts r (now (buffer .exit)) ⌝ }
+{
     let size = io::read_full(fd, buffer);
     let fails = read_fails(fd);
     libc::close(fd);
@@ -32,4 +58,20 @@ pub fn read_table(name: &[u8], buffer: &mut [u8]) -> usize
 fn read_fails(fd: i32) -> bool {
     let mut byte = [0u8; 1];
     libc::read(fd, &mut byte) < 0
+}
+
+// Writes the front of a buffer to standard output.
+pub fn write_front(buffer: &[u8], size: usize) {
+    if size <= buffer.len() {
+        io::write_all(STDOUT_FILENO, &buffer[..size]);
+    }
+}
+
+// Writes a refusal to standard error.
+pub fn write_refusal(number: u8, place: usize) {
+    io::write_all(STDERR_FILENO, b"refused ");
+    io::print_decimal(STDERR_FILENO, number as u64);
+    io::write_all(STDERR_FILENO, b" at ");
+    io::print_decimal(STDERR_FILENO, place as u64);
+    io::write_all(STDERR_FILENO, b"\n");
 }

@@ -437,7 +437,7 @@ pub fn field_bytes(head: FieldHead) -> usize
 }
 
 // Where the field ends whose kind byte stands at a place of s.
-fn field_end(s: &[u8], at: usize) -> usize
+pub fn field_end(s: &[u8], at: usize) -> usize
     requires { ⌜ at ≤ length (now s) ⌝ }
     ensures { λ r. ⌜ (r ≡ fieldEnd (now (s .entry)) at) × (r ≤ length (now (s .entry))) ⌝ }
 {

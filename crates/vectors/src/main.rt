@@ -1,10 +1,11 @@
 // Runs test cases through the library and writes what the thin programs would write for each, with the library's own limit on a
-// formula's length. In each file of cases but pages.bin, which is described in pages.rt:
+// formula's length. In each file of cases but pages.bin and typed.bin, which are described in pages.rt and texts.rt:
 //     'T' or 'C'    a four-byte length and a table of ours or of a client's, which holds from there on; both are empty at first
 //     'F' or 'L'    a style, a length of two bytes or of four, and a formula to be set
 //     'W'           as 'F', and a four-byte place, of an item whose shifts are to be explained
 
 mod pages;
+mod texts;
 
 ghost use Prim.Native.Nat.{_≤_};
 ghost use lib.ListN.{length};
@@ -26,6 +27,7 @@ fn main() {
     run_file(b"cases.bin");
     run_file(b"reasons.bin");
     pages::run_file();
+    texts::run_file();
 }
 
 fn run_file(name: &[u8]) {

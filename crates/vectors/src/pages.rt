@@ -68,7 +68,7 @@ fn write_answer(answer: Answer, result: &[u8]) {
     }
 }
 
-fn write_front(result: &[u8], size: usize) {
+pub fn write_front(result: &[u8], size: usize) {
     if size <= result.len() {
         write_bytes(&result[..size]);
     }
@@ -107,6 +107,6 @@ fn digit(n: u8) -> u8
     b'a' + (n - 10)
 }
 
-fn write_text(text: &[u8]) {
+pub fn write_text(text: &[u8]) {
     io::write_all(STDOUT_FILENO, text);
 }

@@ -1,3 +1,5 @@
-//! What both comparisons lend to the library.
+//! What the comparisons share: memory to lend to the library, and those of calls
+//! that convert bytes.
 
+pub mod conversions;
 pub mod guarded;

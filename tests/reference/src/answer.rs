@@ -64,6 +64,38 @@ impl From<Refusal> for Answer {
     }
 }
 
+/// What a call gives back that converts bytes: a refusal has its number and
+/// place, and writes no bytes.
+#[derive(Clone, Copy, Debug, Default, PartialEq, Eq)]
+pub struct Converted {
+    pub number: u8,
+    pub place: u64,
+    pub bytes: u64,
+}
+
+impl Converted {
+    pub(crate) fn refused(number: u8, place: usize) -> Converted {
+        Converted {
+            number,
+            place: place as u64,
+            bytes: 0,
+        }
+    }
+
+    /// Writes the result to the front of the room, or refuses with the number
+    /// if there is too little.
+    pub(crate) fn put(result: &[u8], room: &mut [u8], no_room: u8) -> Converted {
+        let Some(front) = room.get_mut(..result.len()) else {
+            return Converted::refused(no_room, 0);
+        };
+        front.copy_from_slice(result);
+        Converted {
+            bytes: result.len() as u64,
+            ..Converted::default()
+        }
+    }
+}
+
 /// What the call gives back that asks for an item's reasons; a refusal has no
 /// shifts.
 #[derive(Clone, Copy, Debug, PartialEq, Eq)]

@@ -1,4 +1,5 @@
-//! Bytes of font tables and formulas, put together from their parts.
+//! Bytes of font tables, formulas and name tables, put together from their
+//! parts.
 
 use crate::parameters::{PARAMETERS, PARAMETER_MARK, ROWS};
 use crate::records::CHARACTER_MARK;
@@ -55,6 +56,28 @@ impl CharacterParts {
         let measures = self.measures.map(u32::to_le_bytes);
         [&CHARACTER_MARK[..], &head, measures.as_flattened()].concat()
     }
+}
+
+/// A record of a name table before it is written; nothing makes it a good one.
+/// Of the word's length the lowest byte is written.
+#[derive(Clone, Debug)]
+pub struct NameParts {
+    pub word: Vec<u8>,
+    pub family: u8,
+    pub code: u8,
+    pub class: u8,
+}
+
+impl NameParts {
+    pub fn bytes(&self) -> Vec<u8> {
+        let length = self.word.len() as u8;
+        let symbol = [self.family, self.code, self.class];
+        [&[length], &self.word[..], &symbol].concat()
+    }
+}
+
+pub fn name_table(names: &[NameParts]) -> Vec<u8> {
+    names.iter().flat_map(NameParts::bytes).collect()
 }
 
 /// A field with nothing in it.

@@ -1,5 +1,6 @@
 //! Nodes as the body of a page of DVI, and back (request 14).
 
+use crate::answer::Converted;
 use crate::nodes::{Ink, Node, NODE_BYTES};
 use crate::SIZE_LIMIT;
 
@@ -15,41 +16,23 @@ const FNT_NUM: std::ops::RangeInclusive<u8> = 171..=218;
 /// The most bytes that a node has in a body: a rule's.
 pub const MOST_BYTES: usize = 21;
 
-/// What writing or reading a body gives: a refusal has its number, and writes
-/// no bytes.
-#[derive(Clone, Copy, Debug, Default, PartialEq, Eq)]
-pub struct PageAnswer {
-    pub number: u8,
-    pub place: u64,
-    pub bytes: u64,
-}
+const NO_ROOM: u8 = 18;
 
 /// Writes nodes as a body to the front of `body`.
-pub fn write(nodes: &[u8], body: &mut [u8]) -> PageAnswer {
+pub fn write(nodes: &[u8], body: &mut [u8]) -> Converted {
     put(stored_nodes(nodes).map(|nodes| body_of(&nodes)), 16, body)
 }
 
 /// Reads the nodes back to the front of `nodes`.
-pub fn read(body: &[u8], nodes: &mut [u8]) -> PageAnswer {
+pub fn read(body: &[u8], nodes: &mut [u8]) -> Converted {
     let stored = |nodes: Vec<Node>| nodes.iter().flat_map(Node::bytes).collect();
     put(body_nodes(body).map(stored), 17, nodes)
 }
 
-fn put(result: Option<Vec<u8>>, otherwise: u8, room: &mut [u8]) -> PageAnswer {
-    let refused = |number| PageAnswer {
-        number,
-        ..PageAnswer::default()
-    };
-    let Some(result) = result else {
-        return refused(otherwise);
-    };
-    let Some(front) = room.get_mut(..result.len()) else {
-        return refused(18);
-    };
-    front.copy_from_slice(&result);
-    PageAnswer {
-        bytes: result.len() as u64,
-        ..PageAnswer::default()
+fn put(result: Option<Vec<u8>>, otherwise: u8, room: &mut [u8]) -> Converted {
+    match result {
+        None => Converted::refused(otherwise, 0),
+        Some(result) => Converted::put(&result, room, NO_ROOM),
     }
 }
 

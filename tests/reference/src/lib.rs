@@ -10,6 +10,7 @@ mod boxes;
 mod chains;
 pub mod compose;
 pub mod dvi;
+pub mod eqn;
 pub mod generate;
 pub mod index;
 mod layout;
@@ -24,7 +25,7 @@ mod spacing;
 mod style;
 mod tables;
 
-pub use answer::{Answer, Explanation};
+pub use answer::{Answer, Converted, Explanation};
 pub use chains::CHAIN_LIMIT;
 pub use index::INDEX_WORDS;
 pub use nodes::NODE_BYTES;

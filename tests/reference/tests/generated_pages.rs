@@ -1,7 +1,8 @@
 //! Why generated nodes and bodies of pages are refused.
 
-use reference::dvi::{read, write, PageAnswer};
+use reference::dvi::{read, write};
 use reference::generate::{page_case, PageCase, Random};
+use reference::Converted;
 use std::collections::BTreeMap;
 use std::ops::RangeInclusive;
 
@@ -155,7 +156,7 @@ fn pages_are_refused_for_each_fault() {
     }
 }
 
-type Call = fn(&[u8], &mut [u8]) -> PageAnswer;
+type Call = fn(&[u8], &mut [u8]) -> Converted;
 type Word = fn([u8; 4]) -> i32;
 
 /// What is cut off counts as the first kind's.

@@ -6,10 +6,11 @@
 //! length; `W`, as `F` with a four-byte place behind the formula, of an item
 //! whose shifts are to be explained; `N` for nodes to be written as the body of
 //! a page, or `D` for a body to be read, a four-byte length, the bytes and a
-//! four-byte room.
+//! four-byte room; `Q`, a four-byte length and a name table, which holds from
+//! there on; `E` for typed text to be read, or `U` for a formula to be written as
+//! text, as `N`.
 
-use reference::dvi::{self, PageAnswer};
-use reference::{measure, printed, printed_reasons, set, why, NODE_BYTES};
+use reference::{dvi, eqn, measure, printed, printed_reasons, set, why, Converted, NODE_BYTES};
 use std::io::{self, BufWriter, Write};
 use std::process::ExitCode;
 
@@ -29,12 +30,13 @@ fn main() -> ExitCode {
 
 fn run(mut cases: &[u8]) -> io::Result<()> {
     let mut out = BufWriter::new(io::stdout().lock());
-    let (mut table, mut client): (&[u8], &[u8]) = (&[], &[]);
+    let (mut table, mut client, mut names): (&[u8], &[u8], &[u8]) = (&[], &[], &[]);
     while let Some((&mark, rest)) = cases.split_first() {
         cases = rest;
         match mark {
             b'T' => table = take_long(&mut cases)?,
             b'C' => client = take_long(&mut cases)?,
+            b'Q' => names = take_long(&mut cases)?,
             b'F' | b'L' => {
                 let [style] = take(&mut cases)?;
                 let formula = match mark {
@@ -50,13 +52,17 @@ fn run(mut cases: &[u8]) -> io::Result<()> {
                 let explanation = why(style, table, client, formula, place);
                 out.write_all(printed_reasons(&explanation).as_bytes())?;
             }
-            b'N' | b'D' => {
+            b'N' | b'D' | b'E' | b'U' => {
                 let bytes = take_long(&mut cases)?;
                 let room = u32::from_le_bytes(take(&mut cases)?);
-                let call = if mark == b'N' { dvi::write } else { dvi::read };
                 let mut result = vec![0; room as usize];
-                let answer = call(bytes, &mut result);
-                writeln!(out, "{}", page_line(&answer, &result))?;
+                let answer = match mark {
+                    b'N' => dvi::write(bytes, &mut result),
+                    b'D' => dvi::read(bytes, &mut result),
+                    b'E' => eqn::read(names, bytes, &mut result),
+                    _ => eqn::write(names, bytes, &mut result),
+                };
+                writeln!(out, "{}", converted_line(&answer, &result))?;
             }
             _ => return Err(malformed()),
         }
@@ -65,7 +71,7 @@ fn run(mut cases: &[u8]) -> io::Result<()> {
 }
 
 /// A refusal, or the result in hex.
-fn page_line(answer: &PageAnswer, result: &[u8]) -> String {
+fn converted_line(answer: &Converted, result: &[u8]) -> String {
     if answer.number != 0 {
         return format!("refused {} at {}", answer.number, answer.place);
     }

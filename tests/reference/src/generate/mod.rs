@@ -1,7 +1,8 @@
 //! Random cases for a differential test and for timing.
 //!
 //! [`case`] draws from all kinds; [`case_of`] keeps to one; [`page_case`] is for
-//! bodies of pages. The same seed gives the same cases.
+//! bodies of pages, [`typed_case`] for typed formulas. The same seed gives the
+//! same cases.
 
 mod chains;
 mod choices;
@@ -16,6 +17,7 @@ mod pages;
 mod random;
 mod roots;
 mod tables;
+mod typed;
 
 pub use chains::{chain_table, full_chains};
 pub use choices::choice_formula;
@@ -30,6 +32,7 @@ pub use pages::{page_case, PageCase};
 pub use random::Random;
 pub use roots::root_formula;
 pub use tables::{good_table, Symbols};
+pub use typed::{typed_case, TypedCase, TypedKind};
 
 use crate::compose::records;
 use crate::{measure, NODE_BYTES};

@@ -1,0 +1,10 @@
+-- Laws that the proofs cite.
+-- Assumes nothing.
+mod SetsLaws
+mod WroteLaws
+mod MeantLaws
+mod CutLaws
+mod WordLaws
+mod PrimaryLaws
+mod ItemLaws
+mod RowLaws

@@ -1,0 +1,5 @@
+-- What the proofs of several functions use. Assumes nothing.
+mod KindLaws
+mod WalkLaws
+mod TableLaws
+mod UnknownLaws

@@ -1,0 +1,3 @@
+-- What the answers of the code stand for.
+-- Assumes nothing.
+pub mod Values

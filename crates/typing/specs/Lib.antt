@@ -1,0 +1,3 @@
+-- The paper's number, place and size for each answer.
+-- Assumes nothing.
+pub mod Values

@@ -1,0 +1,33 @@
+// Reads the bytes of a formula from standard input, with the names of names.tab in the working folder, and writes its typed text to standard
+// output; or, to standard error, why it does not.
+
+use files::NAME_SPACE;
+use files::read_needed;
+use files::write_front;
+use files::write_refusal;
+use libc::STDIN_FILENO;
+use typing::parts_of;
+
+// One byte more than the longest formula, so that a longer one is seen.
+const FORMULA_SPACE: usize = 131_073;
+
+// The longest text that the program writes, as long as the longest that `eqn` takes.
+const TEXT_SPACE: usize = 131_072;
+
+fn main() {
+    let mut formula = [0u8; FORMULA_SPACE];
+    let got = io::read_full(STDIN_FILENO, &mut formula);
+    let mut names = [0u8; NAME_SPACE];
+    let named = read_needed(b"names.tab", &mut names);
+    show(&names[..named], &formula[..got]);
+}
+
+fn show<'a>(names: &'a [u8], formula: &'a [u8]) {
+    let mut text = [0u8; TEXT_SPACE];
+    let parts = parts_of(typing::write(names, formula, &mut text));
+    if parts.number == 0 {
+        write_front(&text, parts.bytes);
+    } else {
+        write_refusal(parts.number, parts.place);
+    }
+}
