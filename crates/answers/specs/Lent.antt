@@ -12,7 +12,7 @@ use lib.Dec.{leb}
 use lib.ListN.{length, drop}
 use Rattle.font.specs.Records.{characterRecords, clientRecords}
 use Rattle.font.specs.Table.{goodTable, goodClient}
-use Rattle.font.specs.Index.{indexWords, indexOf}
+use Rattle.font_index.specs.Index.{indexWords, indexOf}
 use Rattle.boxes.specs.declared.styles.Style.{Style}
 use Rattle.boxes.specs.Styles.{styleOf}
 

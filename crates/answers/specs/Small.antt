@@ -3,7 +3,7 @@
 --     parts-so                         and so is whatever is read, by `formula`'s laws of what is read (`ReadIn`)
 --     Small                            an answer whose place and count are small
 --     measured-small, setting-small    every answer is
---     explained-small                  and so is every place where reasons are asked for
+--     why-small                  and so is every place where reasons are asked for
 -- Assumes nothing.
 use mathlib.Core.Path.{_≡_, refl, sym, ap, subst, _∙_}
 use mathlib.Core.Bool.{Bool, true, false}
@@ -14,14 +14,17 @@ use native.Mathlib.Omega.{arith}
 use lib.Dec.{ltb}
 use lib.ListN.{length, length-append}
 use borrow.Author.Tests.{ltb-false}
+use Rattle.laws.specs.Options.{none-some}
 use Rattle.font.specs.Table.{goodTable, goodClient}
 use Rattle.font.specs.Font.{Font, fontWith}
 use Rattle.formula.specs.declared.Fault.the-variants.{Unreadable}
 use Rattle.formula.specs.declared.Kind.{Kind}
-use Rattle.formula.specs.Tree.{Items, Item, Field, cons, noad, kern, restyle, choice, empty, symbol, list, openingBytes, kernBytes, restyleBytes, choiceOpeningBytes, listOpeningBytes, sublistBytes, thirdBytes, itemsBytes, itemBytes, fieldBytes}
-use Rattle.formula.specs.Reading.{Read, good, fault, formulaLimit, depthLimit, read, readFormulaUnder, readFormula}
-use Rattle.formula.specs.ReadIn.{Parts, Closed, ReadIn, read-in}
+use Rattle.formula.specs.Tree.{Items, Item, Field, cons, noad, kern, restyle, choice, empty, symbol, list, openingBytes, kernBytes, restyleBytes, listOpeningBytes, thirdBytes, itemsBytes, itemBytes, fieldBytes}
+use Rattle.formula.specs.Format.{formulaLimit, depthLimit}
+use Rattle.formula.specs.Reading.{Read, good, fault, read, readFormulaUnder, readFormula}
+use Rattle.formula.specs.ReadIn.{ReadClaims, Closed, ReadIn, read-in}
 use Rattle.formula.specs.PlacesLaws.{opening-long}
+use Rattle.formula.specs.Places.{secondField, thirdField}
 use Rattle.boxes.specs.declared.styles.Level.{Level}
 use Rattle.boxes.specs.declared.styles.Level.the-variants.{Display, Text, Script, Scriptscript}
 use Rattle.boxes.specs.declared.styles.Style.{Style}
@@ -32,14 +35,14 @@ use Rattle.arrange.specs.declared.Manner.the-variants.{Plain}
 use Rattle.arrange.specs.Arrange.{firstStyle, secondStyle, thirdStyle, firstManner}
 use Rattle.arrange.proofs.ArrangeLaws.{own-before, own-behind, few-own}
 use Rattle.nodes.specs.NodeLaws.{length-moved}
-use Rattle.setting.specs.Setting.{Box, Line, Symbol, Part, symbolIn, symbolPart, signsIn, hasSigns, itemNodes, itemBox, taken, styleBehind, nextClass, start, noSides, sidesOf, closed, isEnlarged, placed, setItems, setItem, setField, setList}
-use Rattle.setting.specs.SettingLaws.{length-own, signs-found, setItem-choice, missingItem-choice}
+use Rattle.setting.specs.Setting.{Box, Line, Symbol, FieldBox, symbolIn, symbolFieldBox, signsIn, hasSigns, itemNodes, itemBox, taken, styleBehind, nextClass, start, noSides, sidesOf, isEnlarged, placed, setItems, setItem, setField, setList, takenStart}
+use Rattle.setting.specs.SettingLaws.{length-own, signs-found, setItem-choice, missingItem-choice, closed-nodes}
 use Rattle.setting.specs.Missing.{_orElse_, later, absentAt, missingItems, missingItem, missingField}
 use Rattle.setting.specs.Fitting.{listFits}
 use Rattle.reasons.specs.Reasons.{Reasons}
 use Rattle.answers.specs.Lent.{Lent, enough}
 use Rattle.answers.specs.Answers.{Answered, Result, boxed, refused, refusal, accepted, noRoomNumber, ifFits, ifPresent, ifRead, ifEnough, ifClient, ifGood, ifStyle, resultOf, resultBetween, measuredBy, measured, measuredBetween, hasRoom, setBy, setting, settingBetween}
-use Rattle.answers.specs.Explained.{ifPicked, explainedBy, explained}
+use Rattle.answers.specs.Why.{ifPicked, whyBy, whyOf}
 
 -- ---- what is written in n bytes
 
@@ -70,21 +73,18 @@ pub record FieldIn (at end k : ℕ) (f : Field) : Type 0 where
 
 -- ---- a field
 
-none-some : {B : Type 0} {place : ℕ} → none ≡ some place → B
-none-some e = let z : _≡_ {A = ℕ} 0 1 = cc in absurd (omega arith)
-
 absent-place : (at place : ℕ) (o : Option Symbol) → absentAt at o ≡ some place → place ≡ at
 unfolding absentAt
 absent-place at place none e = cc
-absent-place at place (some s) e = none-some e
+absent-place at place (some s) e = absurd (none-some e)
 
 later-place : (at n place : ℕ) (o : Option ℕ) → ((p : ℕ) → o ≡ some p → p ≤ n) → later at o ≡ some place → place ≤ at + n
 unfolding later
-later-place at n place none h e = none-some e
+later-place at n place none h e = absurd (none-some e)
 later-place at n place (some p) h e = let is : at + p ≡ place = cc in omega (arith, h p refl)
 
-symbol-few : (size family : ℕ) (o : Option Symbol) → length (symbolPart size family o .nodes) ≤ 1
-unfolding symbolPart
+symbol-few : (size family : ℕ) (o : Option Symbol) → length (symbolFieldBox size family o .nodes) ≤ 1
+unfolding symbolFieldBox
 symbol-few size family none = omega arith
 symbol-few size family (some s) = omega arith
 
@@ -93,7 +93,7 @@ unfolding missingField setField
 empty-in at end k e =
     record {
       bytes = e;
-      missing = λ F s manner place q. none-some q;
+      missing = λ F s manner place q. absurd (none-some q);
       few = λ F s manner. omega arith;
       if-list = tt;
     }
@@ -107,11 +107,6 @@ symbol-in at family code =
       few = λ F s manner. omega (arith, symbol-few (fontSize s) family (symbolIn F (fontSize s) (isEnlarged manner) family code));
       if-list = tt;
     }
-
--- the space at a list's end is no node
-closed-nodes : (F : Font) (s : Style) (right : Neighbour) (line : Line) → closed F s right line .nodes ≡ line .box .nodes
-closed-nodes F s none line = refl
-closed-nodes F s (some class) line = refl
 
 list-in : (at n : ℕ) (l : Items) → ItemsIn n l → FieldIn at (at + listOpeningBytes n + n) (fieldBytes (list l)) (list l)
 unfolding missingField setField fieldBytes
@@ -135,7 +130,7 @@ either-place n place none y f g e = g place e
 either-place n place (some p) y f g e = f place e
 
 -- an item's own nodes are no more than the bytes that it opens with
-item-few : (F : Font) (s : Style) (kind : Kind) (x y z : Part) →
+item-few : (F : Font) (s : Style) (kind : Kind) (x y z : FieldBox) →
     length (itemBox F s kind x y z .nodes) ≤ openingBytes kind + length (x .nodes) + length (y .nodes) + length (z .nodes)
 unfolding itemBox itemNodes
 item-few F s kind x y z =
@@ -152,15 +147,15 @@ module _ (kind : Kind) (x y z : Field) (m₁ m₂ m₃ : ℕ) (a : FieldIn (open
   noad-missing : (F : Font) (s : Style) (place : ℕ) → missingItem F s (noad kind x y z) ≡ some place → place ≤ m₃
   unfolding missingItem
   noad-missing F s place e =
-      let second : m₁ ≡ openingBytes kind + fieldBytes x = a .bytes in
-      let third : m₂ ≡ openingBytes kind + fieldBytes x + fieldBytes y = omega (arith, a .bytes, b .bytes) in
+      let second : m₁ ≡ secondField kind x = a .bytes in
+      let third : m₂ ≡ thirdField kind x y = omega (arith, a .bytes, b .bytes) in
       let in-first = a .missing F (firstStyle kind s) (firstManner kind s) in
       let in-second = subst (λ (k : ℕ). (p : ℕ) → missingField F (secondStyle kind s) Plain k y ≡ some p → p ≤ m₂) second (b .missing F (secondStyle kind s) Plain) in
       let in-third = subst (λ (k : ℕ). (p : ℕ) → missingField F (thirdStyle s) Plain k z ≡ some p → p ≤ m₃) third (c .missing F (thirdStyle s) Plain) in
       either-place m₃ place (missingField F (firstStyle kind s) (firstManner kind s) (openingBytes kind) x) _
       (λ p q. omega (arith, in-first p q, b .bytes, c .bytes))
       (λ p q.
-      either-place m₃ p (missingField F (secondStyle kind s) Plain (openingBytes kind + fieldBytes x) y) _
+      either-place m₃ p (missingField F (secondStyle kind s) Plain (secondField kind x) y) _
       (λ p q. omega (arith, in-second p q, c .bytes))
       in-third
       q)
@@ -187,7 +182,7 @@ bare-in : (n : ℕ) (i : Item) → itemBytes i ≡ n → ((F : Font) (s : Style)
 bare-in n i bytes present same =
     record {
       bytes = bytes;
-      missing = λ F s place q. none-some (sym (present F s) ∙ q);
+      missing = λ F s place q. absurd (none-some (sym (present F s) ∙ q));
       few = λ F right line. omega (arith, ap length (same F right line));
     }
 
@@ -196,11 +191,8 @@ module _ (d t sc ss : Items) (n : ℕ) (bytes : itemBytes (choice d t sc ss) ≡
   -- the taken list, behind its kind byte and its length, lies in the choice
   abbrev TakenIn : Style → Type 0
   TakenIn s =
-      let second = choiceOpeningBytes + sublistBytes (itemsBytes d) in
-      let third = second + sublistBytes (itemsBytes t) in
-      let fourth = third + sublistBytes (itemsBytes sc) in
       let l = taken s d t sc ss in
-      ItemsIn (itemsBytes l) l × (taken s choiceOpeningBytes second third fourth + listOpeningBytes (itemsBytes l) + itemsBytes l ≤ n)
+      ItemsIn (itemsBytes l) l × (takenStart s d t sc ss + itemsBytes l ≤ n)
 
   taken-in : (s : Style) → TakenIn s
   unfolding itemBytes
@@ -245,7 +237,7 @@ cons-in size n i l a b =
 
 -- ---- whatever is read
 
-abbrev parts : Parts
+abbrev parts : ReadClaims
 parts =
     record {
       OfItems = ItemsIn;
@@ -268,7 +260,7 @@ parts-so =
       restyle-is = λ n. bare-in restyleBytes (restyle n) refl (λ F s. refl) (λ F right line. refl);
       choice-is = λ d t sc ss m₁ m₂ m₃ m₄ a b c e.
           choice-in d t sc ss m₄ (omega (arith, a .bytes, b .bytes, c .bytes, e .bytes)) (a .if-list) (b .if-list) (c .if-list) (e .if-list);
-      nil-is = record { bytes = refl; missing = λ F s place q. none-some q; few = λ F beyond line. omega arith };
+      nil-is = record { bytes = refl; missing = λ F s place q. absurd (none-some q); few = λ F beyond line. omega arith };
       cons-is = cons-in;
     }
 
@@ -350,13 +342,13 @@ setting-small style table client lent formula room = go (resultOf style table cl
     go (boxed b) h = roomy b (hasRoom room b) h
     go (refused number place) h = record { place = h; count = omega arith }
 
-pub explained-small : (style : ℕ) (table client : List ℕ) (lent : Lent) (formula : List ℕ) (place : ℕ) →
-    explained style table client lent formula place .place ≤ formulaLimit
-unfolding explained explainedBy ifPicked
-explained-small style table client lent formula place =
+pub why-small : (style : ℕ) (table client : List ℕ) (lent : Lent) (formula : List ℕ) (place : ℕ) →
+    whyOf style table client lent formula place .place ≤ formulaLimit
+unfolding whyOf whyBy ifPicked
+why-small style table client lent formula place =
     go (resultOf style table client lent formula) (found-small style table client lent formula) _
   where
-    go : (r : Result) → FoundSmall r → (o : Option Reasons) → explainedBy r o .place ≤ formulaLimit
+    go : (r : Result) → FoundSmall r → (o : Option Reasons) → whyBy r o .place ≤ formulaLimit
     go (boxed b) h none = omega arith
     go (boxed b) h (some r) = omega arith
     go (refused number at) h o = h

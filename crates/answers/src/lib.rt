@@ -1,3 +1,2 @@
-// What measuring and setting answer, without code: the definition is specs/Answers.antt, and specs/Lent.antt for the words that are lent.
-// Beside them stand what follows for any bytes (the laws that the entries use, how small an answer's numbers are, that measuring and
-// setting agree, demand 3) and the worked examples P1 to P12.
+// What measuring, setting and asking why answer, without code: the definitions are specs/Answers.antt and specs/Why.antt, and
+// specs/Lent.antt for the words that are lent. Beside them stand the laws that the entries use.

@@ -11,11 +11,11 @@ use Rattle.boxes.specs.Boxes.{Size, Shape, sizeOf, given}
 use Rattle.delimiters.specs.Delimiters.{Signs}
 use Rattle.nucleus.specs.Nucleus.{Nucleus}
 use Rattle.reasons.specs.Reasons.{Reasons}
-use Rattle.reasons.specs.Courses.{Courses}
-use Rattle.scripts.specs.Reasons.{scriptReasons}
-use Rattle.scripts.specs.Courses.{scriptCourses}
+use Rattle.reasons.specs.Stages.{BothStages}
+use Rattle.script_reasons.specs.Reasons.{scriptReasons}
+use Rattle.script_reasons.specs.Stages.{scriptStages}
 use Rattle.fractions.specs.Reasons.{fractionReasons}
-use Rattle.fractions.specs.Courses.{fractionCourses}
+use Rattle.fractions.specs.Stages.{fractionStages}
 use Rattle.arrange.specs.Arrange.{isGiven, setsLimits, nucleusOf}
 
 -- the test is whether the scripts are set as limits
@@ -29,6 +29,6 @@ reasons p s (Scripted base) signs x y z =
 reasons p s (Fraction bar) signs x y z = some (fractionReasons p s bar (sizeOf x) (sizeOf y))
 
 -- where they are set by 18a to 18f, or by 15
-unfoldable pub courses : Parameters → Style → Kind → Signs → Shape → Shape → Shape → Courses
-courses p s (Scripted base) signs x y z = scriptCourses p s (nucleusOf p s base signs (isGiven (given z)) x) (given y) (given z)
-courses p s (Fraction bar) signs x y z = fractionCourses p s bar (sizeOf x) (sizeOf y)
+unfoldable pub itemStages : Parameters → Style → Kind → Signs → Shape → Shape → Shape → BothStages
+itemStages p s (Scripted base) signs x y z = scriptStages p s (nucleusOf p s base signs (isGiven (given z)) x) (given y) (given z)
+itemStages p s (Fraction bar) signs x y z = fractionStages p s bar (sizeOf x) (sizeOf y)

@@ -4,7 +4,7 @@
 -- Assumes nothing.
 use mathlib.Core.Path.{_≡_, ap, subst, _∙_}
 use mathlib.Core.Bool.{Bool, true, false}
-use mathlib.Core.Option.{Option, none, some}
+use mathlib.Core.Option.{Option, some}
 use Prim.Native.Nat.{ℕ}
 use native.Mathlib.Omega.{arith}
 use lib.IntN.{ℤ, negℤ}
@@ -16,14 +16,14 @@ use Rattle.boxes.specs.Boxes.{Size, Shape, sizeOf, given, Arranged}
 use Rattle.delimiters.specs.Delimiters.{Signs}
 use Rattle.nucleus.specs.Nucleus.{Nucleus}
 use Rattle.reasons.specs.Reasons.{Reasons}
-use Rattle.reasons.specs.Courses.{AllTrue}
-use Rattle.scripts.specs.Courses.{scriptCourses}
-use Rattle.scripts.specs.ReasonsLaws.{scripts-true, scripts-used}
+use Rattle.reasons.specs.Stages.{AllTrue}
+use Rattle.script_reasons.specs.Stages.{scriptStages}
+use Rattle.script_reasons.specs.ReasonsLaws.{scripts-true, scripts-used}
 use Rattle.fractions.specs.Reasons.{fractionReasons}
-use Rattle.fractions.specs.Courses.{fractionCourses}
+use Rattle.fractions.specs.Stages.{fractionStages}
 use Rattle.fractions.specs.ReasonsLaws.{fraction-true, fraction-used}
 use Rattle.arrange.specs.Arrange.{isGiven, setsLimits, nucleusOf, setScripts, arrange}
-use Rattle.arrange.specs.Reasons.{besideReasons, reasons, courses}
+use Rattle.arrange.specs.Reasons.{besideReasons, reasons, itemStages}
 
 -- how far up the field stands that is shifted up, a superscript or a numerator
 abbrev pub raised : Kind → Arranged → ℤ
@@ -42,18 +42,18 @@ module _ (p : Parameters) (s : Style) where
   beside-used false n x y r e = scripts-used p s n x y r e
 
   beside-true : (limits : Bool) (n : Nucleus) (x y : Option Size) (r : Reasons) → besideReasons p s limits n x y ≡ some r →
-      AllTrue (scriptCourses p s n x y) r
+      AllTrue (scriptStages p s n x y) r
   beside-true true n x y r e = let z : _≡_ {A = ℕ} 0 1 = cc in absurd (omega arith)
   beside-true false n x y r e = scripts-true p s n x y r e
 
   pub reasons-true : (kind : Kind) (signs : Signs) (x y z : Shape) (r : Reasons) → reasons p s kind signs x y z ≡ some r →
-      AllTrue (courses p s kind signs x y z) r
-  unfolding reasons courses
+      AllTrue (itemStages p s kind signs x y z) r
+  unfolding reasons itemStages
   reasons-true (Scripted base) signs x y z r e =
       beside-true (setsLimits s base) (nucleusOf p s base signs (isGiven (given z)) x) (given y) (given z) r e
   reasons-true (Fraction bar) signs x y z r e =
       let is : fractionReasons p s bar (sizeOf x) (sizeOf y) ≡ r = cc in
-      subst (AllTrue (fractionCourses p s bar (sizeOf x) (sizeOf y))) is (fraction-true p s bar (sizeOf x) (sizeOf y))
+      subst (AllTrue (fractionStages p s bar (sizeOf x) (sizeOf y))) is (fraction-true p s bar (sizeOf x) (sizeOf y))
 
   pub used : (kind : Kind) (signs : Signs) (x y z : Shape) (r : Reasons) → reasons p s kind signs x y z ≡ some r →
       (raised kind (arrange p s kind signs x y z) ≡ r .up .shift) × (lowered kind (arrange p s kind signs x y z) ≡ negℤ (r .down .shift))

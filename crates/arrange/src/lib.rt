@@ -1,5 +1,5 @@
 // An item, from the shapes of its fields: its size, where its fields stand, and its own nodes.
-pub mod explaining;
+pub mod why;
 
 use boxes::Arranged;
 use boxes::Script;
@@ -28,7 +28,7 @@ use fences::Fence;
 use fences::fence_of;
 use formula::Base;
 use formula::Kind;
-use formula::heads::is_op;
+use formula_kinds::is_op;
 use fractions::bar_thickness;
 use fractions::fraction;
 use fractions::has_bar;

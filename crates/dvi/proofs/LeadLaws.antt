@@ -4,7 +4,7 @@
 --     stored-glyph, stored-rule, body-glyph, body-rule     the tests of a node of each kind
 -- Assumes nothing.
 use mathlib.Core.Path.{_≡_, refl, sym, ap, _∙_}
-use mathlib.Core.Bool.{Bool, true, false, _&&_, and-assoc, and-true}
+use mathlib.Core.Bool.{true, false, _&&_, and-assoc, and-true}
 use mathlib.Core.List.{List, [], _∷_, _++_, append-assoc, append-nil}
 use Prim.Native.Nat.{ℕ, _+_, _-_, _*_, _/_, _%_, _≤_, _<_}
 use native.Mathlib.Numerals.{add-one}
@@ -14,6 +14,7 @@ use lib.Dec.{T, leb, ltb, eqb, leb→le, ltb→lt, le→leb, lt→ltb}
 use lib.IntN.{negℤ, negℤ-negℤ}
 use lib.ListN.{length, getD, take, drop, length-drop, take-append-drop}
 use lib.Seq.{drop-cons, drop-drop, getD-drop, length-take-le}
+use Rattle.laws.specs.Truths.{same-truth}
 use Rattle.words.specs.Words.{littleEndian, fourBytes}
 use Rattle.words.specs.WordLaws.{Bytes, four-back, four-again}
 use Rattle.nodes.specs.Nodes.{signedBytes, nodeBytes}
@@ -26,11 +27,6 @@ use Rattle.dvi.specs.Profile.{writable}
 use Rattle.dvi.specs.ProfileLaws.{facts, stored-width}
 use Rattle.dvi.specs.Forms.{bodyNumber, bodyGlyph, bodyRule, leads}
 use Rattle.dvi.specs.FrontLaws.{leads-own, leads-is, leads-append}
-
-same-truth : (p q : Bool) → (p ≡ true → q ≡ true) → (q ≡ true → p ≡ true) → p ≡ q
-same-truth true q f g = sym (f refl)
-same-truth false true f g = g refl
-same-truth false false f g = refl
 
 module _ (n : ℕ) (s : List ℕ) (room : n ≤ length s) where
   pub byte-test : (k : ℕ) → T (ltb k n) → (a : ℕ) (p : List ℕ) →

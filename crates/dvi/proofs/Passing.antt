@@ -13,14 +13,16 @@ use native.Mathlib.Omega.{arith}
 use borrow.Rule.Slice.PartMut.{putMid}
 use lib.ListN.{length, take, drop, length-append, length-drop, drop-of-length-le}
 use lib.Seq.{drop-drop, take-at, drop-at, sets, sets-eq}
+use Rattle.laws.specs.Options.{none-some}
+use Rattle.laws.specs.Truths.{true-both}
 use Rattle.nodes.specs.Nodes.{Node}
 use Rattle.nodes.specs.Lent.{rest-lent, rest-back}
 use Rattle.dvi.specs.declared.forms.Form.{Form}
 use Rattle.dvi.specs.declared.items.Front.{Front}
 use Rattle.dvi.specs.Profile.{writable, allWritable}
-use Rattle.dvi.specs.ProfileLaws.{true-both, all-append}
+use Rattle.dvi.specs.ProfileLaws.{all-append}
 use Rattle.dvi.specs.Forms.{otherForm, bytesIn, bytesAs, frontIn, nodesIn}
-use Rattle.dvi.specs.FrontLaws.{size-least, size-most, none-some, front-is}
+use Rattle.dvi.specs.FrontLaws.{size-least, size-most, front-is}
 use Rattle.dvi.specs.ReadingLaws.{bytes-nil, bytes-one, bytes-append, nodes-back, nodes-stopped, nodes-opened}
 use Rattle.dvi.specs.Answers.{bufferAfter}
 use Rattle.dvi.specs.AnswerLaws.{buffer-made}

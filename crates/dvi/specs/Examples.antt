@@ -20,7 +20,8 @@ use Rattle.dvi.specs.Commands.{bigEndian, commandBytes, commandsBytes}
 use Rattle.dvi.specs.Body.{commandsOf, bodyBytes, bodyOf}
 use Rattle.dvi.specs.Profile.{writable}
 use Rattle.dvi.specs.Forms.{looksLike, leads, frontIn, added, nodeThen, readStep, readBy, nodesIn}
-use Rattle.dvi.specs.Answers.{made, refused, refusal, ifRead, resultOf, answerBy, answering, bufferBy, bufferAfter}
+use Rattle.results.specs.Results.{made, refused, refusal, answerBy, bufferBy}
+use Rattle.dvi.specs.Answers.{ifRead, resultOf, answering, bufferAfter}
 
 -- the definitions that the examples compute with
 definitions : Unit {0}
@@ -64,36 +65,36 @@ written-front = refl
 -- ---- 16
 
 -- x is 1,073,741,824
-too-far : resultOf Stored (set glyphStored 5 64) ≡ refused 16
+too-far : resultOf Stored (set glyphStored 5 64) ≡ refused 16 0
 unfolding definitions
 too-far = refl
 
 -- 1,073,741,824 wide
-too-wide : resultOf Stored (set (set (set ruleStored 10 0) 11 0) 13 64) ≡ refused 16
+too-wide : resultOf Stored (set (set (set ruleStored 10 0) 11 0) 13 64) ≡ refused 16 0
 unfolding definitions
 too-wide = refl
 
-not-zero : resultOf Stored (set glyphStored 17 1) ≡ refused 16
+not-zero : resultOf Stored (set glyphStored 17 1) ≡ refused 16 0
 unfolding definitions
 not-zero = refl
 
-cut-off : resultOf Stored (take 17 glyphStored) ≡ refused 16
+cut-off : resultOf Stored (take 17 glyphStored) ≡ refused 16 0
 unfolding definitions
 cut-off = refl
 
 -- ---- 17
 
-font-before-rule : resultOf Body (172 ∷ ruleBody) ≡ refused 17
+font-before-rule : resultOf Body (172 ∷ ruleBody) ≡ refused 17 0
 unfolding definitions
 font-before-rule = refl
 
-no-pop : resultOf Body (take 14 glyphBody) ≡ refused 17
+no-pop : resultOf Body (take 14 glyphBody) ≡ refused 17 0
 unfolding definitions
 no-pop = refl
 
 -- ---- 18
 
-no-room : answering Stored glyphStored 14 ≡ refusal 18
+no-room : answering Stored glyphStored 14 ≡ refusal 18 0
 unfolding definitions
 no-room = refl
 

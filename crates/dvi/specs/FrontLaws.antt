@@ -2,7 +2,6 @@
 --     leads-own, leads-is, leads-short, leads-append     what it says that bytes begin with others
 --     size-least, size-most      a node has at least a byte, and at most twice as many as in the other form
 --     look-own                   a node that can be written is what its bytes look like
---     none-some                  nothing is not something
 --     front-own, front-is        so it is found at their front, and only a node whose bytes lead is found
 --     front-by, front-short      by a test of whether the bytes lead, and where they are too few
 --     looks-body-rule, looks-body-glyph     what a body looks like, by its first byte
@@ -10,13 +9,15 @@
 use mathlib.Core.Path.{_≡_, refl, sym, ap, _∙_}
 use mathlib.Core.Bool.{Bool, true, false, cond, _&&_, and-assoc, and-false, false≢true}
 use mathlib.Core.List.{List, [], _∷_, _++_, reverse}
-use mathlib.Core.Option.{Option, none, some}
+use mathlib.Core.Option.{none, some}
 use Prim.Native.Nat.{ℕ, _+_, _*_, _≤_, _<_}
 use native.Mathlib.Omega.{arith}
 use borrow.Author.Tests.{eqb-true, eq-eqb, ne-eqb}
 use lib.Dec.{eqb}
 use lib.IntN.{ℤ, pos, negℤ, negℤ-negℤ}
 use lib.ListN.{length, getD, drop}
+use Rattle.laws.specs.Options.{none-some}
+use Rattle.laws.specs.Truths.{both-true}
 use Rattle.scaled.specs.Length.{maxℤ}
 use Rattle.scaled.specs.Signed.{Within, own, parts-neg}
 use Rattle.words.specs.Words.{littleEndian, signedWord, fourBytes}
@@ -31,7 +32,7 @@ use Rattle.dvi.specs.NumberLaws.{stored-back, big-back}
 use Rattle.dvi.specs.Body.{commandsOf, bodyBytes}
 use Rattle.dvi.specs.BodyLaws.{body-least, body-most}
 use Rattle.dvi.specs.Profile.{writable}
-use Rattle.dvi.specs.ProfileLaws.{Facts, of-glyph, of-rule, facts, width-kept, both-true}
+use Rattle.dvi.specs.ProfileLaws.{Facts, of-glyph, of-rule, facts, width-kept}
 use Rattle.dvi.specs.Forms.{bytesIn, bodyGlyph, bodyRule, looksLike, leads, nodeIf, frontIn}
 
 -- ---- bytes that begin with others
@@ -100,9 +101,6 @@ look-by Body r (of-glyph {x} {y} {size} {family} in-x in-y s f c) =
     (glyph-by (big-back x in-x) (down-back y in-y) (omega arith) (omega arith) refl)
 look-by Body r (of-rule {x} {y} {width} {thickness} in-x in-y w t) =
     rule-by (big-back x in-x) (down-back y in-y) (big-back width (w .short)) (big-back thickness (t .short))
-
-pub none-some : {A : Type 0} {a : A} → _≡_ {A = Option A} none (some a) → ⊥
-none-some e = let no : _≡_ {A = ℕ} 0 1 = cc in omega arith
 
 module _ (f : Form) where
   pub look-own : (n : Node) (r : List ℕ) → writable n ≡ true → looksLike f (bytesIn f n ++ r) ≡ n

@@ -1,11 +1,10 @@
 -- What is known of a node that can be written.
---     both-true, true-both       two tests together
 --     facts, writable-by         the test of a node as facts that `omega` reads, and back
 --     width-kept, stored-width   a width that is not negative is stored as it is
 --     all-append                 two runs of nodes
 -- Assumes nothing.
 use mathlib.Core.Path.{_≡_}
-use mathlib.Core.Bool.{Bool, true, _&&_, and-eq-true-iff, false≢true}
+use mathlib.Core.Bool.{true, _&&_, false≢true}
 use mathlib.Core.List.{List, [], _∷_, _++_}
 use Prim.Native.Nat.{ℕ, _≤_}
 use native.Mathlib.Omega.{arith}
@@ -13,6 +12,7 @@ use borrow.Author.Tests.{leb-true, le-leb}
 use lib.Dec.{leb, leb·zero}
 use lib.IntN.{ℤ, pos, negsuc}
 use lib.Signed.{leZ}
+use Rattle.laws.specs.Truths.{both-true, true-both}
 use Rattle.scaled.specs.Length.{maxℤ}
 use Rattle.scaled.specs.Signed.{Within, NotNegative}
 use Rattle.scaled.specs.Linear.{#, greatest, eq-by}
@@ -20,12 +20,6 @@ use Rattle.nodes.specs.Nodes.{Node, glyph, rule}
 use Rattle.nodes.specs.Bounds.{greatestLength, within}
 use Rattle.nodes.specs.HullLaws.{within-true, true-within}
 use Rattle.dvi.specs.Profile.{greatestSize, greatestFamily, greatestByte, isExtent, writable, allWritable}
-
-pub both-true : {p q : Bool} → (p && q) ≡ true → (p ≡ true) × (q ≡ true)
-both-true {p} {q} t = and-eq-true-iff p q .0 t
-
-pub true-both : {p q : Bool} → p ≡ true → q ≡ true → (p && q) ≡ true
-true-both {p} {q} s t = and-eq-true-iff p q .1 (s, t)
 
 -- a width or a thickness
 pub record Extent (z : ℤ) : Type 0 where

@@ -14,14 +14,15 @@ use native.Mathlib.Nat.{suc-add, zero-add}
 use native.Mathlib.Omega.{arith}
 use lib.ListN.{length, length-append}
 use lib.Seq.{drop-append-seam}
+use Rattle.laws.specs.Options.{none-some}
+use Rattle.laws.specs.Truths.{both-true, true-both}
 use Rattle.nodes.specs.Nodes.{Node, bytesOf}
 use Rattle.dvi.specs.declared.forms.Form.{Form}
 use Rattle.dvi.specs.declared.forms.Form.the-variants.{Stored, Body}
 use Rattle.dvi.specs.Body.{bodyOf}
 use Rattle.dvi.specs.Profile.{writable, allWritable}
-use Rattle.dvi.specs.ProfileLaws.{both-true, true-both}
 use Rattle.dvi.specs.Forms.{bytesIn, bytesAs, frontIn, added, nodeThen, readStep, readBy, nodesIn}
-use Rattle.dvi.specs.FrontLaws.{size-least, none-some, front-own, front-is}
+use Rattle.dvi.specs.FrontLaws.{size-least, front-own, front-is}
 
 -- ---- the bytes of nodes
 

@@ -16,7 +16,8 @@ use Rattle.dvi.specs.declared.forms.Form.the-variants.{Stored, Body}
 use Rattle.dvi.specs.Profile.{allWritable}
 use Rattle.dvi.specs.Forms.{otherForm, bytesAs, nodesIn}
 use Rattle.dvi.specs.ReadingLaws.{nodes-back, nodes-exact}
-use Rattle.dvi.specs.Answers.{made, ifRead, resultOf}
+use Rattle.results.specs.Results.{made}
+use Rattle.dvi.specs.Answers.{ifRead, resultOf}
 
 module _ (from : Form) where
   pub made-by : (ns : List Node) → allWritable ns ≡ true → resultOf from (bytesAs from ns) ≡ made (bytesAs (otherForm from) ns)

@@ -11,6 +11,7 @@ use mathlib.Core.List.{List, [], _∷_, _++_, map}
 use Prim.Native.Nat.{_+_, _≤_}
 use native.Mathlib.Omega.{arith}
 use lib.IntN.{ℤ, pos}
+use Rattle.laws.specs.Truths.{both-true, true-both}
 use Rattle.scaled.specs.Length.{maxℤ}
 use Rattle.scaled.specs.Signed.{above, below, own, parts-max}
 use Rattle.scaled.specs.Linear.{#, greatest, eq-by}
@@ -20,8 +21,9 @@ use Rattle.nodes.specs.HullLaws.{within-true}
 use Rattle.dvi.specs.declared.forms.Form.the-variants.{Stored}
 use Rattle.dvi.specs.Body.{bodyOf}
 use Rattle.dvi.specs.Profile.{greatestSize, greatestFamily, greatestByte, writable, allWritable}
-use Rattle.dvi.specs.ProfileLaws.{Extent, of-glyph, of-rule, writable-by, both-true, true-both}
-use Rattle.dvi.specs.Answers.{made, resultOf}
+use Rattle.dvi.specs.ProfileLaws.{Extent, of-glyph, of-rule, writable-by}
+use Rattle.results.specs.Results.{made}
+use Rattle.dvi.specs.Answers.{resultOf}
 use Rattle.dvi.specs.RoundTrip.{made-by}
 
 abbrev pub Drawable : Node → Type 0

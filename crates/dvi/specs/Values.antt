@@ -24,7 +24,8 @@ use Rattle.dvi.specs.declared.items.Front.{Front}
 use Rattle.dvi.specs.declared.items.Front.the-variants.{Starts, Nothing}
 use Rattle.dvi.specs.Profile.{writable}
 use Rattle.dvi.specs.Forms.{otherForm, bytesIn, bytesAs, leads, nodesIn}
-use Rattle.dvi.specs.Answers.{Answered, accepted, refusal, refusalNumber, noRoomNumber}
+use Rattle.results.specs.Results.{Answered, accepted, refusal}
+use Rattle.dvi.specs.Answers.{refusalNumber, noRoomNumber}
 
 abbrev pub nodeAs : Node → nodes.Node
 nodeAs (Glyph x y size family code) = nodes.glyph (x .0) (y .0) size family code
@@ -36,9 +37,9 @@ frontAs Nothing = none
 
 abbrev pub answeredAs : Answer → Answered
 answeredAs (Accepted n) = accepted n
-answeredAs BadNodes = refusal (refusalNumber Stored)
-answeredAs OutsideProfile = refusal (refusalNumber Body)
-answeredAs NoRoom = refusal noRoomNumber
+answeredAs BadNodes = refusal (refusalNumber Stored) 0
+answeredAs OutsideProfile = refusal (refusalNumber Body) 0
+answeredAs NoRoom = refusal noRoomNumber 0
 
 -- of a rule that is stored with a negative width nothing is said
 abbrev pub Stands : Form → nodes.Node → List ℕ → Bool → Type 0

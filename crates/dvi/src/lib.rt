@@ -9,10 +9,13 @@ mod stored;
 ghost use mathlib.Core.Path.{_≡_};
 ghost use lib.ListN.{length};
 ghost use Rattle.dvi.specs.declared.forms.Form.the-variants.{Stored, Body};
-ghost use Rattle.dvi.specs.Answers.{refusal, refusalNumber, answering, bufferAfter};
+ghost use Rattle.results.specs.Results.{refusal};
+ghost use Rattle.results.specs.Values.{reportAs};
+ghost use Rattle.dvi.specs.Answers.{refusalNumber, answering, bufferAfter};
 ghost use Rattle.dvi.specs.Values.{answeredAs, MeasureDone, HasRoom};
 use forms::Form;
 use items::Front;
+use results::Report;
 
 // One constructor for each answer number; an acceptance has the size of what was written.
 pub enum Answer {
@@ -26,6 +29,18 @@ pub enum Answer {
 pub enum Measured {
     Bytes(usize),
     Unreadable,
+}
+
+// An answer in numbers.
+pub fn report_of(answer: Answer) -> Report
+    ensures { λ r. ⌜ reportAs r ≡ answeredAs answer ⌝ }
+{
+    match answer {
+        Answer::Accepted(size) => results::accepted(size),
+        Answer::BadNodes => results::refusal(16, 0),
+        Answer::OutsideProfile => results::refusal(17, 0),
+        Answer::NoRoom => results::refusal(18, 0),
+    }
 }
 
 // Writes nodes as a page's body.
@@ -64,7 +79,7 @@ fn convert(from: Form, s: &[u8], out: &mut [u8]) -> Answer
 
 // The answer to bytes that are not nodes.
 fn refused(from: Form) -> Answer
-    ensures { λ r. ⌜ answeredAs r ≡ refusal (refusalNumber from) ⌝ }
+    ensures { λ r. ⌜ answeredAs r ≡ refusal (refusalNumber from) 0 ⌝ }
 {
     match from {
         Form::Stored => Answer::BadNodes,

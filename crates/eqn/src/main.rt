@@ -1,25 +1,28 @@
 // Reads typed text from standard input, with the names of names.tab in the working folder, and writes the bytes of the formula that it means to
 // standard output; or, to standard error, why it does not.
 
+use eqn_calls::report_of;
 use files::NAME_SPACE;
 use files::read_needed;
-use files::write_front;
-use files::write_refusal;
+use formula::FORMULA_LIMIT;
+use libc::STDERR_FILENO;
 use libc::STDIN_FILENO;
-use typing::Parts;
-use typing::parts_of;
+use libc::STDOUT_FILENO;
+use results::Report;
+use texts::print;
+use texts::write_refusal;
 
 // The longest text that the program takes.
 const LONGEST: usize = 131_072;
 
 // One byte more, so that a longer one is seen.
-const TEXT_SPACE: usize = 131_073;
+const TEXT_SPACE: usize = LONGEST + 1;
 
 // The answer to a text that is too long for a formula.
 const TOO_LARGE: u8 = 12;
 
 // As many bytes as a formula can have.
-const FORMULA_SPACE: usize = 131_072;
+const FORMULA_SPACE: usize = FORMULA_LIMIT;
 
 fn main() {
     let mut text = [0u8; TEXT_SPACE];
@@ -31,27 +34,23 @@ fn main() {
 
 fn show<'a>(names: &'a [u8], text: &'a [u8]) {
     let mut formula = [0u8; FORMULA_SPACE];
-    let parts = answer_to(names, text, &mut formula);
-    if parts.number == 0 {
-        write_front(&formula, parts.bytes);
+    let report = answer_to(names, text, &mut formula);
+    if report.number == 0 {
+        print(STDOUT_FILENO, &formula, report.bytes);
     } else {
-        write_refusal(parts.number, parts.place);
+        write_refusal(STDERR_FILENO, report.number, report.place);
     }
 }
 
 // The answer of reading, where a text over the program's limit is too long for a formula. What is tested before the text is what refuses the
 // empty one.
-fn answer_to<'a>(names: &'a [u8], text: &'a [u8], formula: &mut [u8]) -> Parts {
+fn answer_to<'a>(names: &'a [u8], text: &'a [u8], formula: &mut [u8]) -> Report {
     if text.len() <= LONGEST {
-        return parts_of(typing::read(names, text, formula));
+        return report_of(eqn_calls::read(names, text, formula));
     }
-    let tested = parts_of(typing::read(names, &text[..0], formula));
+    let tested = report_of(eqn_calls::read(names, &text[..0], formula));
     if tested.number != 0 {
         return tested;
     }
-    Parts {
-        number: TOO_LARGE,
-        place: 0,
-        bytes: 0,
-    }
+    results::refusal(TOO_LARGE, 0)
 }

@@ -1,8 +1,6 @@
-// The tables of a program's working folder, read from their files; a result and a refusal as the programs write them that convert bytes.
+// The tables of a program's working folder, read from their files.
 
 ghost use Rattle.io.specs.Counts.{Counts};
-use libc::STDERR_FILENO;
-use libc::STDOUT_FILENO;
 
 // One byte more than the longest table, ours and a client's, so that a longer one is seen.
 pub const TABLE_SPACE: usize = 47_531;
@@ -58,20 +56,4 @@ fn read_open(fd: i32, buffer: &mut [u8]) -> usize
 fn read_fails(fd: i32) -> bool {
     let mut byte = [0u8; 1];
     libc::read(fd, &mut byte) < 0
-}
-
-// Writes the front of a buffer to standard output.
-pub fn write_front(buffer: &[u8], size: usize) {
-    if size <= buffer.len() {
-        io::write_all(STDOUT_FILENO, &buffer[..size]);
-    }
-}
-
-// Writes a refusal to standard error.
-pub fn write_refusal(number: u8, place: usize) {
-    io::write_all(STDERR_FILENO, b"refused ");
-    io::print_decimal(STDERR_FILENO, number as u64);
-    io::write_all(STDERR_FILENO, b" at ");
-    io::print_decimal(STDERR_FILENO, place as u64);
-    io::write_all(STDERR_FILENO, b"\n");
 }

@@ -1,11 +1,10 @@
 -- Worked tables: for the rule on chains (request 3), sixteen steps, seventeen, a step to an absent symbol, a ring; and with a client's
--- table over ours (request 6), records and chains that pass from one to the other; an index (request 9), and what it says.
+-- table over ours (request 6), records and chains that pass from one to the other.
 -- Assumes nothing.
 use mathlib.Core.Path.{_≡_, refl}
 use mathlib.Core.Bool.{true, false}
 use mathlib.Core.List.{List, [], _∷_, _++_}
 use Prim.Native.Nat.{ℕ, zero, suc}
-use lib.Count.{ones, onesIn}
 use lib.ListN.{replicate}
 use Rattle.words.specs.Words.{littleEndian}
 use Rattle.font.specs.Records.{pieces, characterCount, parameterRecords, characterRecords, words, marked, parameterWords, metricWords, every}
@@ -13,7 +12,6 @@ use Rattle.font.specs.Records.{clientCount, clientRecords, goodParameter
 use Rattle.font.specs.Font.{successorOf, metricsOf, isOf, lookup, fontOf, fontWith, recordIn, recordOf, placeIn, placeOf}
 use Rattle.font.specs.Chains.{next, goesOn, chainEnds}
 use Rattle.font.specs.Table.{goodTable, seenEnds, goodClient}
-use Rattle.font.specs.Index.{has, bits, tally, earlier, each, indexOf, groupWord, onesBefore, presentBy, numberBy}
 
 -- a PA record, all of whose words are 0
 row : List ℕ
@@ -62,33 +60,3 @@ chains-of-both :
     × (goodClient (table (symbol 0 1 1 ++ symbol 1 0 0)) (symbol 0 0 0 ++ symbol 1 1 0) ≡ true)
 unfolding table row symbol ladder littleEndian pieces characterCount characterRecords clientCount clientRecords words marked metricWords every goodCharacter before rising goodClientLength goodClientRecords successorOf metricsOf isOf lookup fontOf fontWith next goesOn seenEnds goodClient
 chains-of-both = (refl, refl, refl, refl)
-
--- a record of another size and family
-other : ℕ → ℕ → ℕ → List ℕ
-other size family code = 67 ∷ 72 ∷ size ∷ family ∷ code ∷ replicate 18 0
-
--- codes 1, 65 and 66 of text size and family 0, and code 3 of script size and family 2: the bits of the first family and its start, the starts of
--- the next one, which has no record, of the last record's and of the last of all
-some-index : List ℕ
-some-index = indexOf (symbol 1 0 0 ∷ symbol 65 0 0 ∷ symbol 66 0 0 ∷ other 1 2 3 ∷ [])
-
-index-words :
-    (groupWord some-index 0 0 0 ≡ 2)
-    × (groupWord some-index 0 0 1 ≡ 6)
-    × (groupWord some-index 0 0 4 ≡ 0)
-    × (groupWord some-index 0 1 4 ≡ 3)
-    × (groupWord some-index 1 2 0 ≡ 8)
-    × (groupWord some-index 1 2 4 ≡ 3)
-    × (groupWord some-index 2 15 4 ≡ 4)
-unfolding some-index symbol other isOf has bits tally earlier each indexOf
-index-words = (refl, refl, refl, refl, refl, refl, refl)
-
--- code 66 has a record with two before it, code 64 has none
-index-asked :
-    (presentBy some-index 0 0 66 ≡ true)
-    × (numberBy some-index 0 0 66 ≡ 2)
-    × (presentBy some-index 0 0 64 ≡ false)
-    × (presentBy some-index 1 2 3 ≡ true)
-    × (numberBy some-index 1 2 3 ≡ 3)
-unfolding some-index symbol other isOf has bits tally earlier each indexOf ones onesIn onesBefore presentBy numberBy
-index-asked = (refl, refl, refl, refl, refl)

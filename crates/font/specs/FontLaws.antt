@@ -1,12 +1,12 @@
 -- What a good table promises, and a good client's table under it, for those who know no byte of either.
---     good-records    its records keep the rules of document 01
+--     whole-records, records-good, client-good     the CH records fill a table, and keep the rules; of a client's table the same
+--     ours-alone, sound-ours, sound-client         the CH records of either, as a lookup goes through them
+--     seen-ends       the chain of a symbol that some records have, where the chain of each ends
+--     good-records    the records of a good table keep the rules of document 01
 --     good-header     it is long enough for `parameters`
+--     with-empty, sound-alone, empty-client        an empty client's table changes nothing, and is good
 --     sound-tables    the two are what a lookup asks for
 --     chains-end      no chain in them is of more than sixteen steps, from whatever symbol it starts
---     with-empty, empty-client, sound-alone     an empty client's table changes nothing, and is good
---     whole-records, few-records, records-good, records-rise    the CH records fill a table, are not too many, keep the rules, and rise; of a
---         client's table the same
---     ours-alone, sound-ours, sound-client        the CH records of either, as a lookup goes through them
 -- Assumes nothing.
 use mathlib.Core.Path.{_≡_, refl}
 use mathlib.Core.Bool.{Bool, true, false, _&&_, and-eq-true-iff}
@@ -17,6 +17,7 @@ use native.Mathlib.Omega.{arith}
 use borrow.Author.Tests.{leb-true, eqb-true, not-true}
 use lib.Dec.{eqb}
 use lib.ListN.{length, drop, length-drop}
+use Rattle.laws.specs.Options.{none-some}
 use Rattle.font.specs.Records.{headerBytes, characterBytes, characterCount, mostCharacters, clientCount, mostClientCharacters}
 use Rattle.font.specs.Records.{pieces, parameterRecords, characterRecords, clientRecords, sizeByte, familyByte, codeByte}
 use Rattle.font.specs.Records.{every, goodParameters, goodCharacter, rising, goodLength, goodRecords, goodClientLength, goodClientRecords}
@@ -38,7 +39,7 @@ module _ (t : List ℕ) (good : goodRecords t ≡ true) where
   unfolding goodLength
   whole-records = eqb-true (length t) whole (and-eq-true-iff (eqb (length t) whole) _ .0 good-length .0)
 
-  pub few-records : characterCount t ≤ mostCharacters
+  few-records : characterCount t ≤ mostCharacters
   unfolding goodLength
   few-records = leb-true (characterCount t) mostCharacters (and-eq-true-iff (eqb (length t) whole) _ .0 good-length .1)
 
@@ -46,7 +47,7 @@ module _ (t : List ℕ) (good : goodRecords t ≡ true) where
   unfolding goodRecords
   records-good = and-eq-true-iff (goodLength t && every goodParameters (parameterRecords t)) _ .0 (and-eq-true-iff _ _ .0 good .0) .1
 
-  pub records-rise : rising (characterRecords t) ≡ true
+  records-rise : rising (characterRecords t) ≡ true
   unfolding goodRecords
   records-rise =
       and-eq-true-iff
@@ -58,11 +59,11 @@ module _ (c : List ℕ) (good : goodClientRecords c ≡ true) where
   unfolding goodClientRecords
   client-length = and-eq-true-iff (goodClientLength c) _ .0 (and-eq-true-iff _ _ .0 good .0) .0
 
-  pub whole-client : length c ≡ characterBytes * clientCount c
+  whole-client : length c ≡ characterBytes * clientCount c
   unfolding goodClientLength
   whole-client = eqb-true _ _ (and-eq-true-iff (eqb (length c) (characterBytes * clientCount c)) _ .0 client-length .0)
 
-  pub few-client : clientCount c ≤ mostClientCharacters
+  few-client : clientCount c ≤ mostClientCharacters
   unfolding goodClientLength
   few-client = leb-true _ _ (and-eq-true-iff (eqb (length c) (characterBytes * clientCount c)) _ .0 client-length .1)
 
@@ -70,7 +71,7 @@ module _ (c : List ℕ) (good : goodClientRecords c ≡ true) where
   unfolding goodClientRecords
   client-good = and-eq-true-iff (goodClientLength c) _ .0 (and-eq-true-iff _ _ .0 good .0) .1
 
-  pub client-rises : rising (clientRecords c) ≡ true
+  client-rises : rising (clientRecords c) ≡ true
   unfolding goodClientRecords
   client-rises = and-eq-true-iff (goodClientLength c && every goodCharacter (clientRecords c)) _ .0 good .1
 
@@ -134,7 +135,7 @@ module _ (F : Font) (size family code : ℕ) where
   pub seen-ends : (l : List (List ℕ)) → every (seenEnds F) l ≡ true → (m : Metrics) → lookup size family code l ≡ some m →
       tooLong F size family (F .symbol size family code) ≡ false
   unfolding every lookup seenEnds
-  seen-ends [] ends m is = let z : _≡_ {A = ℕ} 0 1 = cc in absurd (omega arith)
+  seen-ends [] ends m is = absurd (none-some is)
   seen-ends (r ∷ l) ends m is =
       let both = and-eq-true-iff (seenEnds F r) (every (seenEnds F) l) .0 ends in
       go (isOf size family code r) refl (both .0) (seen-ends l (both .1) m) is
@@ -156,7 +157,7 @@ module _ (t : List ℕ) (good : goodTable t ≡ true) where
   pub good-header : headerBytes ≤ length t
   good-header = let filled = whole-records t good-records in omega arith
 
-  pub chains-end-alone : (size family code : ℕ) → tooLong (fontOf t) size family (fontOf t .symbol size family code) ≡ false
+  chains-end-alone : (size family code : ℕ) → tooLong (fontOf t) size family (fontOf t .symbol size family code) ≡ false
   unfolding goodTable fontOf
   chains-end-alone size family code =
       lookup-ends (fontOf t) size family code (characterRecords t) (and-eq-true-iff (goodRecords t) _ .0 good .1)

@@ -5,9 +5,11 @@ pub mod Font
 pub mod Chains
 pub mod Table
 pub mod Values
-pub mod FontLaws
-pub mod FairFont
 pub mod Keys
-pub mod Halving
-pub mod Index
-pub mod Building
+pub mod Reading
+pub mod RecordsLaws
+pub mod MetricsLaws
+pub mod Finding
+pub mod FontLaws
+pub mod LookupLaws
+pub mod FairFont

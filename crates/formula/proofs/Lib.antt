@@ -1,4 +1,2 @@
--- What the proofs of several functions use, and worked examples. Assumes nothing.
-mod FirstBytes
-mod VerdictLaws
+-- Worked examples. Assumes nothing.
 mod Examples

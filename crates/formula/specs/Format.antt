@@ -13,3 +13,11 @@ shortFormat = record { longest = 4_096; deepest = 16; longLists = false }
 
 abbrev pub longFormat : Format
 longFormat = record { longest = 131_072; deepest = 32; longLists = true }
+
+-- ---- the numbers of the format in use
+
+abbrev pub formulaLimit : ℕ
+formulaLimit = longFormat .longest
+
+abbrev pub depthLimit : ℕ
+depthLimit = longFormat .deepest

@@ -7,7 +7,7 @@
 -- Assumes nothing.
 use mathlib.Core.Path.{_≡_, refl, _∙_}
 use mathlib.Core.Bool.{Bool, true, false}
-use mathlib.Core.List.{List, [], _∷_}
+use mathlib.Core.List.{List, _∷_}
 use Prim.Native.Nat.{ℕ, suc, _+_, _-_, _≤_, _<_}
 use native.Mathlib.Omega.{arith}
 use lib.Dec.{ltb}
@@ -20,10 +20,10 @@ use Rattle.formula.specs.declared.Opening.the-variants.{Fields, Choice}
 use Rattle.formula.specs.declared.FieldHead.the-variants.{Sublist}
 use Rattle.formula.specs.declared.Fault.{Fault}
 use Rattle.formula.specs.declared.Fault.the-variants.{Unreadable}
-use Rattle.formula.specs.Format.{Format, shortFormat, longFormat}
+use Rattle.formula.specs.Format.{Format, shortFormat, longFormat, formulaLimit, depthLimit}
 use Rattle.formula.specs.Tree.{Items, Item, Field, openingBytes, choiceOpeningBytes}
 use Rattle.formula.specs.Heads.{openingOf, fieldHeadUnder}
-use Rattle.formula.specs.Reading.{formulaLimit, depthLimit, good, fault, got, stopped, unreadable, listGot, fieldBy, fieldAt, firstAt, thirdAt, noadAt, listAt, choiceAt, openedBy, itemBy, before, restBy, readUnder, readFormulaUnder, readFormula}
+use Rattle.formula.specs.Reading.{good, fault, got, stopped, unreadable, listGot, fieldBy, fieldAt, firstAt, thirdAt, noadAt, listAt, choiceAt, openedBy, itemBy, before, restBy, readUnder, readFormulaUnder, readFormula}
 use Rattle.formula.specs.Places.{contents, openedBytes}
 use Rattle.formula.specs.HeadLaws.{opening-fits}
 use Rattle.formula.specs.ReadingLaws.{read-some, read-on, agree}

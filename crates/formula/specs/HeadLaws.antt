@@ -5,7 +5,7 @@
 --     contents-shorter     the items of a list field have as many bytes as it says, and fewer than what holds it
 --     head-under, list-under     what a field is under another format
 --     opening-fits         the bytes of an item before its fields
---     kern-small, style-small     a kern and a style's number are within their bounds
+--     kern-small           a kern is within its bounds
 -- Each goes by the cases of the definition, whose tests `either` takes apart.
 -- Assumes nothing.
 use mathlib.Core.Path.{_≡_, refl, sym, subst, _∙_}
@@ -19,6 +19,7 @@ use lib.Dec.{leb, eqb}
 use lib.IntN.{ℤ, pos, negsuc, natAbs}
 use lib.ListN.{length, drop, getElem?, length-take, length-drop}
 use borrow.Author.Tests.{leb-true, eqb-true, le-leb, lt-leb}
+use Rattle.laws.specs.Truths.{either}
 use Rattle.scaled.specs.declared.Sp.{Sp}
 use Rattle.scaled.specs.Signed.{Within}
 use Rattle.words.specs.Words.{littleEndian, signedWord}
@@ -40,12 +41,6 @@ use Rattle.formula.specs.Tree.{openingBytes, kernBytes, restyleBytes, gr
 use Rattle.formula.specs.Marks.{markOf}
 use Rattle.formula.specs.Heads.{classes, limitKinds, bars, isOp, isDisplayOnly, atomOf, atomOpening, fractionOf, fractionOpening, greatestKern, kernWithin, kernOpening, greatestStyle, styleOpening, greatestFamily, goodDelimiter, rootOf, delimiter, behindDelimiter, rootOpening, fenceOf, fenceOpening, opens, openingOf, symbolHead, sublistHead, listHead, longListHead, fieldHeadUnder, fieldHead}
 use Rattle.formula.specs.Places.{headBytes, contents, openedBytes}
-
--- a choice by a test
-either : {A : Type 0} (P : A → Type 0) (t : Bool) {a b : A} → (t ≡ true → P a) → (t ≡ false → P b) →
-    P (elim t [ true ↦ a | false ↦ b ])
-either P true f g = f refl
-either P false f g = g refl
 
 -- ---- a field
 
@@ -171,7 +166,7 @@ NumberIn : Opening → Type 0
 NumberIn NoItem = Unit {0}
 NumberIn (Fields kind) = Unit {0}
 NumberIn (Kern n) = Within greatestKern (n .0)
-NumberIn (Restyle n) = n ≤ greatestStyle
+NumberIn (Restyle n) = Unit {0}
 NumberIn Choice = Unit {0}
 
 OpeningIn : List ℕ → Opening → Type 0
@@ -208,7 +203,7 @@ style-in : (s : List ℕ) (n : ℕ) → restyleBytes ≤ length s →
     OpeningIn s (elim (leb n greatestStyle) [ true ↦ Restyle n | false ↦ NoItem ])
 unfolding OpeningIn NumberIn
 style-in s n h =
-    either (OpeningIn s) (leb n greatestStyle) (λ e. (h, leb-true n greatestStyle e)) (λ e. (omega arith, tt))
+    either (OpeningIn s) (leb n greatestStyle) (λ e. (h, tt)) (λ e. (omega arith, tt))
 
 root-in : (s : List ℕ) (sign : Delimiter) → 6 ≤ length s → OpeningIn s (rootOf sign)
 unfolding rootOf
@@ -266,7 +261,3 @@ opening-fits s o e = subst (OpeningIn s) e (opening-in s) .0
 pub kern-small : (s : List ℕ) (n : Sp) → openingOf s ≡ Kern n → Within greatestKern (n .0)
 unfolding OpeningIn NumberIn
 kern-small s n e = subst (OpeningIn s) e (opening-in s) .1
-
-pub style-small : (s : List ℕ) (n : ℕ) → openingOf s ≡ Restyle n → n ≤ greatestStyle
-unfolding OpeningIn NumberIn
-style-small s n e = subst (OpeningIn s) e (opening-in s) .1

@@ -27,13 +27,27 @@ use Rattle.formula.specs.declared.FieldHead.the-variants.{NoField, Empty
 use Rattle.formula.specs.declared.Opening.{Opening}
 use Rattle.formula.specs.declared.Opening.the-variants.{NoItem, Fields, Kern, Restyle, Choice}
 use Rattle.formula.specs.Format.{Format, longFormat}
-use Rattle.formula.specs.Tree.{shortOpeningBytes, longOpeningBytes, listOpeningBytes}
+use Rattle.formula.specs.Tree.{emptyKind, symbolKind, listKind, longListKind, shortOpeningBytes, longOpeningBytes, listOpeningBytes}
 use Rattle.formula.specs.Marks.{markOf}
 
 -- ---- an item
 
 abbrev pub classes : List Class
 classes = Ord ∷ Op ∷ Bin ∷ Rel ∷ Open ∷ Close ∷ Punct ∷ Inner ∷ []
+
+abbrev pub greatestClass : ℕ
+greatestClass = 7
+
+-- where a class stands among them
+abbrev pub classNumber : Class → ℕ
+classNumber Ord = 0
+classNumber Op = 1
+classNumber Bin = 2
+classNumber Rel = 3
+classNumber Open = 4
+classNumber Close = 5
+classNumber Punct = 6
+classNumber Inner = 7
 
 abbrev pub limitKinds : List Limits
 limitKinds = DisplayOnly ∷ Always ∷ Never ∷ []
@@ -163,13 +177,13 @@ unfoldable pub sublistHead : ℕ → ℕ → List ℕ → FieldHead
 sublistHead opening n s =
     elim (eqb opening (listOpeningBytes n) && leb n (length s)) [ true ↦ Sublist opening n | false ↦ CutSublist ]
 
--- of kind 2
+-- with a length of two bytes
 unfoldable pub listHead : List ℕ → FieldHead
 listHead [] = CutSublist
 listHead (a ∷ []) = CutSublist
 listHead (a ∷ b ∷ s) = sublistHead shortOpeningBytes (littleEndian 2 (a ∷ b ∷ [])) s
 
--- of kind 3
+-- with a length of four
 unfoldable pub longListHead : List ℕ → FieldHead
 longListHead [] = CutSublist
 longListHead (a ∷ []) = CutSublist
@@ -177,20 +191,20 @@ longListHead (a ∷ b ∷ []) = CutSublist
 longListHead (a ∷ b ∷ c ∷ []) = CutSublist
 longListHead (a ∷ b ∷ c ∷ d ∷ s) = sublistHead longOpeningBytes (littleEndian 4 (a ∷ b ∷ c ∷ d ∷ [])) s
 
--- 0 is empty, 1 a symbol, 2 a list, 3 a long list if the format has them; s goes from the kind byte to the end of the list that holds
+-- a long list if the format has them; s goes from the kind byte to the end of the list that holds
 -- the item
 unfoldable pub fieldHeadUnder : Format → List ℕ → FieldHead
 fieldHeadUnder f [] = NoField
 fieldHeadUnder f (kind ∷ s) =
-    elim (eqb kind 0) [
+    elim (eqb kind emptyKind) [
       | true ↦ Empty
       | false ↦
-          elim (eqb kind 1) [
+          elim (eqb kind symbolKind) [
             | true ↦ symbolHead s
             | false ↦
-                elim (eqb kind 2) [
+                elim (eqb kind listKind) [
                   | true ↦ listHead s
-                  | false ↦ elim (eqb kind 3 && f .longLists) [ true ↦ longListHead s | false ↦ NoField ]
+                  | false ↦ elim (eqb kind longListKind && f .longLists) [ true ↦ longListHead s | false ↦ NoField ]
                 ]
           ]
     ]

@@ -7,10 +7,9 @@ pub mod Reading
 pub mod Values
 pub mod Places
 pub mod Slices
+pub mod FirstBytes
 pub mod HeadLaws
 pub mod ReadIn
 pub mod ReadingLaws
 pub mod PlacesLaws
 pub mod FormatLaws
-pub mod Spelling
-pub mod SpellingLaws

@@ -6,6 +6,7 @@
 --     listOf, GoodList     a field that must be a list
 --     second, third, end   the places of an item's fields, and the place behind it; listPlace those of a choice's lists
 --     itemSize, itemOf, GoodItem     an item, by its opening
+--     secondField, thirdField, secondList, thirdList, fourthList     the places of fields and of lists, from the tree
 -- That they say what `read` says is shown in `PlacesLaws`.
 -- Assumes nothing.
 use mathlib.Core.Bool.{Bool, true, false}
@@ -19,7 +20,7 @@ use Rattle.formula.specs.declared.Opening.{Opening}
 use Rattle.formula.specs.declared.Opening.the-variants.{NoItem, Fields, Kern, Restyle, Choice}
 use Rattle.formula.specs.declared.FieldHead.{FieldHead}
 use Rattle.formula.specs.declared.FieldHead.the-variants.{NoField, Empty, Symbol, Sublist, CutSublist}
-use Rattle.formula.specs.Tree.{Items, Item, Field, nil, noad, kern, restyle, choice, empty, symbol, list, openingBytes, holdsList, kernBytes, restyleBytes, choiceOpeningBytes, symbolBytes}
+use Rattle.formula.specs.Tree.{Items, Item, Field, nil, noad, kern, restyle, choice, empty, symbol, list, openingBytes, holdsList, kernBytes, restyleBytes, choiceOpeningBytes, symbolBytes, sublistBytes, itemsBytes, fieldBytes}
 use Rattle.formula.specs.Heads.{fieldHead}
 use Rattle.formula.specs.Reading.{Read, good, fault, read}
 
@@ -178,3 +179,20 @@ module _ (s : List ℕ) where
   GoodItem (Kern n) = Unit {0}
   GoodItem (Restyle n) = Unit {0}
   GoodItem Choice = (n : ℕ) → n < choiceLists → GoodListAt (listPlace n)
+
+-- ---- the places of fields and of lists in their item, from the bytes of the trees before them
+
+abbrev pub secondField : Kind → Field → ℕ
+secondField kind x = openingBytes kind + fieldBytes x
+
+abbrev pub thirdField : Kind → Field → Field → ℕ
+thirdField kind x y = secondField kind x + fieldBytes y
+
+abbrev pub secondList : Items → ℕ
+secondList d = choiceOpeningBytes + sublistBytes (itemsBytes d)
+
+abbrev pub thirdList : Items → Items → ℕ
+thirdList d t = secondList d + sublistBytes (itemsBytes t)
+
+abbrev pub fourthList : Items → Items → Items → ℕ
+fourthList d t sc = thirdList d t + sublistBytes (itemsBytes sc)

@@ -6,6 +6,7 @@
 --     list-good-field      a field that must be a list, as a field
 --     items-bytes, item-bytes, field-bytes, list-bytes     a list, an item, a field and a list of a choice are as long as their
 --                          tree is written
+--     second-field, third-field, lists-stand     fields and lists stand where their trees say
 --     formula-good, formula-fault     what the verdict of a formula says of its reading
 -- Assumes nothing.
 use mathlib.Core.Path.{_≡_, refl, sym, subst, ap, ap₂, _∙_}
@@ -26,12 +27,12 @@ use Rattle.formula.specs.declared.FieldHead.the-variants.{NoField, Empty
 use Rattle.formula.specs.declared.Fault.{Fault}
 use Rattle.formula.specs.declared.Fault.the-variants.{Unreadable}
 use Rattle.formula.specs.declared.Verdict.the-variants.{Good, Faulty}
-use Rattle.formula.specs.Format.{longFormat}
+use Rattle.formula.specs.Format.{longFormat, formulaLimit, depthLimit}
 use Rattle.formula.specs.Tree.{Items, Item, Field, nil, cons, list, openingBytes, holdsList, shortOpeningBytes, sublistBytes, itemsBytes, itemBytes, fieldBytes}
 use Rattle.formula.specs.Heads.{openingOf, fieldHead}
-use Rattle.formula.specs.Reading.{formulaLimit, depthLimit, Read, good, fault, read, readFormulaUnder, readFormula}
+use Rattle.formula.specs.Reading.{Read, good, fault, read, readFormulaUnder, readFormula}
 use Rattle.formula.specs.Values.{told}
-use Rattle.formula.specs.Places.{treeIn, IsGood, Readable, treeOf, headBytes, contents, fieldOf, GoodField, listOf, GoodList, choiceLists, hasThird, headAt, second, third, thirdEnd, end, listPlace, itemSize, fieldIn, thirdIn, listIn, itemOf, GoodFieldAt, GoodThird, GoodListAt, GoodHeld, GoodItem}
+use Rattle.formula.specs.Places.{treeIn, IsGood, Readable, treeOf, headBytes, contents, fieldOf, GoodField, listOf, GoodList, choiceLists, hasThird, headAt, second, third, thirdEnd, end, listPlace, itemSize, fieldIn, thirdIn, listIn, itemOf, GoodFieldAt, GoodThird, GoodListAt, GoodHeld, GoodItem, secondField, thirdField, secondList, thirdList, fourthList}
 use Rattle.formula.specs.HeadLaws.{list-opening, opening-some, contents-shorter, opening-fits}
 use Rattle.formula.specs.ReadingLaws.{by-length, FieldIs, IsHeld, FieldAtIs, ThirdIs, ItemIs, item-map, list-place-in, size-fits, size-some, Below, read-none, list-good, agree}
 
@@ -317,6 +318,28 @@ field-bytes s = field-by-bytes s (λ r l. items-bytes r)
 pub list-bytes : (s : List ℕ) (n : ℕ) → GoodListAt s (listPlace s n) →
     sublistBytes (itemsBytes (listIn s n)) ≡ headBytes (headAt s (listPlace s n))
 list-bytes s = list-by-bytes s (λ r l. items-bytes r)
+
+-- ---- the places of fields and of lists, from the tree
+
+module _ (s : List ℕ) (kind : Kind) (noad : Noad s kind) where
+  pub second-field : secondField kind (fieldIn s (openingBytes kind)) ≡ second s kind
+  second-field = ap (λ (n : ℕ). openingBytes kind + n) (field-bytes s (openingBytes kind) (noad .x))
+
+  pub third-field : thirdField kind (fieldIn s (openingBytes kind)) (fieldIn s (second s kind)) ≡ third s kind
+  third-field = ap₂ _+_ second-field (field-bytes s (second s kind) (noad .y))
+
+-- those of a choice
+pub record ListsStand (s : List ℕ) : Type 0 where
+  pub at-second : secondList (listIn s 0) ≡ listPlace s 1
+  pub at-third : thirdList (listIn s 0) (listIn s 1) ≡ listPlace s 2
+  pub at-fourth : fourthList (listIn s 0) (listIn s 1) (listIn s 2) ≡ listPlace s 3
+
+pub lists-stand : (s : List ℕ) → Chosen s → ListsStand s
+lists-stand s chosen =
+    let a = list-bytes s 0 (chosen .lists 0 (omega arith)) in
+    let b = list-bytes s 1 (chosen .lists 1 (omega arith)) in
+    let c = list-bytes s 2 (chosen .lists 2 (omega arith)) in
+    record { at-second = omega arith; at-third = omega arith; at-fourth = omega arith }
 
 -- ---- a formula
 

@@ -1,6 +1,6 @@
 -- What a reading gives lies within the bytes that it read: a fault's place, and the end of each part. With it goes whatever is to hold
 -- of the parts by the bytes that they are written in.
---     Parts            what is to hold: of a list and of an item of n bytes, and of a field from one place of its item to another
+--     ReadClaims       what is to hold: of a list and of an item of n bytes, and of a field from one place of its item to another
 --     Closed           that it holds of the least parts, and of a part where it holds of its parts
 --     ReadIn, GotIn    of what was read, or it is a fault within the bytes
 --     field-in, item-in, read-in     then it holds of whatever is read
@@ -27,13 +27,13 @@ use Rattle.formula.specs.Reading.{Read, good, fault, Got, got, stopped, 
 use Rattle.formula.specs.Places.{contents, openedBytes}
 use Rattle.formula.specs.HeadLaws.{head-fits, list-opening, contents-shorter, opening-fits}
 
-pub record Parts : Type 1 where
+pub record ReadClaims : Type 1 where
   pub OfItems : ℕ → Items → Type 0
   pub OfItem : ℕ → Item → Type 0
   pub OfField : ℕ → ℕ → Field → Type 0
   pub OfThird : Kind → ℕ → ℕ → Field → Type 0
 
-pub record Closed (p : Parts) : Type 0 where
+pub record Closed (p : ReadClaims) : Type 0 where
   pub empty-is : (at : ℕ) → p .OfField at (at + 1) empty
   pub symbol-is : (at family code : ℕ) → p .OfField at (at + symbolBytes) (symbol family code)
   pub list-is : (at n : ℕ) (l : Items) → p .OfItems n l → p .OfField at (at + listOpeningBytes n + n) (list l)
@@ -48,7 +48,7 @@ pub record Closed (p : Parts) : Type 0 where
   pub nil-is : p .OfItems 0 nil
   pub cons-is : (size n : ℕ) (i : Item) (l : Items) → p .OfItem size i → p .OfItems n l → p .OfItems (size + n) (cons i l)
 
-abbrev pub ReadIn : Parts → ℕ → Read → Type 0
+abbrev pub ReadIn : ReadClaims → ℕ → Read → Type 0
 ReadIn p n (good l) = p .OfItems n l
 ReadIn p n (fault why place) = place ≤ n
 
@@ -61,7 +61,7 @@ then-in : {A B : Type 0} (P : A → ℕ → Type 0) (Q : B → ℕ → Type 0) (
 then-in P Q hi (got a m) k h f = f a m (h .0) (h .1)
 then-in P Q hi (stopped why place) k h f = h
 
-module _ (p : Parts) (rules : Closed p) where
+module _ (p : ReadClaims) (rules : Closed p) where
   abbrev pub FieldFrom : ℕ → Field → ℕ → Type 0
   FieldFrom at f end = p .OfField at end f
 

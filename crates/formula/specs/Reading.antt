@@ -24,14 +24,6 @@ use Rattle.formula.specs.Format.{Format, longFormat}
 use Rattle.formula.specs.Tree.{Items, Item, Field, nil, cons, noad, kern, restyle, choice, empty, symbol, list, openingBytes, holdsList, kernBytes, restyleBytes, choiceOpeningBytes, symbolBytes}
 use Rattle.formula.specs.Heads.{openingOf, fieldHeadUnder}
 
--- ---- the numbers of the format in use
-
-abbrev pub formulaLimit : ℕ
-formulaLimit = longFormat .longest
-
-abbrev pub depthLimit : ℕ
-depthLimit = longFormat .deepest
-
 -- ---- what reading gives
 
 -- a list's tree, or its first fault and the place of it

@@ -65,6 +65,19 @@ restyleBytes = 3
 abbrev pub choiceOpeningBytes : ℕ
 choiceOpeningBytes = 2
 
+-- the kind byte of a field
+abbrev pub emptyKind : ℕ
+emptyKind = 0
+
+abbrev pub symbolKind : ℕ
+symbolKind = 1
+
+abbrev pub listKind : ℕ
+listKind = 2
+
+abbrev pub longListKind : ℕ
+longListKind = 3
+
 -- kind byte, family, code
 abbrev pub symbolBytes : ℕ
 symbolBytes = 3

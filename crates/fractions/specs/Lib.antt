@@ -1,5 +1,5 @@
 -- Fractions; what decided a shift. Assumes nothing.
 pub mod Fractions
 pub mod Reasons
-pub mod Courses
+pub mod Stages
 pub mod ReasonsLaws

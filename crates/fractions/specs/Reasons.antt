@@ -7,7 +7,7 @@ use Rattle.boxes.specs.Styles.{fontSize}
 use Rattle.boxes.specs.Parameters.{Parameters}
 use Rattle.boxes.specs.Boxes.{Size}
 use Rattle.reasons.specs.declared.Reason.the-variants.{Sigma, Clearance}
-use Rattle.reasons.specs.Reasons.{Reasons, decided, corrected}
+use Rattle.reasons.specs.Reasons.{Reasons, shiftBy, corrected}
 use Rattle.fractions.specs.Fractions.{barThickness, fractionShifts, finalShifts}
 
 unfoldable pub fractionReasons : Parameters → Style → Bar → Size → Size → Reasons
@@ -16,6 +16,6 @@ fractionReasons p s bar x z =
     let first = fractionShifts p s θ in
     let final = finalShifts p s θ x z in
     record {
-      up = corrected Clearance (final .up) (decided Sigma (first .up));
-      down = corrected Clearance (final .down) (decided Sigma (first .down));
+      up = corrected Clearance (final .up) (shiftBy Sigma (first .up));
+      down = corrected Clearance (final .down) (shiftBy Sigma (first .down));
     }

@@ -6,10 +6,10 @@
 use mathlib.Core.Path.{_≡_, refl, sym, ap, subst, _∙_}
 use mathlib.Core.Bool.{Bool, true, false}
 use mathlib.Core.Option.{some}
-use Prim.Native.Nat.{ℕ, _<_}
+use Prim.Native.Nat.{ℕ}
 use native.Mathlib.Omega.{arith}
 use lib.IntN.{ℤ, negℤ, _+ℤ_, _-ℤ_}
-use lib.Signed.{ltZ, _≤ℤ_, _<ℤ_, ≤ℤ-refl}
+use lib.Signed.{ltZ, ≤ℤ-refl}
 use Rattle.scaled.specs.Length.{pick, half}
 use Rattle.scaled.specs.Linear.{#, _⊕_, _⊖_, eq-by}
 use Rattle.formula.specs.declared.Bar.{Bar}
@@ -19,12 +19,12 @@ use Rattle.boxes.specs.Parameters.{Parameters, axisHeight}
 use Rattle.boxes.specs.Boxes.{Size, Shifts}
 use Rattle.reasons.specs.declared.Reason.{Reason}
 use Rattle.reasons.specs.declared.Reason.the-variants.{None, Drop, Sigma, XHeight, Gap, Psi, Clearance}
-use Rattle.reasons.specs.Reasons.{decided, corrected}
-use Rattle.reasons.specs.Courses.{stage, order, Changed, True, AllTrue}
+use Rattle.reasons.specs.Reasons.{shiftBy, corrected}
+use Rattle.reasons.specs.Stages.{stage, order, Changed, True, AllTrue}
 use Rattle.reasons.specs.ReasonsLaws.{corrected-shift, corrected-kept, by-its-test, true-by-stages}
 use Rattle.fractions.specs.Fractions.{barThickness, hasBar, fractionShifts, leastClearance, clearance, parted, shiftsWithoutBar, leastFromBar, cleared, shiftsWithBar, finalShifts, fraction}
 use Rattle.fractions.specs.Reasons.{fractionReasons}
-use Rattle.fractions.specs.Courses.{quantities, partCourse, halfLack, upCleared, downCleared, fractionCourses}
+use Rattle.fractions.specs.Stages.{quantities, partStages, halfLack, upCleared, downCleared, fractionStages}
 
 -- ---- what the clearance comes to
 
@@ -106,11 +106,11 @@ module _ (σ clear final : ℤ) where
   clearance-alone Psi z s e = absurd (omega arith)
   clearance-alone Clearance z s e = refl
 
-  part-true : (Changed σ final → clear ≡ final) → True (partCourse σ clear final) (corrected Clearance final (decided Sigma σ))
+  part-true : (Changed σ final → clear ≡ final) → True (partStages σ clear final) (corrected Clearance final (shiftBy Sigma σ))
   part-true clear-is =
-      let cleared = corrected Clearance final (decided Sigma σ) in
-      subst (True (partCourse σ clear final)) (corrected-kept Psi final cleared (sym (corrected-shift Clearance final (decided Sigma σ))))
-      (true-by-stages (partCourse σ clear final) Sigma Clearance record {
+      let cleared = corrected Clearance final (shiftBy Sigma σ) in
+      subst (True (partStages σ clear final)) (corrected-kept Psi final cleared (sym (corrected-shift Clearance final (shiftBy Sigma σ))))
+      (true-by-stages (partStages σ clear final) Sigma Clearance record {
         candidate = refl;
         chosen-is = refl;
         none-larger = λ r z e h. rw (σ-alone r z e h .1) (≤ℤ-refl σ);
@@ -121,8 +121,8 @@ module _ (σ clear final : ℤ) where
         final-is = λ h. absurd (h refl);
       })
 
-pub fraction-true : (p : Parameters) (s : Style) (bar : Bar) (x z : Size) → AllTrue (fractionCourses p s bar x z) (fractionReasons p s bar x z)
-unfolding fractionCourses fractionReasons
+pub fraction-true : (p : Parameters) (s : Style) (bar : Bar) (x z : Size) → AllTrue (fractionStages p s bar x z) (fractionReasons p s bar x z)
+unfolding fractionStages fractionReasons
 fraction-true p s bar x z =
     let θ = barThickness p (fontSize s) bar in
     record { up = part-true _ _ _ (up-is p s θ x z); down = part-true _ _ _ (down-is p s θ x z) }

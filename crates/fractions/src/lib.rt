@@ -1,5 +1,5 @@
 // Fractions (rules 15 to 15e): numerator x, denominator z, bar thickness θ.
-pub mod explaining;
+pub mod why;
 
 use boxes::Arranged;
 use boxes::NULL_DELIMITER_WIDTH;

@@ -15,7 +15,7 @@ use lib.ListN.{drop}
 use Rattle.font.specs.Records.{characterRecords, clientRecords}
 use Rattle.font.specs.Table.{goodTable, goodClient}
 use Rattle.font.specs.Font.{Font, fontWith}
-use Rattle.font.specs.Index.{indexWords, indexOf}
+use Rattle.font_index.specs.Index.{indexWords, indexOf}
 use Rattle.font.specs.Values.{HoldsParameters}
 use Rattle.font.specs.FontLaws.{sound-tables}
 use Rattle.formula.specs.declared.Fault.{Fault}

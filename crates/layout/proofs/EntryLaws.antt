@@ -4,7 +4,7 @@
 --     no-room-is       setting, where there is no room: the answer, and the buffer as it was
 --     written-is       the buffer after an acceptance, from what the walk drew at its front
 --     measured-refused, refused-is     a formula that is refused
---     explained-is, explained-refused     what decided the shifts of an item, and why that is not said
+--     why-is, why-refused     what decided the shifts of an item, and why that is not said
 --     examined-found   what the walk finds is what is found of the whole
 -- Assumes nothing.
 use mathlib.Core.Path.{_≡_, sym, ap, ap₂, subst, _∙_}
@@ -19,26 +19,26 @@ use Rattle.formula.specs.Places.{treeOf}
 use Rattle.boxes.specs.declared.styles.Style.{Style}
 use Rattle.boxes.specs.declared.Size.{Size}
 use Rattle.boxes.specs.Styles.{styleOf}
-use Rattle.reasons.specs.declared.Explained.{Explained}
-use Rattle.reasons.specs.Values.{explainedAs}
+use Rattle.reasons.specs.declared.ItemReasons.{ItemReasons}
+use Rattle.reasons.specs.Values.{itemReasonsAs}
 use Rattle.nodes.specs.Nodes.{Node, bytesOf, bytesInNode}
 use Rattle.nodes.specs.Drawn.{Drawn}
 use Rattle.setting.specs.Setting.{Box, noSides, setList}
 use Rattle.answers.specs.Lent.{Lent}
 use Rattle.answers.specs.Answers.{Result, boxed, resultOf, Answered, accepted, measured, setting, bufferAfter}
 use Rattle.answers.specs.AnswersLaws as answers
-use Rattle.answers.specs.Explained.{unexplained, ifPicked, explainedBy, reasonsIn, explained}
-use Rattle.picking.specs.Picking.{PlaceExplained}
+use Rattle.answers.specs.Why.{whyRefusal, ifPicked, whyBy, reasonsIn, whyOf}
+use Rattle.picking.specs.Picking.{PlaceReasonsAre}
 use Rattle.walk.specs.declared.lists.ItemsSet.{ItemsSet}
 use Rattle.walk.specs.declared.lists.ItemsSet.the-variants.{Whole, Missing}
 use Rattle.walk.specs.Walked.{ListDone}
 use Rattle.layout.specs.declared.Answer.{Answer}
 use Rattle.layout.specs.declared.Answer.the-variants.{Accepted, NoRoom}
-use Rattle.layout.specs.declared.explaining.Explanation.the-variants as explanation
+use Rattle.layout.specs.declared.why.WhyAnswer.the-variants as answer
 use Rattle.layout.specs.declared.Finding.{Finding}
 use Rattle.layout.specs.declared.Finding.the-variants.{Boxed, Refused}
-use Rattle.layout.specs.Values.{answeredAs, explanationAs}
-use Rattle.layout.specs.Answering.{Refuses, Reads, Boxes, Examined, Found}
+use Rattle.layout.specs.Values.{answeredAs, whyAnswerAs}
+use Rattle.layout.specs.Answering.{Refuses, Reads, Boxes, Examined, FindingOf}
 
 -- the front of a buffer that is just long enough for the nodes
 drawn-whole : (ns : List Node) (n : ℕ) (b ys : List ℕ) → n ≡ length ns → bytesInNode * n ≤ length b →
@@ -94,15 +94,15 @@ module _ (style : ℕ) (table client : List ℕ) (lent : Lent) (formula : List �
           ∙ ap (λ (k : ℕ). bytesOf (found .nodes) ++ drop (bytesInNode * k) b) count-measured
           ∙ sym (answers.buffer-boxed noSides style table client lent formula found found-is b (subst (λ (k : ℕ). bytesInNode * k ≤ length b) count-measured l))
 
-      pub explained-is : (place : ℕ) (e : Explained) → PlaceExplained (fontWith table client) s place (treeOf formula) e →
-          ifPicked (explainedAs e) ≡ explained style table client lent formula place
-      unfolding explained explainedBy reasonsIn
-      explained-is place e tells =
+      pub why-is : (place : ℕ) (e : ItemReasons) → PlaceReasonsAre (fontWith table client) s place (treeOf formula) e →
+          ifPicked (itemReasonsAs e) ≡ whyOf style table client lent formula place
+      unfolding whyOf whyBy reasonsIn
+      why-is place e tells =
           ap ifPicked (tells (h .none-missing) (h .fits))
-          ∙ sym (ap (λ (r : Result). explainedBy r (reasonsIn (fontWith table client) (styleOf style) (readFormula formula) place)) found-is
+          ∙ sym (ap (λ (r : Result). whyBy r (reasonsIn (fontWith table client) (styleOf style) (readFormula formula) place)) found-is
           ∙ ap₂ (λ (u : Option Style) (r : Read). ifPicked (reasonsIn (fontWith table client) u r place)) (g .style-is) (g .tree-is))
 
-    pub examined-found : (r : Finding) → Examined s table client formula r → Found style table client lent formula i j r
+    pub examined-found : (r : Finding) → Examined s table client formula r → FindingOf style table client lent formula i j r
     examined-found (Boxed u z n) h = (rw (h .0) g, rw (h .0) (h .1))
     examined-found (Refused a) h =
         record { number = h .number; place = h .place; result-is = g .result-is ∙ h .result-is; answer-is = h .answer-is }
@@ -111,11 +111,11 @@ module _ (style : ℕ) (table client : List ℕ) (lent : Lent) (formula : List �
     pub measured-refused : answeredAs a ≡ measured style table client lent formula
     measured-refused = h .answer-is ∙ sym (answers.measured-refused noSides style table client lent formula _ _ (h .result-is))
 
-    pub explained-refused : (place : ℕ) → explanationAs (explanation.Refused a) ≡ explained style table client lent formula place
-    unfolding explained explainedBy
-    explained-refused place =
-        ap (λ (r : Answered). unexplained (r .number) (r .place)) (h .answer-is)
-        ∙ sym (ap (λ (r : Result). explainedBy r (reasonsIn (fontWith table client) (styleOf style) (readFormula formula) place)) (h .result-is))
+    pub why-refused : (place : ℕ) → whyAnswerAs (answer.Refused a) ≡ whyOf style table client lent formula place
+    unfolding whyOf whyBy
+    why-refused place =
+        ap (λ (r : Answered). whyRefusal (r .number) (r .place)) (h .answer-is)
+        ∙ sym (ap (λ (r : Result). whyBy r (reasonsIn (fontWith table client) (styleOf style) (readFormula formula) place)) (h .result-is))
 
     pub refused-is : (b : List ℕ) →
         (answeredAs a ≡ setting style table client lent formula (length b)) × (b ≡ bufferAfter style table client lent formula b)

@@ -3,7 +3,7 @@
 --     Tested              the tests before anything of the formula is read: passed (`Passes`), or with a refusal of any formula (`Stops`)
 --     readResult          the result for a formula that reads, in a style that there is
 --     Reads, Boxes        a formula that the walk may take, with both indexes, and one that is accepted
---     Found, Examined, Weighed     what the functions below the entries find
+--     FindingOf, Examined, Weighed     what the functions below the entries find
 -- Assumes nothing.
 use mathlib.Core.Path.{_≡_}
 use mathlib.Core.Bool.{true, false}
@@ -13,8 +13,9 @@ use Prim.Native.Nat.{ℕ, _≤_}
 use lib.ListN.{length}
 use Rattle.font.specs.Table.{goodTable, goodClient}
 use Rattle.font.specs.Font.{fontWith}
-use Rattle.font.specs.Index.{Indexed}
-use Rattle.formula.specs.Reading.{formulaLimit, good, readFormula}
+use Rattle.font_index.specs.Index.{Indexed}
+use Rattle.formula.specs.Format.{formulaLimit}
+use Rattle.formula.specs.Reading.{good, readFormula}
 use Rattle.formula.specs.Places.{Readable, treeOf}
 use Rattle.boxes.specs.declared.styles.Style.{Style}
 use Rattle.boxes.specs.declared.Size.{Size}
@@ -93,7 +94,7 @@ Examined s table client formula (finding.Boxed u z n) = (u ≡ s) × Boxes s tab
 Examined s table client formula (finding.Refused a) = Refuses a (readResult s table client formula)
 
 -- the lent words are i and j then
-abbrev pub Found : ℕ → List ℕ → List ℕ → Lent → List ℕ → List ℕ → List ℕ → Finding → Type 0
-Found style table client lent formula i j (finding.Boxed s z n) =
+abbrev pub FindingOf : ℕ → List ℕ → List ℕ → Lent → List ℕ → List ℕ → List ℕ → Finding → Type 0
+FindingOf style table client lent formula i j (finding.Boxed s z n) =
     Reads style table client lent formula i j s × Boxes s table client formula z n
-Found style table client lent formula i j (finding.Refused a) = Refuses a (resultOf style table client lent formula)
+FindingOf style table client lent formula i j (finding.Refused a) = Refuses a (resultOf style table client lent formula)

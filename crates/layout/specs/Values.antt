@@ -1,16 +1,16 @@
 -- What the code's answers stand for.
 --     answeredAs        document 01's number, place, sizes and count for each answer
---     explanationAs     request 7's number, place and reasons
+--     whyAnswerAs     request 7's number, place and reasons
 -- Assumes nothing.
 use Rattle.formula.specs.declared.Fault.the-variants as faults
 use Rattle.boxes.specs.Values.{sizeAs}
 use Rattle.answers.specs.Answers.{Answered, refusal, acceptedNumber, styleNumber, tableNumber, clientNumber, indexNumber, faultNumber, missingNumber, tooLargeNumber, noRoomNumber}
 use Rattle.reasons.specs.Values.{reasonsAs}
-use Rattle.answers.specs.Explained.{Explanation as ExplanationOf, unexplained, unpickedNumber}
+use Rattle.answers.specs.Why.{WhyAnswered, whyRefusal, unpickedNumber}
 use Rattle.layout.specs.declared.Answer.{Answer}
 use Rattle.layout.specs.declared.Answer.the-variants.{Accepted, NoStyle, BadTable, BadClient, FewWords, Unreadable, TooDeep, Missing, TooLarge, NoRoom}
-use Rattle.layout.specs.declared.explaining.Explanation.{Explanation}
-use Rattle.layout.specs.declared.explaining.Explanation.the-variants.{By, Unpicked, Refused}
+use Rattle.layout.specs.declared.why.WhyAnswer.{WhyAnswer}
+use Rattle.layout.specs.declared.why.WhyAnswer.the-variants.{By, Unpicked, Refused}
 
 abbrev pub answeredAs : Answer → Answered
 answeredAs (Accepted z n) = record { number = acceptedNumber; place = 0; size = sizeAs z; count = n }
@@ -24,7 +24,7 @@ answeredAs (Missing place) = refusal missingNumber place
 answeredAs TooLarge = refusal tooLargeNumber 0
 answeredAs NoRoom = refusal noRoomNumber 0
 
-abbrev pub explanationAs : Explanation → ExplanationOf
-explanationAs (By r) = record { number = acceptedNumber; place = 0; reasons = reasonsAs r }
-explanationAs Unpicked = unexplained unpickedNumber 0
-explanationAs (Refused a) = unexplained (answeredAs a .number) (answeredAs a .place)
+abbrev pub whyAnswerAs : WhyAnswer → WhyAnswered
+whyAnswerAs (By r) = record { number = acceptedNumber; place = 0; reasons = reasonsAs r }
+whyAnswerAs Unpicked = whyRefusal unpickedNumber 0
+whyAnswerAs (Refused a) = whyRefusal (answeredAs a .number) (answeredAs a .place)

@@ -8,20 +8,20 @@ ghost use Rattle.answers.specs.Lent.{lends, lentOf, indexAfter, clientIndexAfte
 ghost use Rattle.answers.specs.Answers.{faultNumber, refusal, measured, setting, bufferAfter};
 ghost use Rattle.walk.specs.Walked.{ListGiven};
 ghost use Rattle.layout.specs.Values.{answeredAs};
-ghost use Rattle.layout.specs.Answering.{Tested, Found, Examined, Weighed};
+ghost use Rattle.layout.specs.Answering.{Tested, FindingOf, Examined, Weighed};
 
-pub mod explaining;
-pub mod parts;
+pub mod report;
+pub mod why;
 
 use boxes::Size;
 use boxes::parameters::Parameters;
 use boxes::styles::Numbered;
 use boxes::styles::Style;
 use boxes::styles::style_of;
-use font::INDEX_WORDS;
+use font_index::INDEX_WORDS;
 use formula::Fault;
 use formula::Verdict;
-use formula::reading::read_formula;
+use formula_reading::read_formula;
 use nodes::BYTES_IN_NODE;
 use walk::lines::Line;
 use walk::lines::list_fits;
@@ -122,7 +122,7 @@ fn find<'a>(
     index: &mut [u64],
     client_index: &mut [u64],
 ) -> Finding
-    ensures { λ r. ⌜ Found style (now (table .entry)) (now (client .entry)) (lentOf (now (index .entry)) (now («client_index» .entry))) (now (formula .entry)) (now (index .exit)) (now («client_index» .exit)) r ⌝ }
+    ensures { λ r. ⌜ FindingOf style (now (table .entry)) (now (client .entry)) (lentOf (now (index .entry)) (now («client_index» .entry))) (now (formula .entry)) (now (index .exit)) (now («client_index» .exit)) r ⌝ }
     ensures { λ _. ⌜ now (index .exit) ≡ indexAfter style (now (table .entry)) (now (client .entry)) (now (index .entry)) (now («client_index» .entry)) ⌝ }
     ensures { λ _. ⌜ now («client_index» .exit) ≡ clientIndexAfter style (now (table .entry)) (now (client .entry)) (now (index .entry)) (now («client_index» .entry)) ⌝ }
 {
@@ -133,7 +133,7 @@ fn find<'a>(
             return Finding::Refused(answer);
         }
     };
-    font::build(table, client, index, client_index);
+    font_build::build(table, client, index, client_index);
     let verdict = read_formula(formula);
     match verdict {
         Verdict::Good => {
@@ -158,10 +158,10 @@ fn tested<'a>(
     let Numbered::Styled(s) = numbered else {
         return Testing::Refused(Answer::NoStyle);
     };
-    if !font::is_good(table) {
+    if !font_test::is_good(table) {
         return Testing::Refused(Answer::BadTable);
     }
-    if !font::is_good_client(table, client) {
+    if !font_test::is_good_client(table, client) {
         return Testing::Refused(Answer::BadClient);
     }
     if words < INDEX_WORDS {

@@ -15,7 +15,7 @@ use boxes::styles::Style;
 use boxes::styles::is_display;
 use formula::Class;
 use formula::Limits;
-use formula::heads::is_op;
+use formula_kinds::is_op;
 use nucleus::Nucleus;
 use scaled::Sp;
 ghost use mathlib.Core.Path.{_≡_};

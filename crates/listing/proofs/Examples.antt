@@ -7,13 +7,8 @@ use Rattle.words.specs.Words.{littleEndian, signedWord, wordOf, fourBytes}
 use Rattle.nodes.specs.Nodes.{glyph, rule, signedBytes, nodeBytes}
 use Rattle.nodes.specs.Stored.{nodeIn}
 use Rattle.answers.specs.Answers.{refusal}
-use Rattle.listing.specs.Decimals.{digitsBy, decimalOf, textOf}
+use Rattle.texts.specs.Decimals.{digitsBy, decimalOf}
 use Rattle.listing.specs.Texts.{answerText, nodeText}
-
--- the least number of 64 bits
-least : textOf (negsuc 9_223_372_036_854_775_807) ≡ 45 ∷ 57 ∷ 50 ∷ 50 ∷ 51 ∷ 51 ∷ 55 ∷ 50 ∷ 48 ∷ 51 ∷ 54 ∷ 56 ∷ 53 ∷ 52 ∷ 55 ∷ 55 ∷ 53 ∷ 56 ∷ 48 ∷ 56 ∷ []
-unfolding digitsBy decimalOf
-least = refl
 
 -- `w 500 h 430 d 200 n 2`
 accepted :

@@ -6,9 +6,10 @@ use mathlib.Core.List.{List, [], _++_}
 use Prim.Native.Nat.{ℕ}
 use borrow.Author.Tests.{eq-eqb, ne-eqb}
 use Rattle.answers.specs.Answers.{Answered, acceptedNumber}
-use Rattle.reasons.specs.Reasons.{Decided}
-use Rattle.listing.specs.Decimals.{textOf}
-use Rattle.listing.specs.Texts.{newline, sizesText, refusalText, answerText, reasonMark, isThere, shiftText}
+use Rattle.reasons.specs.Reasons.{ShiftReason}
+use Rattle.texts.specs.Decimals.{textOf}
+use Rattle.texts.specs.Refusals.{newline, refusalText}
+use Rattle.listing.specs.Texts.{sizesText, answerText, reasonMark, isThere, shiftText}
 
 module _ (a : Answered) where
   abbrev by : Bool → List ℕ
@@ -22,7 +23,7 @@ module _ (a : Answered) where
   unfolding answerText
   refused-line e = sym (ap by (ne-eqb (a .number) acceptedNumber e))
 
-module _ (mark : List ℕ) (d : Decided) where
+module _ (mark : List ℕ) (d : ShiftReason) where
   abbrev shown : Bool → List ℕ
   shown t = cond t (mark ++ reasonMark (d .by) ++ textOf (d .shift) ++ newline) []
 

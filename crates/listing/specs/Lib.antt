@@ -1,4 +1,2 @@
--- The text that shows an answer and its nodes, and what the functions that write it promise. Assumes nothing.
-pub mod Decimals
+-- The text that shows an answer, its nodes, and what decided a shift. Assumes nothing.
 pub mod Texts
-pub mod Written

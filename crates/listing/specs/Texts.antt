@@ -9,19 +9,15 @@ use Prim.Native.Nat.{ℕ}
 use lib.Dec.{eqb}
 use Rattle.boxes.specs.Boxes.{Size}
 use Rattle.nodes.specs.Nodes.{Node, glyph, rule}
+use Rattle.nodes.specs.Stored.{numberAt}
 use Rattle.reasons.specs.declared.Reason.{Reason}
 use Rattle.reasons.specs.declared.Reason.the-variants.{None, Drop, Sigma, XHeight, Gap, Psi, Clearance}
-use Rattle.reasons.specs.Reasons.{Decided}
+use Rattle.reasons.specs.Reasons.{ShiftReason}
 use Rattle.answers.specs.Answers.{Answered, acceptedNumber}
-use Rattle.listing.specs.Decimals.{decimalOf, textOf}
+use Rattle.texts.specs.Decimals.{decimalOf, textOf}
+use Rattle.texts.specs.Refusals.{newline, space, refusalText}
 
 -- ---- what stands between the numbers
-
-abbrev pub newline : List ℕ
-newline = 10 ∷ []
-
-abbrev pub space : List ℕ
-space = 32 ∷ []
 
 -- a letter and a space; a space before them but for the first
 abbrev pub widthMark : List ℕ
@@ -35,13 +31,6 @@ depthMark = 32 ∷ 100 ∷ 32 ∷ []
 
 abbrev pub countMark : List ℕ
 countMark = 32 ∷ 110 ∷ 32 ∷ []
-
--- `refused ` and ` at `
-abbrev pub refusedMark : List ℕ
-refusedMark = 114 ∷ 101 ∷ 102 ∷ 117 ∷ 115 ∷ 101 ∷ 100 ∷ 32 ∷ []
-
-abbrev pub atMark : List ℕ
-atMark = 32 ∷ 97 ∷ 116 ∷ 32 ∷ []
 
 -- `glyph ` and `rule `
 abbrev pub glyphMark : List ℕ
@@ -60,14 +49,15 @@ sizesText z count =
     ++ (countMark ++ decimalOf count)
     ++ newline
 
-abbrev pub refusalText : ℕ → ℕ → List ℕ
-refusalText number place = refusedMark ++ decimalOf number ++ (atMark ++ decimalOf place) ++ newline
-
 unfoldable pub answerText : Answered → List ℕ
 answerText a =
     cond (eqb (a .number) acceptedNumber) (sizesText (a .size) (a .count)) (refusalText (a .number) (a .place))
 
 -- ---- a node
+
+-- a mark, and the x and the y of the node at the front of some bytes
+abbrev pub placeText : List ℕ → List ℕ → List ℕ
+placeText mark s = mark ++ textOf (numberAt 2 s) ++ (space ++ textOf (numberAt 6 s))
 
 unfoldable pub nodeText : Node → List ℕ
 nodeText (glyph x y size family code) =
@@ -102,5 +92,5 @@ isThere Gap = true
 isThere Psi = true
 isThere Clearance = true
 
-unfoldable pub shiftText : List ℕ → Decided → List ℕ
+unfoldable pub shiftText : List ℕ → ShiftReason → List ℕ
 shiftText mark d = cond (isThere (d .by)) (mark ++ reasonMark (d .by) ++ textOf (d .shift) ++ newline) []

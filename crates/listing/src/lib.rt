@@ -4,59 +4,56 @@
 ghost use mathlib.Core.Path.{_≡_};
 ghost use mathlib.Core.List.{_++_};
 ghost use Prim.Native.Nat.{_+_, _≤_};
-ghost use lib.IntN.{natAbs};
 ghost use lib.ListN.{length};
 ghost use Rattle.boxes.specs.Values.{sizeAs};
-ghost use Rattle.reasons.specs.Values.{decidedAs};
+ghost use Rattle.reasons.specs.Values.{shiftReasonAs};
 ghost use Rattle.nodes.specs.Stored.{numberAt, glyphIn, ruleIn, nodeIn};
 ghost use Rattle.layout.specs.Values.{answeredAs};
-ghost use Rattle.listing.specs.Decimals.{decimalOf, textOf};
-ghost use Rattle.listing.specs.Texts.{sizesText, refusalText, answerText, nodeText, reasonMark, isThere, shiftText};
-ghost use Rattle.listing.specs.Written.{Written, Put, PutNear, numberText, placeText};
+ghost use Rattle.texts.specs.Decimals.{decimalOf, textOf};
+ghost use Rattle.listing.specs.Texts.{sizesText, answerText, nodeText, placeText, reasonMark, isThere, shiftText};
+ghost use Rattle.texts.specs.Written.{Written, PutNear, numberText};
 use boxes::Size;
 use layout::Answer;
-use layout::explaining::Explanation;
-use layout::explaining::explained_parts;
-use layout::parts::parts_of;
+use layout::report::report_of;
+use layout::why::WhyAnswer;
+use layout::why::why_report;
 use libc::STDOUT_FILENO;
 use nodes::BYTES_IN_NODE;
-use reasons::Decided;
 use reasons::Reason;
-use scaled::Sp;
-
-// Room for the longest line.
-const LINE_SPACE: usize = 128;
-
-// A number by its sign and how far it lies from zero.
-pub struct Number {
-    minus: bool,
-    size: u64,
-}
+use reasons::ShiftReason;
+use texts::LINE_SPACE;
+use texts::Number;
+use texts::of_count;
+use texts::of_length;
+use texts::print;
+use texts::put_bytes;
+use texts::put_number;
+use texts::refusal_text;
 
 // Prints an answer; the nodes of an acceptance are at the front of the buffer.
 pub fn write_answer(answer: Answer, nodes: &[u8]) {
     let mut line = [0u8; LINE_SPACE];
     let end = answer_text(answer, &mut line);
-    print(&line, end);
-    let parts = parts_of(answer);
-    write_nodes(nodes, parts.count);
+    print(STDOUT_FILENO, &line, end);
+    let report = report_of(answer);
+    write_nodes(nodes, report.count);
 }
 
 // Prints what decided an item's shifts, a line for each that there is, or the refusal.
-pub fn write_reasons(explanation: Explanation) {
+pub fn write_reasons(answer: WhyAnswer) {
     let mut line = [0u8; LINE_SPACE];
-    let parts = explained_parts(explanation);
-    if parts.number != 0 {
-        let end = refusal_text(parts.number, parts.place, &mut line);
-        print(&line, end);
+    let report = why_report(answer);
+    if report.number != 0 {
+        let end = refusal_text(report.number, report.place, &mut line);
+        print(STDOUT_FILENO, &line, end);
         return;
     }
-    let up = parts.up;
-    let down = parts.down;
+    let up = report.up;
+    let down = report.down;
     let first = shift_text(b"up ", up, &mut line);
-    print(&line, first);
+    print(STDOUT_FILENO, &line, first);
     let second = shift_text(b"down ", down, &mut line);
-    print(&line, second);
+    print(STDOUT_FILENO, &line, second);
 }
 
 // The first `count` nodes, as far as the buffer has them.
@@ -79,13 +76,7 @@ fn write_node(node: &[u8])
 {
     let mut line = [0u8; LINE_SPACE];
     let end = node_text(node, &mut line);
-    print(&line, end);
-}
-
-fn print(line: &[u8], end: usize) {
-    if end <= line.len() {
-        io::write_all(STDOUT_FILENO, &line[..end]);
-    }
+    print(STDOUT_FILENO, &line, end);
 }
 
 // Writes the first line of an answer at the front of the buffer, and gives its length.
@@ -93,12 +84,12 @@ pub fn answer_text(answer: Answer, out: &mut [u8]) -> usize
     requires { ⌜ 128 ≤ length (now out) ⌝ }
     ensures { λ r. ⌜ Written (answerText (answeredAs answer)) (now (out .entry)) (now (out .exit)) r ⌝ }
 {
-    let parts = parts_of(answer);
-    let size = parts.size;
-    if parts.number == 0 {
-        return sizes_text(size, parts.count, out);
+    let report = report_of(answer);
+    let size = report.size;
+    if report.number == 0 {
+        return sizes_text(size, report.count, out);
     }
-    refusal_text(parts.number, parts.place, out)
+    refusal_text(report.number, report.place, out)
 }
 
 fn sizes_text(size: Size, count: usize, out: &mut [u8]) -> usize
@@ -112,22 +103,13 @@ fn sizes_text(size: Size, count: usize, out: &mut [u8]) -> usize
     put_bytes(b"\n", out, d)
 }
 
-fn refusal_text(number: u8, place: usize, out: &mut [u8]) -> usize
-    requires { ⌜ 128 ≤ length (now out) ⌝ }
-    ensures { λ r. ⌜ Written (refusalText number place) (now (out .entry)) (now (out .exit)) r ⌝ }
-{
-    let a = put_number(b"refused ", of_count(number as u64), out, 0);
-    let b = put_number(b" at ", of_count(place as u64), out, a);
-    put_bytes(b"\n", out, b)
-}
-
 // Writes the line of a shift at the front of the buffer, and gives its length: 0 where there is no shift.
-pub fn shift_text(mark: &[u8], decided: Decided, out: &mut [u8]) -> usize
+pub fn shift_text(mark: &[u8], moved: ShiftReason, out: &mut [u8]) -> usize
     requires { ⌜ (length (now mark) ≤ 6) × (128 ≤ length (now out)) ⌝ }
-    ensures { λ r. ⌜ Written (shiftText (now (mark .entry)) (decidedAs decided)) (now (out .entry)) (now (out .exit)) r ⌝ }
+    ensures { λ r. ⌜ Written (shiftText (now (mark .entry)) (shiftReasonAs moved)) (now (out .entry)) (now (out .exit)) r ⌝ }
 {
-    let by = decided.by;
-    let shift = decided.shift;
+    let by = moved.by;
+    let shift = moved.shift;
     if is_there(by) {
         let a = put_bytes(mark, out, 0);
         let b = put_reason(by, out, a);
@@ -216,73 +198,8 @@ fn number_at(node: &[u8], at: usize) -> Number
     of_length(words::signed(words::word(node, at)))
 }
 
-fn of_length(length: Sp) -> Number
-    ensures { λ r. ⌜ numberText r ≡ textOf (length .0) ⌝ }
-{
-    let minus = length.less(Sp(0));
-    Number {
-        minus: minus,
-        size: magnitude(length),
-    }
-}
-
-// How far a length lies from zero.
-fn magnitude(length: Sp) -> u64
-    ensures { λ r. ⌜ r ≡ natAbs (length .0) ⌝ }
-{
-    if length.less(Sp(0)) {
-        let m = -1 - length.0;
-        m as u64 + 1
-    } else {
-        length.0 as u64
-    }
-}
-
 fn of_byte(byte: u8) -> Number
     ensures { λ r. ⌜ numberText r ≡ decimalOf byte ⌝ }
 {
     of_count(byte as u64)
-}
-
-fn of_count(n: u64) -> Number
-    ensures { λ r. ⌜ numberText r ≡ decimalOf n ⌝ }
-{
-    Number {
-        minus: false,
-        size: n,
-    }
-}
-
-// Writes a mark and a number at `at`, and gives the place behind them.
-fn put_number(mark: &[u8], n: Number, out: &mut [u8], at: usize) -> usize
-    requires { ⌜ at + length (now mark) + 21 ≤ length (now out) ⌝ }
-    ensures { λ r. ⌜ PutNear (length (now (mark .entry)) + 21) (now (mark .entry) ++ numberText n) (now (out .entry)) (now (out .exit)) at r ⌝ }
-{
-    let next = put_bytes(mark, out, at);
-    if n.minus {
-        let behind = put_bytes(b"-", out, next);
-        return put_decimal(n.size, out, behind);
-    }
-    put_decimal(n.size, out, next)
-}
-
-fn put_decimal(n: u64, out: &mut [u8], at: usize) -> usize
-    requires { ⌜ at + 20 ≤ length (now out) ⌝ }
-    ensures { λ r. ⌜ PutNear 20 (decimalOf n) (now (out .entry)) (now (out .exit)) at r ⌝ }
-{
-    let mut digits = [0u8; 20];
-    let k = io::decimal(n, &mut digits);
-    put_bytes(&digits[..k], out, at)
-}
-
-fn put_bytes(text: &[u8], out: &mut [u8], at: usize) -> usize
-    requires { ⌜ at + length (now text) ≤ length (now out) ⌝ }
-    ensures { λ r. ⌜ Put (now (text .entry)) (now (out .entry)) (now (out .exit)) at r ⌝ }
-{
-    let mut i = 0;
-    while i < text.len() {
-        out[at + i] = text[i];
-        i += 1;
-    }
-    at + i
 }

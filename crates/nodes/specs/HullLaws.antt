@@ -16,6 +16,7 @@ use lib.IntN.{ℤ, pos, negsuc, _+ℤ_}
 use lib.Signed.{ltZ, _≤ℤ_}
 use lib.Dec.{leb, ltb, leb·suc-suc}
 use borrow.Author.Tests.{ltb-false, leb-true, le-ltb, le-leb, not-true}
+use Rattle.laws.specs.Truths.{same-truth}
 use Rattle.scaled.specs.Length.{maxℤ, minℤ}
 use Rattle.scaled.specs.Signed.{Within, own, le-parts, parts-max, parts-min}
 use Rattle.scaled.specs.Linear.{#, _⊕_, greatest, least, eq-by, le-by, within-by}
@@ -88,11 +89,6 @@ within-true (negsuc n) t = let l = leb-true (suc n) greatestLength t in omega ar
 pub true-within : (z : ℤ) → Within greatestLength z → within z ≡ true
 true-within (pos n) h = le-leb n greatestLength (omega arith)
 true-within (negsuc n) h = le-leb (suc n) greatestLength (omega arith)
-
-same-truth : (p q : Bool) → (p ≡ true → q ≡ true) → (q ≡ true → p ≡ true) → p ≡ q
-same-truth true q f g = sym (f refl)
-same-truth false true f g = g refl
-same-truth false false f g = refl
 
 not-less : (m n : ℕ) → not (ltb m n) ≡ leb n m
 not-less m n =

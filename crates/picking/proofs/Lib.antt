@@ -1,3 +1,3 @@
 -- What the proofs of several functions use. Assumes nothing.
 mod PickingLaws
-mod ExplainingLaws
+mod WhyLaws

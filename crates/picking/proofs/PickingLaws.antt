@@ -14,38 +14,38 @@ use Prim.Native.Nat.{ℕ, zero, suc, _+_, _-_, _≤_, _<_}
 use native.Mathlib.Omega.{arith}
 use lib.Dec.{leb, ltb}
 use lib.ListN.{length, take, drop, length-take, length-drop}
-use lib.Seq.{drop-drop, take-take, take-all}
+use lib.Seq.{drop-drop}
 use denote.Enum.Declared.{tagOf}
 use types.Run.{OneOf, miss}
 use borrow.Author.Tests.{le-leb, lt-leb, lt-ltb, le-ltb, ltb-true, ltb-false}
+use Rattle.laws.specs.Lists.{take-within}
 use Rattle.scaled.specs.declared.Sp.{Sp}
 use Rattle.formula.specs.declared.Kind.{Kind}
-use Rattle.formula.specs.declared.Kind.the-variants.{Scripted, Fraction}
 use Rattle.formula.specs.declared.Opening.{Opening}
 use Rattle.formula.specs.declared.Opening.the-variants.{Fields, Kern, Restyle, Choice}
 use Rattle.formula.specs.declared.FieldHead.{FieldHead}
 use Rattle.formula.specs.declared.FieldHead.the-variants.{NoField, Empty, Symbol, Sublist, CutSublist}
 use Rattle.formula.proofs.FieldHead.{the-type}
-use Rattle.formula.specs.Tree.{Items, Item, Field, nil, cons, noad, empty, symbol, list, openingBytes, listOpeningBytes, itemsBytes, itemBytes, fieldBytes}
+use Rattle.formula.specs.Tree.{Items, Item, nil, openingBytes, listOpeningBytes, itemsBytes, itemBytes}
 use Rattle.formula.specs.Heads.{openingOf, fieldHead}
 use Rattle.formula.specs.Places.{Readable, treeOf, headBytes, contents, fieldOf, GoodField, hasThird, headAt, fieldEnd, second, third, end, listPlace, choiceLists, itemSize, fieldIn, thirdIn, listIn, itemOf, GoodFieldAt}
-use Rattle.formula.specs.Slices.{tail-part, field-part}
+use Rattle.formula.specs.Slices.{tail-part}
 use Rattle.formula.specs.HeadLaws.{head-fits, list-opening, opening-some, contents-shorter}
-use Rattle.formula.specs.PlacesLaws.{tree-none, Noad, noad-at, Chosen, choice-at, good-some, items-bytes, item-bytes, field-bytes}
+use Rattle.formula.specs.PlacesLaws.{tree-none, Noad, noad-at, choice-at, good-some, items-bytes, item-bytes, field-bytes, second-field, third-field}
 use Rattle.boxes.specs.declared.styles.Style.{Style}
 use Rattle.arrange.specs.Arrange.{firstStyle, secondStyle, thirdStyle}
-use Rattle.setting.specs.Setting.{taken, styleBehind}
+use Rattle.setting.specs.Setting.{taken, takenStart}
 use Rattle.setting.specs.Picked.{Picked, _orIn_, ifReached, pickIn, pickAt, pickField}
-use Rattle.setting.specs.PickedLaws.{pickIn-here, pickIn-later, pickIn-past, pickField-before, pickField-past, takenStart, pickAt-choice}
+use Rattle.setting.specs.PickedLaws.{pickIn-here, pickIn-later, pickField-before, pickField-past, pickAt-choice}
 use Rattle.walk.specs.declared.current.Span.{Span}
 use Rattle.walk.specs.declared.places.Sight.{Sight}
 use Rattle.walk.specs.Bounds.{longest}
 use Rattle.walk.specs.Seen.{part, listsBefore, TakenSpan, ItemSeen}
-use Rattle.walk.proofs.PlaceLaws.{Between, stepped, here, tree-is, next, next-some, next-between}
+use Rattle.walk.proofs.PlaceLaws.{Between, stepped, here, tree-is, next-between}
 use Rattle.walk.proofs.ChoiceLaws.{place-taken}
 use Rattle.picking.specs.declared.Step.{Step}
 use Rattle.picking.specs.declared.Step.the-variants as step
-use Rattle.picking.specs.Picking.{pickSpan, SpanIn, HeldSpan, enteredOf, pickHead, headPicked, HeadIs, Entered, spanOf, StepDone, behindOf, ShortStep, Spotted}
+use Rattle.picking.specs.Picking.{pickSpan, SpanIn, HeldSpan, enteredOf, pickHead, HeadIs, Entered, spanOf, StepDone, behindOf, ShortStep, Spotted}
 
 -- ---- a step into a span
 
@@ -239,13 +239,6 @@ module _ (u : Style) (s : List ℕ) (kind : Kind) (opens : openingOf s ≡ Field
   head-starts want is =
       record { kind = kind; opens = opens; readable = r; is = is ∙ ap (λ (o : Opening). pickAt u 0 (itemOf s o)) opens }
 
-  -- its fields stand one behind another
-  pub long-x : openingBytes kind + fieldBytes (fieldIn s (openingBytes kind)) ≡ second s kind
-  long-x = ap (λ (n : ℕ). openingBytes kind + n) (field-bytes s (openingBytes kind) (noad-here .x))
-
-  pub long-y : openingBytes kind + fieldBytes (fieldIn s (openingBytes kind)) + fieldBytes (fieldIn s (second s kind)) ≡ third s kind
-  long-y = ap₂ _+_ long-x (field-bytes s (second s kind) (noad-here .y))
-
   -- at its first byte
   pub step-here : (place : ℕ) → place ≡ 0 → StepDone (pickHead u place s) place s (step.Here u)
   step-here place e =
@@ -276,10 +269,11 @@ module _ (u : Style) (s : List ℕ) (kind : Kind) (opens : openingOf s ≡ Field
             ap₂ (λ (k m : ℕ).
             pickField (firstStyle kind u) (openingBytes kind) (suc n) (fieldIn s (openingBytes kind))
             orIn pickField (secondStyle kind u) k (suc n) (fieldIn s (second s kind))
-            orIn pickField (thirdStyle u) m (suc n) (thirdIn s (hasThird kind) (third s kind))) long-x long-y
+            orIn pickField (thirdStyle u) m (suc n) (thirdIn s (hasThird kind) (third s kind)))
+            (second-field s kind noad-here) (third-field s kind noad-here)
 
     x-past : second s kind ≤ place → inX ≡ none
-    x-past h = pickField-past (firstStyle kind u) (openingBytes kind) place _ (omega (arith, long-x))
+    x-past h = pickField-past (firstStyle kind u) (openingBytes kind) place _ (omega (arith, second-field s kind noad-here))
 
     y-past : third s kind ≤ place → inY ≡ none
     y-past h =
@@ -416,13 +410,6 @@ down-start u place s r =
       readable = rw whole r;
       is = ap₂ (λ (n : ℕ) (l : List ℕ). pickIn u n (treeOf l)) same (sym whole);
     }
-
--- a part of a part
-take-within : (k n N : ℕ) (s : List ℕ) → k + n ≤ N → take n (drop k (take N s)) ≡ take n (drop k s)
-take-within zero n N s h = take-take n N s (omega arith)
-take-within (suc k) n zero s h = absurd (omega arith)
-take-within (suc k) n (suc N) [] h = refl
-take-within (suc k) n (suc N) (a ∷ s) h = take-within k n N s (omega arith)
 
 module _ {u : Style} {place : ℕ} {s : List ℕ} {first end : ℕ} {current : Style} (d : Down u place s first end current) where
   abbrev inner : List ℕ

@@ -3,17 +3,17 @@
 --     SpanIn, HeldSpan       a span that can be entered; that of a field's items
 --     StepDone               a step from a list, or from an item at its head: what is wanted there is what is wanted where it leads
 --     PickDone               the item that is picked
---     ShapeDone, HeadExplained     the shape of a field; the reasons of the item at the head of some bytes
+--     ShapeDone, HeadReasonsAre     the shape of a field; the reasons of the item at the head of some bytes
 -- Assumes nothing.
 use mathlib.Core.Path.{_≡_}
-use mathlib.Core.Bool.{Bool, true, false}
+use mathlib.Core.Bool.{true, false}
 use mathlib.Core.List.{List}
 use mathlib.Core.Option.{Option, none, some}
 use Prim.Native.Nat.{ℕ, _+_, _-_, _≤_, _<_}
 use lib.Dec.{leb, ltb}
 use lib.ListN.{length, take, drop}
 use Rattle.font.specs.Font.{Font, fontWith}
-use Rattle.font.specs.Index.{Indexed}
+use Rattle.font_index.specs.Index.{Indexed}
 use Rattle.formula.specs.declared.Kind.{Kind}
 use Rattle.formula.specs.declared.Opening.the-variants.{Fields}
 use Rattle.formula.specs.Tree.{Items, Field, openingBytes}
@@ -24,8 +24,8 @@ use Rattle.boxes.specs.declared.Shape.{Shape}
 use Rattle.boxes.specs.Values.{parametersIn, shapeAs}
 use Rattle.boxes.specs.Bounds.{ModerateShape}
 use Rattle.arrange.specs.declared.Manner.{Manner}
-use Rattle.reasons.specs.declared.Explained.{Explained}
-use Rattle.reasons.specs.Values.{explainedAs}
+use Rattle.reasons.specs.declared.ItemReasons.{ItemReasons}
+use Rattle.reasons.specs.Values.{itemReasonsAs}
 use Rattle.setting.specs.Setting.{setField}
 use Rattle.setting.specs.Missing.{missingField, missingItems}
 use Rattle.setting.specs.Fitting.{fieldFits, itemsFit}
@@ -131,13 +131,13 @@ pub record ShapeDone (F : Font) (u : Style) (manner : Manner) (at : ℕ) (f : Fi
   pub moderate : ModerateShape r
   pub is : missingField F u manner at f ≡ none → fieldFits F u manner f ≡ true → shapeAs r ≡ setField F u manner f .shape
 
-abbrev pub HeadExplained : Font → Style → Kind → List ℕ → Explained → Type 0
-HeadExplained F u kind s r = Sound F (headPicked u kind s) → explainedAs r ≡ pickedReasons F (headPicked u kind s)
+abbrev pub HeadReasonsAre : Font → Style → Kind → List ℕ → ItemReasons → Type 0
+HeadReasonsAre F u kind s r = Sound F (headPicked u kind s) → itemReasonsAs r ≡ pickedReasons F (headPicked u kind s)
 
-abbrev pub ItemExplained : Font → Style → List ℕ → Explained → Type 0
-ItemExplained F u s r = (kind : Kind) → openingOf s ≡ Fields kind → HeadExplained F u kind s r
+abbrev pub ItemReasonsAre : Font → Style → List ℕ → ItemReasons → Type 0
+ItemReasonsAre F u s r = (kind : Kind) → openingOf s ≡ Fields kind → HeadReasonsAre F u kind s r
 
 -- the item that starts at a place of a list, if nothing is missing of the list and all in it fits
-abbrev pub PlaceExplained : Font → Style → ℕ → Items → Explained → Type 0
-PlaceExplained F u place l r =
-    missingItems F u l ≡ none → itemsFit F u l ≡ true → explainedAs r ≡ reasonsAt F u place l
+abbrev pub PlaceReasonsAre : Font → Style → ℕ → Items → ItemReasons → Type 0
+PlaceReasonsAre F u place l r =
+    missingItems F u l ≡ none → itemsFit F u l ≡ true → itemReasonsAs r ≡ reasonsAt F u place l

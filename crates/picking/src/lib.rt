@@ -11,7 +11,7 @@ ghost use Rattle.setting.specs.Picked.{pickIn};
 ghost use Rattle.walk.specs.Bounds.{longest};
 ghost use Rattle.picking.specs.Picking.{HeldSpan, enteredOf, behindOf, ShortStep, pickHead, StepDone, PickDone};
 
-pub mod explaining;
+pub mod why;
 
 use arrange::first_style;
 use arrange::second_style;
@@ -20,11 +20,11 @@ use boxes::styles::Style;
 use formula::FieldHead;
 use formula::Kind;
 use formula::Opening;
-use formula::heads::field_bytes;
-use formula::heads::field_head;
-use formula::heads::has_third;
-use formula::heads::opening;
-use formula::heads::opening_bytes;
+use formula_fields::field_bytes;
+use formula_fields::field_head;
+use formula_kinds::has_third;
+use formula_kinds::opening_bytes;
+use formula_openings::opening;
 use walk::current::Span;
 use walk::current::taken_span;
 use walk::places::look_at;

@@ -2,10 +2,9 @@
 -- through its stages one behind the other is true.
 --     same                  what is less neither way is equal
 --     corrected-shift       the shift, whatever is named
---     corrected-named       a correction that changed the shift is named
 --     corrected-kept        where it changed nothing all stays, the reason too
 --     by-its-test           what a test changes is what it gives where it holds
---     Staged                what is asked of the stages of a course
+--     Staged                what is asked of the stages of a shift
 --     true-by-stages        the reason that they give is true
 -- Assumes nothing.
 use mathlib.Core.Path.{_≡_, refl, sym, ap, _∙_}
@@ -19,8 +18,8 @@ use Rattle.scaled.specs.Signed.{above, below, own, parts-same}
 use Rattle.scaled.specs.Made.{Less, less}
 use Rattle.reasons.specs.declared.Reason.{Reason}
 use Rattle.reasons.specs.declared.Reason.the-variants.{None, Drop, Sigma, XHeight, Gap, Psi, Clearance}
-use Rattle.reasons.specs.Reasons.{Decided, decided, differs, corrected}
-use Rattle.reasons.specs.Courses.{Course, stage, order, Changed, True}
+use Rattle.reasons.specs.Reasons.{ShiftReason, shiftBy, differs, corrected}
+use Rattle.reasons.specs.Stages.{ShiftStages, stage, order, Changed, True}
 
 module _ {a b : ℤ} where
   pub same : ltZ a b ≡ false → ltZ b a ≡ false → a ≡ b
@@ -45,24 +44,21 @@ module _ {a b : ℤ} where
       go false true p q e = let h : Less b a true = less (sym q) in absurd (omega (arith, h .yes refl, ap above is, ap below is))
       go true g p q e = let h : Less a b true = less (sym p) in absurd (omega (arith, h .yes refl, ap above is, ap below is))
 
-module _ (name : Reason) (shift : ℤ) (before : Decided) where
-  by-change : (P : Decided → Type 0) → (((shift ≡ before .shift) → ⊥) → P (decided name shift)) → (shift ≡ before .shift → P before) →
+module _ (name : Reason) (shift : ℤ) (before : ShiftReason) where
+  by-change : (P : ShiftReason → Type 0) → (((shift ≡ before .shift) → ⊥) → P (shiftBy name shift)) → (shift ≡ before .shift → P before) →
       P (corrected name shift before)
   unfolding corrected
   by-change P f g = go (differs shift (before .shift)) refl
     where
-      go : (t : Bool) → differs shift (before .shift) ≡ t → P (elim t [ true ↦ decided name shift | false ↦ before ])
+      go : (t : Bool) → differs shift (before .shift) ≡ t → P (elim t [ true ↦ shiftBy name shift | false ↦ before ])
       go true e = f (not-equal e)
       go false e = g (equal e)
 
   pub corrected-shift : corrected name shift before .shift ≡ shift
-  corrected-shift = by-change (λ (d : Decided). d .shift ≡ shift) (λ e. refl) (λ e. sym e)
-
-  pub corrected-named : (shift ≡ before .shift → ⊥) → corrected name shift before .by ≡ name
-  corrected-named n = by-change (λ (d : Decided). d .by ≡ name) (λ e. refl) (λ e. absurd (n e))
+  corrected-shift = by-change (λ (d : ShiftReason). d .shift ≡ shift) (λ e. refl) (λ e. sym e)
 
   pub corrected-kept : shift ≡ before .shift → corrected name shift before ≡ before
-  corrected-kept is = by-change (λ (d : Decided). d ≡ before) (λ e. absurd (e is)) (λ e. refl)
+  corrected-kept is = by-change (λ (d : ShiftReason). d ≡ before) (λ e. absurd (e is)) (λ e. refl)
 
 -- ---- the stages of a shift
 
@@ -73,7 +69,7 @@ by-its-test f a b true h = refl
 by-its-test f a b false h = absurd (h refl)
 
 -- by is the candidate that is chosen, and name the correction before ψ
-pub record Staged (c : Course) (by name : Reason) : Type 0 where
+pub record Staged (c : ShiftStages) (by name : Reason) : Type 0 where
   pub candidate : stage by ≡ 0
   pub chosen-is : c .quantity by ≡ some (c .chosen)
   pub none-larger : (r : Reason) (z : ℤ) → stage r ≡ 0 → c .quantity r ≡ some z → z ≤ℤ c .chosen
@@ -99,8 +95,8 @@ same-quantity q {z} {shift} is e h = let same : shift ≡ z = cc in rw same (≤
 not-before : {r by : Reason} → r ≡ by → order r < order by → ⊥
 not-before is h = omega (arith, ap order is)
 
-module _ (c : Course) (by name : Reason) (s : Staged c by name) where
-  by-ψ : Changed (c .parted) (c .final) → True c (decided Psi (c .final))
+module _ (c : ShiftStages) (by name : Reason) (s : Staged c by name) where
+  by-ψ : Changed (c .parted) (c .final) → True c (shiftBy Psi (c .final))
   by-ψ changed =
       record {
         is = s .final-is changed;
@@ -111,7 +107,7 @@ module _ (c : Course) (by name : Reason) (s : Staged c by name) where
         third-named = (λ e. changed, λ h. refl);
       }
 
-  by-correction : Changed (c .chosen) (c .parted) → c .final ≡ c .parted → True c (decided name (c .parted))
+  by-correction : Changed (c .chosen) (c .parted) → c .final ≡ c .parted → True c (shiftBy name (c .parted))
   by-correction changed kept =
       let same : (r : Reason) (z : ℤ) → stage r ≡ stage name → c .quantity r ≡ some z → r ≡ name = λ r z e h. s .sole r z (e ∙ s .correction) h in
       record {
@@ -123,7 +119,7 @@ module _ (c : Course) (by name : Reason) (s : Staged c by name) where
         third-named = (λ e. absurd (omega (arith, s .correction)), λ h. absurd (h kept));
       }
 
-  by-candidate : c .parted ≡ c .chosen → c .final ≡ c .parted → True c (decided by (c .chosen))
+  by-candidate : c .parted ≡ c .chosen → c .final ≡ c .parted → True c (shiftBy by (c .chosen))
   by-candidate kept last =
       record {
         is = s .chosen-is;
@@ -134,9 +130,9 @@ module _ (c : Course) (by name : Reason) (s : Staged c by name) where
         third-named = (λ e. absurd (omega (arith, s .candidate)), λ h. absurd (h last));
       }
 
-  pub true-by-stages : True c (corrected Psi (c .final) (corrected name (c .parted) (decided by (c .chosen))))
+  pub true-by-stages : True c (corrected Psi (c .final) (corrected name (c .parted) (shiftBy by (c .chosen))))
   true-by-stages =
-      let first = decided by (c .chosen) in
+      let first = shiftBy by (c .chosen) in
       let second = corrected name (c .parted) first in
       let is = corrected-shift name (c .parted) first in
       by-change Psi (c .final) second (True c)

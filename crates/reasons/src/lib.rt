@@ -2,7 +2,7 @@
 use scaled::Sp;
 ghost use mathlib.Core.Path.{_≡_};
 ghost use Rattle.reasons.specs.Reasons as rule;
-ghost use Rattle.reasons.specs.Values.{decidedAs};
+ghost use Rattle.reasons.specs.Values.{shiftReasonAs};
 
 pub enum Reason {
     None,
@@ -15,39 +15,39 @@ pub enum Reason {
 }
 
 // A shift with its reason.
-pub struct Decided {
+pub struct ShiftReason {
     pub by: Reason,
     pub shift: Sp,
 }
 
 // Of the shift up and the shift down.
 pub struct Reasons {
-    pub up: Decided,
-    pub down: Decided,
+    pub up: ShiftReason,
+    pub down: ShiftReason,
 }
 
 // Of an item, where it has such shifts.
-pub enum Explained {
+pub enum ItemReasons {
     Nothing,
     By(Reasons),
 }
 
 // A shift that is not there.
-pub fn unshifted() -> Decided
-    ensures { λ r. ⌜ decidedAs r ≡ rule.unshifted ⌝ }
+pub fn unshifted() -> ShiftReason
+    ensures { λ r. ⌜ shiftReasonAs r ≡ rule.unshifted ⌝ }
 {
-    Decided {
+    ShiftReason {
         by: Reason::None,
         shift: Sp(0),
     }
 }
 
 // A stage that comes to this shift is named exactly if it changed the one before it.
-pub fn corrected(name: Reason, shift: Sp, before: Decided) -> Decided
-    ensures { λ r. ⌜ decidedAs r ≡ rule.corrected name (shift .0) (decidedAs before) ⌝ }
+pub fn corrected(name: Reason, shift: Sp, before: ShiftReason) -> ShiftReason
+    ensures { λ r. ⌜ shiftReasonAs r ≡ rule.corrected name (shift .0) (shiftReasonAs before) ⌝ }
 {
     if differs(shift, before.shift) {
-        Decided { by: name, shift }
+        ShiftReason { by: name, shift }
     } else {
         before
     }

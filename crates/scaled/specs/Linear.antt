@@ -16,7 +16,7 @@ use mir.Syntax.{w64}
 use mir.Val.{SFits, toZ, ofZ}
 use mir.ValLaws.{toZ-pos, toZ-ofZ}
 use Rattle.scaled.specs.Length.{maxℤ, minℤ, half, unitsInQuad, atQuad}
-use Rattle.scaled.specs.Signed.{above, below, Within, Parts, own, parts-is, parts-same, parts-le}
+use Rattle.scaled.specs.Signed.{above, below, Within, DifferenceOf, own, parts-is, parts-same, parts-le}
 use Rattle.scaled.specs.Signed.{parts-add, parts-sub, parts-neg, parts-times, parts-product, parts-max, parts-min}
 use Rattle.scaled.specs.Signed.{parts-half, parts-floor, parts-units, fits-parts, quot-floor}
 
@@ -109,7 +109,7 @@ Ok (units e f) = Ok e × Ok f
 Ok (word n) = n < 2 ^ 63
 Ok (stored e) = Ok e × Fit e
 
-pub sound : (e : Exp) → Ok e → Parts (den e) (hi e) (lo e)
+pub sound : (e : Exp) → Ok e → DifferenceOf (den e) (hi e) (lo e)
 sound (# z) o = own z
 sound (e ⊕ f) o = parts-add (sound e (o .0)) (sound f (o .1))
 sound (e ⊖ f) o = parts-sub (sound e (o .0)) (sound f (o .1))

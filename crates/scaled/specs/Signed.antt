@@ -2,7 +2,7 @@
 -- So a linear fact on ℤ is one on naturals, which `omega` proves. In order:
 --     above, below       the two naturals
 --     Within k z         −k ≤ z ≤ k, and `NotNegative z`: facts on the difference, which `omega` carries through sums
---     Parts z p n        z is p − n; `own`, that z is the difference of its own two
+--     DifferenceOf z p n        z is p − n; `own`, that z is the difference of its own two
 --     lt-test, le-test   a test of the order, on the parts
 --     parts-neg ..       for each operation, the parts of its result from those of its arguments
 --     parts-same         equality, and `le-parts`, `parts-le`, `lt-parts`, `parts-lt` the order, by the parts
@@ -40,10 +40,10 @@ pub record NotNegative (z : ℤ) : Type 0 where
   pub up : below z ≤ above z
 
 -- z is p − n
-pub record Parts (z : ℤ) (p n : ℕ) : Type 0 where
+pub record DifferenceOf (z : ℤ) (p n : ℕ) : Type 0 where
   pub parts : above z + n ≡ p + below z
 
-pub own : (z : ℤ) → Parts z (above z) (below z)
+pub own : (z : ℤ) → DifferenceOf z (above z) (below z)
 own z = record { parts = refl }
 
 -- one of the two is 0
@@ -58,25 +58,25 @@ by-test Q false f g = g refl
 
 -- ---- operations, at the arguments' own parts
 
-parts-subℕ : (a b : ℕ) → Parts (subℕ a b) a b
+parts-subℕ : (a b : ℕ) → DifferenceOf (subℕ a b) a b
 parts-subℕ a b =
-    by-test (λ (t : Bool). Parts (cond t (negsuc (b - suc a)) (pos (a - b))) a b) (ltb a b)
+    by-test (λ (t : Bool). DifferenceOf (cond t (negsuc (b - suc a)) (pos (a - b))) a b) (ltb a b)
     (λ e. omega (arith, ltb-true a b e))
     (λ e. omega (arith, ltb-false a b e))
 
-own-add : (a b : ℤ) → Parts (a +ℤ b) (above a + above b) (below a + below b)
+own-add : (a b : ℤ) → DifferenceOf (a +ℤ b) (above a + above b) (below a + below b)
 own-add (pos a) (pos b) = omega arith
 own-add (pos a) (negsuc b) = omega (arith, parts-subℕ a (suc b))
 own-add (negsuc a) (pos b) = omega (arith, parts-subℕ b (suc a))
 own-add (negsuc a) (negsuc b) = omega arith
 
-own-neg : (a : ℤ) → Parts (negℤ a) (below a) (above a)
+own-neg : (a : ℤ) → DifferenceOf (negℤ a) (below a) (above a)
 own-neg (pos zero) = omega arith
 own-neg (pos (suc n)) = omega arith
 own-neg (negsuc n) = omega arith
 
 own-product : (a b : ℤ) →
-    Parts (a *ℤ b) (above a * above b + below a * below b) (above a * below b + below a * above b)
+    DifferenceOf (a *ℤ b) (above a * above b + below a * below b) (above a * below b + below a * above b)
 own-product (pos a) (pos b) = omega arith
 own-product (pos a) (negsuc b) = omega (arith, own-neg (pos (a * suc b)))
 own-product (negsuc a) (pos b) = omega (arith, own-neg (pos (suc a * b)))
@@ -93,7 +93,7 @@ cross s t u v p n q m h k =
     omega arith
 
 -- rounded down, z / k + n is (z + n · k) / k, and below zero too
-floor-suc : (z : ℤ) (p n j : ℕ) → Parts z p n → Parts (shrZ z (suc j)) ((p + n * j) / suc j) n
+floor-suc : (z : ℤ) (p n j : ℕ) → DifferenceOf z p n → DifferenceOf (shrZ z (suc j)) ((p + n * j) / suc j) n
 floor-suc (pos m) p n j h =
     let s : p + n * j ≡ m + n * suc j = omega arith in
     omega (arith, ap (λ (x : ℕ). x / suc j) s, add-mul-div-right m n (zero-lt-suc j))
@@ -117,13 +117,13 @@ leb-moved x y u v e =
     (λ t. let h = leb-false x y t in sym (lt-leb u v (omega arith)))
 
 module _ {p n q m : ℕ} where
-  pub lt-test : {a b : ℤ} → Parts a p n → Parts b q m → ltZ a b ≡ ltb (p + m) (q + n)
+  pub lt-test : {a b : ℤ} → DifferenceOf a p n → DifferenceOf b q m → ltZ a b ≡ ltb (p + m) (q + n)
   lt-test {a = pos a} {b = pos b} h k = leb-moved (suc a) b (suc (p + m)) (q + n) (omega arith)
   lt-test {a = pos a} {b = negsuc b} h k = sym (le-ltb (p + m) (q + n) (omega arith))
   lt-test {a = negsuc a} {b = pos b} h k = sym (lt-ltb (p + m) (q + n) (omega arith))
   lt-test {a = negsuc a} {b = negsuc b} h k = leb-moved (suc b) a (suc (p + m)) (q + n) (omega arith)
 
-  pub le-test : {a b : ℤ} → Parts a p n → Parts b q m → leZ a b ≡ leb (p + m) (q + n)
+  pub le-test : {a b : ℤ} → DifferenceOf a p n → DifferenceOf b q m → leZ a b ≡ leb (p + m) (q + n)
   le-test {a = pos a} {b = pos b} h k = leb-moved a b (p + m) (q + n) (omega arith)
   le-test {a = pos a} {b = negsuc b} h k = sym (lt-leb (p + m) (q + n) (omega arith))
   le-test {a = negsuc a} {b = pos b} h k = sym (le-leb (p + m) (q + n) (omega arith))
@@ -131,60 +131,60 @@ module _ {p n q m : ℕ} where
 
 -- ---- the parts of each operation's result
 
-module _ {a : ℤ} {p n : ℕ} (h : Parts a p n) where
-  pub parts-neg : Parts (negℤ a) n p
+module _ {a : ℤ} {p n : ℕ} (h : DifferenceOf a p n) where
+  pub parts-neg : DifferenceOf (negℤ a) n p
   parts-neg = omega (arith, own-neg a)
 
-  pub parts-times : (k : ℕ) → Parts (a *ℤ pos k) (p * k) (n * k)
+  pub parts-times : (k : ℕ) → DifferenceOf (a *ℤ pos k) (p * k) (n * k)
   parts-times k = omega (arith, own-product a (pos k), ap (λ (x : ℕ). x * k) (h .parts))
 
-  pub parts-floor : (k : ℕ) → 0 < k → Parts (shrZ a k) ((p + n * (k - 1)) / k) n
+  pub parts-floor : (k : ℕ) → 0 < k → DifferenceOf (shrZ a k) ((p + n * (k - 1)) / k) n
   parts-floor zero l = absurd (omega arith)
   parts-floor (suc j) l =
       let e : suc j - 1 ≡ j = omega arith in
       rw e (floor-suc a p n j h)
 
-module _ {a b : ℤ} {p n q m : ℕ} (h : Parts a p n) (k : Parts b q m) where
-  pub parts-add : Parts (a +ℤ b) (p + q) (n + m)
+module _ {a b : ℤ} {p n q m : ℕ} (h : DifferenceOf a p n) (k : DifferenceOf b q m) where
+  pub parts-add : DifferenceOf (a +ℤ b) (p + q) (n + m)
   parts-add = omega (arith, own-add a b)
 
-  pub parts-sub : Parts (a -ℤ b) (p + m) (n + q)
+  pub parts-sub : DifferenceOf (a -ℤ b) (p + m) (n + q)
   parts-sub = omega (arith, own-add a (negℤ b), own-neg b)
 
-  pub parts-product : Parts (a *ℤ b) (p * q + n * m) (p * m + n * q)
+  pub parts-product : DifferenceOf (a *ℤ b) (p * q + n * m) (p * m + n * q)
   parts-product =
       omega (arith, own-product a b, cross (above a) (below a) (above b) (below b) p n q m (h .parts) (k .parts))
 
-  pub parts-max : Parts (maxℤ a b) (max (p + m) (q + n)) (n + m)
+  pub parts-max : DifferenceOf (maxℤ a b) (max (p + m) (q + n)) (n + m)
   unfolding maxℤ pick
   parts-max =
-      by-test (λ (t : Bool). Parts (pick t b a) (max (p + m) (q + n)) (n + m)) (ltZ a b)
+      by-test (λ (t : Bool). DifferenceOf (pick t b a) (max (p + m) (q + n)) (n + m)) (ltZ a b)
       (λ e. omega (arith, ltb-true (p + m) (q + n) (sym (lt-test h k) ∙ e)))
       (λ e. omega (arith, ltb-false (p + m) (q + n) (sym (lt-test h k) ∙ e)))
 
-  pub parts-min : Parts (minℤ a b) (min (p + m) (q + n)) (n + m)
+  pub parts-min : DifferenceOf (minℤ a b) (min (p + m) (q + n)) (n + m)
   unfolding minℤ pick
   parts-min =
-      by-test (λ (t : Bool). Parts (pick t b a) (min (p + m) (q + n)) (n + m)) (ltZ b a)
+      by-test (λ (t : Bool). DifferenceOf (pick t b a) (min (p + m) (q + n)) (n + m)) (ltZ b a)
       (λ e. omega (arith, ltb-true (q + n) (p + m) (sym (lt-test k h) ∙ e)))
       (λ e. omega (arith, ltb-false (q + n) (p + m) (sym (lt-test k h) ∙ e)))
 
-pub parts-half : {a : ℤ} {p n : ℕ} → Parts a p n → Parts (half a) ((p + 1 + n) / 2) n
+pub parts-half : {a : ℤ} {p n : ℕ} → DifferenceOf a p n → DifferenceOf (half a) ((p + 1 + n) / 2) n
 unfolding half
 parts-half h = omega (arith, parts-floor (parts-add h (own (pos 1))) 2 (lit< tt))
 
-pub parts-units : {a b : ℤ} {p n q m : ℕ} → Parts a p n → Parts b q m →
+pub parts-units : {a b : ℤ} {p n q m : ℕ} → DifferenceOf a p n → DifferenceOf b q m →
     let unit = (q + m * (unitsInQuad - 1)) / unitsInQuad in
-    Parts (atQuad a b) (p * unit + n * m) (p * m + n * unit)
+    DifferenceOf (atQuad a b) (p * unit + n * m) (p * m + n * unit)
 unfolding atQuad
 parts-units h k = parts-product h (parts-floor k unitsInQuad (lit< tt))
 
 -- ---- equality and the order
 
-pub parts-is : {a b : ℤ} {p n : ℕ} → a ≡ b → Parts b p n → Parts a p n
+pub parts-is : {a b : ℤ} {p n : ℕ} → a ≡ b → DifferenceOf b p n → DifferenceOf a p n
 parts-is e h = rw e h
 
-pub parts-same : {a b : ℤ} {p n q m : ℕ} → Parts a p n → Parts b q m → p + m ≡ q + n → a ≡ b
+pub parts-same : {a b : ℤ} {p n q m : ℕ} → DifferenceOf a p n → DifferenceOf b q m → p + m ≡ q + n → a ≡ b
 parts-same {a = pos a} {b = pos b} h k e = ap pos (omega arith)
 parts-same {a = pos a} {b = negsuc b} h k e = absurd (omega arith)
 parts-same {a = negsuc a} {b = pos b} h k e = absurd (omega arith)
@@ -205,7 +205,7 @@ module _ {a b : ℤ} where
 
 -- ---- 64 bits, and bounds
 
-pub fits-parts : {z : ℤ} {p n : ℕ} → Parts z p n → p < n + 2 ^ 63 → n ≤ p + 2 ^ 63 → SFits w64 z
+pub fits-parts : {z : ℤ} {p n : ℕ} → DifferenceOf z p n → p < n + 2 ^ 63 → n ≤ p + 2 ^ 63 → SFits w64 z
 fits-parts {z = pos a} h over under = omega arith
 fits-parts {z = negsuc a} h over under = omega arith
 

@@ -1,7 +1,4 @@
--- Superscripts and subscripts; candidates in the code; what decided a shift. Assumes nothing.
+-- Superscripts and subscripts (rule 18), and candidates for a shift in the code. Assumes nothing.
 pub mod Scripts
 pub mod Values
 pub mod Bounds
-pub mod Reasons
-pub mod Courses
-pub mod ReasonsLaws

@@ -1,5 +1,4 @@
 // Superscripts and subscripts (rules 18a to 18f). Each stage of a shift has a name; u, v and ψ are the rule's letters.
-pub mod explaining;
 
 use boxes::Arranged;
 use boxes::Offset;
@@ -80,21 +79,21 @@ fn drops(p: &Parameters, style: Style, n: Nucleus) -> Shifts
 }
 
 // The candidates for a shift: 18b to 18d say which there are, and take the greatest.
-struct Candidates {
+pub struct Candidates {
     // What the nucleus asks for by its drop.
-    dropped: Sp,
+    pub dropped: Sp,
     // The font's least shift.
-    least: Sp,
-    free: Free,
+    pub least: Sp,
+    pub free: Free,
 }
 
 // What keeps the script's other edge free, where a rule asks for that.
-enum Free {
+pub enum Free {
     Unasked,
     Asked(Sp),
 }
 
-fn greatest(c: Candidates) -> Sp
+pub fn greatest(c: Candidates) -> Sp
     ensures { λ r. ⌜ (r .0 ≡ rule.greatest (candidatesAs c)) × (CandidatesWithin 8 c → Within (words 8) (r .0)) ⌝ }
 {
     let shift = c.dropped.max(c.least);
@@ -106,7 +105,7 @@ fn greatest(c: Candidates) -> Sp
 }
 
 // 18b: a subscript y alone.
-fn subscript_candidates(p: &Parameters, style: Style, n: Nucleus, y: Size) -> Candidates
+pub fn subscript_candidates(p: &Parameters, style: Style, n: Nucleus, y: Size) -> Candidates
     requires { ⌜ ModerateNucleus n × Moderate y ⌝ }
     ensures { λ r. ⌜ (candidatesAs r ≡ subscriptCandidates (parametersIn (now (p .entry))) style (nucleusAs n) (sizeAs y)) × CandidatesWithin 8 r ⌝ }
 {
@@ -120,7 +119,7 @@ fn subscript_candidates(p: &Parameters, style: Style, n: Nucleus, y: Size) -> Ca
 }
 
 // 18c: a superscript x.
-fn superscript_candidates(p: &Parameters, style: Style, n: Nucleus, x: Size) -> Candidates
+pub fn superscript_candidates(p: &Parameters, style: Style, n: Nucleus, x: Size) -> Candidates
     requires { ⌜ ModerateNucleus n × Moderate x ⌝ }
     ensures { λ r. ⌜ (candidatesAs r ≡ superscriptCandidates (parametersIn (now (p .entry))) style (nucleusAs n) (sizeAs x)) × CandidatesWithin 8 r ⌝ }
 {
@@ -147,7 +146,7 @@ fn least_up(p: &Parameters, style: Style) -> Sp
 }
 
 // 18d: the subscript of a pair, at first.
-fn pair_candidates(p: &Parameters, style: Style, n: Nucleus) -> Candidates
+pub fn pair_candidates(p: &Parameters, style: Style, n: Nucleus) -> Candidates
     requires { ⌜ ModerateNucleus n ⌝ }
     ensures { λ r. ⌜ (candidatesAs r ≡ pairCandidates (parametersIn (now (p .entry))) style (nucleusAs n)) × CandidatesWithin 8 r ⌝ }
 {
@@ -160,7 +159,7 @@ fn pair_candidates(p: &Parameters, style: Style, n: Nucleus) -> Candidates
 }
 
 // 18c to 18e: superscript x and subscript y.
-fn pair_shifts(p: &Parameters, style: Style, n: Nucleus, x: Size, y: Size) -> Shifts
+pub fn pair_shifts(p: &Parameters, style: Style, n: Nucleus, x: Size, y: Size) -> Shifts
     requires { ⌜ ModerateNucleus n × Moderate x × Moderate y ⌝ }
     ensures { λ r. ⌜ (shiftsAs r ≡ pairShifts (parametersIn (now (p .entry))) style (nucleusAs n) (sizeAs x) (sizeAs y)) × ShiftsWithin 24 r ⌝ }
 {
@@ -191,7 +190,7 @@ fn spread(p: &Parameters, size: usize, x: Size, y: Size, t: Shifts) -> Shifts
 }
 
 // 18e: the free height between the superscript's bottom and the subscript's top.
-fn gap(x: Size, y: Size, t: Shifts) -> Sp
+pub fn gap(x: Size, y: Size, t: Shifts) -> Sp
     requires { ⌜ Moderate x × Moderate y × ShiftsWithin 8 t ⌝ }
     ensures { λ r. ⌜ r .0 ≡ rule.gap (sizeAs x) (sizeAs y) (t .up .0) (t .down .0) ⌝ }
 {
@@ -199,7 +198,7 @@ fn gap(x: Size, y: Size, t: Shifts) -> Sp
 }
 
 // 18e: the v with which the gap is four rules.
-fn gap_down(p: &Parameters, size: usize, x: Size, y: Size, u: Sp) -> Sp
+pub fn gap_down(p: &Parameters, size: usize, x: Size, y: Size, u: Sp) -> Sp
     requires { ⌜ (size < 3) × Moderate x × Moderate y × Within (words 8) (u .0) ⌝ }
     ensures { λ r. ⌜ (r .0 ≡ gapDown (parametersIn (now (p .entry))) size (sizeAs x) (sizeAs y) (u .0)) × Within (words 14) (r .0) ⌝ }
 {
@@ -243,7 +242,7 @@ fn four_fifths_x_height(p: &Parameters, size: usize) -> Sp
     parameter(p, size, X_HEIGHT).times(4).fifth()
 }
 
-fn four_rules(p: &Parameters, size: usize) -> Sp
+pub fn four_rules(p: &Parameters, size: usize) -> Sp
     requires { ⌜ size < 3 ⌝ }
     ensures { λ r. ⌜ (r .0 ≡ fourRules (parametersIn (now (p .entry))) size) × Within (words 4) (r .0) ⌝ }
 {

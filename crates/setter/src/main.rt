@@ -4,7 +4,7 @@
 use files::CLIENT_SPACE;
 use files::TABLE_SPACE;
 use files::read_table;
-use font::INDEX_WORDS;
+use font_index::INDEX_WORDS;
 use layout::Answer;
 use libc::STDIN_FILENO;
 

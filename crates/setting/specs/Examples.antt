@@ -41,7 +41,7 @@ use Rattle.spacing.specs.Classes.{Neighbour, changedClass}
 use Rattle.spacing.specs.Spacing.{spaceBefore}
 use Rattle.nodes.specs.Nodes.{glyph, moved}
 use Rattle.nodes.specs.Bounds.{nodesFit}
-use Rattle.setting.specs.Setting.{Box, Line, found, enlarged, symbolIn, emptyPart, signsIn, itemBox, emptyBox, start, beside, kerned, placed, styleAfter, styleBehind, nextClass, classAt, noSides, fenceSides, setItems, setItem, setField, setList}
+use Rattle.setting.specs.Setting.{Box, Line, found, enlarged, symbolIn, emptyFieldBox, signsIn, itemBox, emptyBox, start, beside, kerned, placed, styleAfter, styleBehind, nextClass, classAt, noSides, fenceSides, setItems, setItem, setField, setList}
 use Rattle.setting.specs.Missing.{later, absentAt, missingItems, missingItem, missingField}
 use Rattle.setting.specs.Fitting.{boxFits, itemsFit, itemFits, listFits}
 
@@ -93,7 +93,7 @@ unfolding neighbours setItems setItem placed styleAfter styleBehind nextClass cl
 sees-out-of-choice F = refl
 
 abbrev atomBox : Font → Style → Class → Box
-atomBox F s class = itemBox F s (Scripted (Atom class DisplayOnly)) emptyPart emptyPart emptyPart
+atomBox F s class = itemBox F s (Scripted (Atom class DisplayOnly)) emptyFieldBox emptyFieldBox emptyFieldBox
 
 space-of-its-style : (F : Font) →
     setItems F none (start none (plain Text)) (cons (atom Ord) (cons (restyle 4) (cons (atom Rel) nil))) .box

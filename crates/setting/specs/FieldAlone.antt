@@ -8,11 +8,12 @@
 use mathlib.Core.Path.{_≡_, refl}
 use mathlib.Core.Bool.{Bool, true, _&&_, and-eq-true-iff}
 use mathlib.Core.Option.{Option, none, some}
-use Prim.Native.Nat.{ℕ, _+_}
+use Prim.Native.Nat.{ℕ}
 use native.Mathlib.Omega.{arith}
 use Rattle.font.specs.Font.{Font}
 use Rattle.formula.specs.declared.Kind.{Kind}
-use Rattle.formula.specs.Tree.{Items, Item, Field, nil, cons, noad, list, openingBytes, itemBytes, fieldBytes}
+use Rattle.formula.specs.Tree.{Items, Item, Field, nil, cons, noad, list, openingBytes, itemBytes}
+use Rattle.formula.specs.Places.{secondField, thirdField}
 use Rattle.boxes.specs.declared.styles.Level.{Level}
 use Rattle.boxes.specs.declared.styles.Level.the-variants.{Display, Text, Script, Scriptscript}
 use Rattle.boxes.specs.declared.styles.Style.{Style}
@@ -48,10 +49,9 @@ module _ (F : Font) where
   -- the three fields of an item
   abbrev pub FieldsThere : Style → Kind → Field → Field → Field → Type 0
   FieldsThere s kind x y z =
-      let second = openingBytes kind + fieldBytes x in
       (missingField F (firstStyle kind s) (firstManner kind s) (openingBytes kind) x ≡ none)
-      × (missingField F (secondStyle kind s) Plain second y ≡ none)
-      × (missingField F (thirdStyle s) Plain (second + fieldBytes y) z ≡ none)
+      × (missingField F (secondStyle kind s) Plain (secondField kind x) y ≡ none)
+      × (missingField F (thirdStyle s) Plain (thirdField kind x y) z ≡ none)
 
   pub fields-there : (s : Style) (kind : Kind) (x y z : Field) → missingItem F s (noad kind x y z) ≡ none → FieldsThere s kind x y z
   unfolding missingItem

@@ -21,14 +21,14 @@ use Rattle.boxes.specs.Boxes.{Size, box, Offset, Arranged, at}
 use Rattle.arrange.specs.declared.Manner.the-variants.{Plain}
 use Rattle.arrange.specs.Arrange.{firstStyle, secondStyle, thirdStyle, firstManner}
 use Rattle.nodes.specs.Nodes.{Node}
-use Rattle.setting.specs.Setting.{Box, Part, Line, styleBehind, nextClass, classAt, emptyBox, start, movedTo, ownNodes, itemNodes, arrangedIn, itemBox, placed, Sides, noSides, sidesOf, closed, setItems, setItem, setField, setList}
+use Rattle.setting.specs.Setting.{Box, FieldBox, Line, styleBehind, nextClass, classAt, emptyBox, start, movedBy, ownNodes, itemNodes, arrangedIn, itemBox, placed, Sides, noSides, sidesOf, closed, setItems, setItem, setField, setList}
 use Rattle.setting.specs.SettingLaws.{taken-all, setItems-style}
-use Rattle.setting.specs.Frames.{Frame, movedBy, framed, bare, nest, framed-bare, framed-nest}
+use Rattle.setting.specs.Frames.{Frame, framed, bare, nest, framed-bare, framed-nest}
 use Rattle.setting.specs.Paths.{Arm, inFirst, inSecond, inThird, holding, fieldStyle, fieldManner, itemsBefore, itemsAfter, Step, holder, listWith, itemStyle, stepStyle, stepSides, Path, whole, into, fill, styleAt, sidesAt}
 use Rattle.setting.specs.Lines.{setItems-join, spot-in-place}
 
-abbrev pub listPart : Box → Part
-listPart b = record { shape = box (b .size); nodes = b .nodes }
+abbrev pub listFieldBox : Box → FieldBox
+listFieldBox b = record { shape = box (b .size); nodes = b .nodes }
 
 abbrev pub sized : Size → List Node → Box
 sized size nodes = record { size = size; nodes = nodes }
@@ -37,23 +37,23 @@ sized size nodes = record { size = size; nodes = nodes }
 
 -- the three fields of an item in the style s
 module _ (F : Font) (s : Style) (kind : Kind) where
-  abbrev pub firstPart : Field → Part
-  firstPart x = setField F (firstStyle kind s) (firstManner kind s) x
+  abbrev pub firstBox : Field → FieldBox
+  firstBox x = setField F (firstStyle kind s) (firstManner kind s) x
 
-  abbrev pub secondPart : Field → Part
-  secondPart y = setField F (secondStyle kind s) Plain y
+  abbrev pub secondBox : Field → FieldBox
+  secondBox y = setField F (secondStyle kind s) Plain y
 
-  abbrev pub thirdPart : Field → Part
-  thirdPart z = setField F (thirdStyle s) Plain z
+  abbrev pub thirdBox : Field → FieldBox
+  thirdBox z = setField F (thirdStyle s) Plain z
 
   -- what the rules make of it: the list is its size to them
   abbrev pub arrangedAround : Arm → Size → Arranged
   arrangedAround (inFirst y z) size =
-      arrangedIn F s kind (box size) (secondPart y .shape) (thirdPart z .shape)
+      arrangedIn F s kind (box size) (secondBox y .shape) (thirdBox z .shape)
   arrangedAround (inSecond x z) size =
-      arrangedIn F s kind (firstPart x .shape) (box size) (thirdPart z .shape)
+      arrangedIn F s kind (firstBox x .shape) (box size) (thirdBox z .shape)
   arrangedAround (inThird x y) size =
-      arrangedIn F s kind (firstPart x .shape) (secondPart y .shape) (box size)
+      arrangedIn F s kind (firstBox x .shape) (secondBox y .shape) (box size)
 
   -- its own nodes, and those of its other fields, around the list's
   abbrev pub itemFrame : Arm → Size → Frame
@@ -62,32 +62,32 @@ module _ (F : Font) (s : Style) (kind : Kind) where
       record {
         before = ownNodes (a .own .before);
         distance = a .first;
-        after = ownNodes (a .own .behind) ++ movedTo (a .second) (secondPart y .nodes) ++ movedTo (a .third) (thirdPart z .nodes);
+        after = ownNodes (a .own .behind) ++ movedBy (a .second) (secondBox y .nodes) ++ movedBy (a .third) (thirdBox z .nodes);
       }
   itemFrame (inSecond x z) size =
       let a = arrangedAround (inSecond x z) size in
       record {
-        before = ownNodes (a .own .before) ++ movedTo (a .first) (firstPart x .nodes) ++ ownNodes (a .own .behind);
+        before = ownNodes (a .own .before) ++ movedBy (a .first) (firstBox x .nodes) ++ ownNodes (a .own .behind);
         distance = a .second;
-        after = movedTo (a .third) (thirdPart z .nodes);
+        after = movedBy (a .third) (thirdBox z .nodes);
       }
   itemFrame (inThird x y) size =
       let a = arrangedAround (inThird x y) size in
       record {
         before =
             ownNodes (a .own .before)
-            ++ movedTo (a .first) (firstPart x .nodes)
+            ++ movedBy (a .first) (firstBox x .nodes)
             ++ ownNodes (a .own .behind)
-            ++ movedTo (a .second) (secondPart y .nodes);
+            ++ movedBy (a .second) (secondBox y .nodes);
         distance = a .third;
         after = [];
       }
 
   -- the item around a list of the box b: the list stands in it as a part of that size
   abbrev pub itemAround : Arm → Box → Box
-  itemAround (inFirst y z) b = itemBox F s kind (listPart b) (secondPart y) (thirdPart z)
-  itemAround (inSecond x z) b = itemBox F s kind (firstPart x) (listPart b) (thirdPart z)
-  itemAround (inThird x y) b = itemBox F s kind (firstPart x) (secondPart y) (listPart b)
+  itemAround (inFirst y z) b = itemBox F s kind (listFieldBox b) (secondBox y) (thirdBox z)
+  itemAround (inSecond x z) b = itemBox F s kind (firstBox x) (listFieldBox b) (thirdBox z)
+  itemAround (inThird x y) b = itemBox F s kind (firstBox x) (secondBox y) (listFieldBox b)
 
   item-size : (g : Arm) (b : Box) → itemAround g b .size ≡ arrangedAround g (b .size) .size
   unfolding itemBox

@@ -9,15 +9,12 @@ use lib.IntN.{pos, _+ℤ_}
 use Rattle.boxes.specs.Boxes.{Offset, origin}
 use Rattle.nodes.specs.Nodes.{Node, moved}
 use Rattle.nodes.specs.NodeLaws.{moved-append, moved-twice, moved-nowhere}
+use Rattle.setting.specs.Setting.{movedBy}
 
 pub record Frame : Type 0 where
   pub before : List Node
   pub distance : Offset
   pub after : List Node
-
--- every node moved by one distance
-abbrev pub movedBy : Offset → List Node → List Node
-movedBy d ns = moved (d .across) (d .up) ns
 
 abbrev pub framed : Frame → List Node → List Node
 framed f ns = f .before ++ (movedBy (f .distance) ns ++ f .after)

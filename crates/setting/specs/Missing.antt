@@ -6,13 +6,14 @@
 use mathlib.Core.Option.{Option, none, some}
 use Prim.Native.Nat.{ℕ, _+_}
 use Rattle.font.specs.Font.{Font}
-use Rattle.formula.specs.Tree.{Items, Item, Field, nil, cons, noad, kern, restyle, choice, empty, symbol, list, openingBytes, choiceOpeningBytes, listOpeningBytes, sublistBytes, itemsBytes, itemBytes, fieldBytes}
+use Rattle.formula.specs.Tree.{Items, Item, Field, nil, cons, noad, kern, restyle, choice, empty, symbol, list, openingBytes, listOpeningBytes, itemsBytes, itemBytes}
+use Rattle.formula.specs.Places.{secondField, thirdField}
 use Rattle.boxes.specs.declared.styles.Style.{Style}
 use Rattle.boxes.specs.Styles.{fontSize}
 use Rattle.arrange.specs.declared.Manner.{Manner}
 use Rattle.arrange.specs.declared.Manner.the-variants.{Plain}
 use Rattle.arrange.specs.Arrange.{firstStyle, secondStyle, thirdStyle, firstManner}
-use Rattle.setting.specs.Setting.{Symbol, symbolIn, isEnlarged, taken, styleBehind}
+use Rattle.setting.specs.Setting.{Symbol, symbolIn, isEnlarged, taken, styleBehind, takenStart}
 
 -- the earlier of two places, where the first stands earlier in the formula
 abbrev pub _orElse_ : Option ℕ → Option ℕ → Option ℕ
@@ -36,18 +37,13 @@ unfoldable mutual
 
   pub missingItem : Font → Style → Item → Option ℕ
   missingItem F s (noad kind x y z) =
-      let second = openingBytes kind + fieldBytes x in
-      let third = second + fieldBytes y in
       missingField F (firstStyle kind s) (firstManner kind s) (openingBytes kind) x
-      orElse missingField F (secondStyle kind s) Plain second y
-      orElse missingField F (thirdStyle s) Plain third z
+      orElse missingField F (secondStyle kind s) Plain (secondField kind x) y
+      orElse missingField F (thirdStyle s) Plain (thirdField kind x y) z
   missingItem F s (kern n) = none
   missingItem F s (restyle number) = none
   missingItem F s (choice d t sc ss) =
-      let second = choiceOpeningBytes + sublistBytes (itemsBytes d) in
-      let third = second + sublistBytes (itemsBytes t) in
-      let fourth = third + sublistBytes (itemsBytes sc) in
-      later (taken s choiceOpeningBytes second third fourth + listOpeningBytes (itemsBytes (taken s d t sc ss)))
+      later (takenStart s d t sc ss)
       (taken s (missingItems F s d) (missingItems F s t) (missingItems F s sc) (missingItems F s ss))
 
   -- a field whose kind byte stands at a place of its item

@@ -12,7 +12,8 @@
 -- Assumes nothing.
 use Prim.Native.Nat.{ℕ, _+_}
 use Rattle.formula.specs.declared.Kind.{Kind}
-use Rattle.formula.specs.Tree.{Items, Item, Field, nil, cons, noad, choice, list, openingBytes, choiceOpeningBytes, listOpeningBytes, sublistBytes, itemsBytes, fieldBytes}
+use Rattle.formula.specs.Tree.{Items, Item, Field, nil, cons, noad, choice, list, openingBytes, choiceOpeningBytes, listOpeningBytes, itemsBytes}
+use Rattle.formula.specs.Places.{secondField, thirdField, secondList, thirdList, fourthList}
 use Rattle.boxes.specs.declared.styles.Level.{Level}
 use Rattle.boxes.specs.declared.styles.Level.the-variants.{Display, Text, Script, Scriptscript}
 use Rattle.boxes.specs.declared.styles.Style.{Style}
@@ -47,8 +48,8 @@ fieldManner kind (inThird x y) s = Plain
 -- the place of the field's kind byte in the item
 abbrev pub fieldPlace : Kind → Arm → ℕ
 fieldPlace kind (inFirst y z) = openingBytes kind
-fieldPlace kind (inSecond x z) = openingBytes kind + fieldBytes x
-fieldPlace kind (inThird x y) = openingBytes kind + fieldBytes x + fieldBytes y
+fieldPlace kind (inSecond x z) = secondField kind x
+fieldPlace kind (inThird x y) = thirdField kind x y
 
 -- ---- where an item stands in a list
 
@@ -66,10 +67,9 @@ choiceWith Scriptscript l a b c = choice a b c l
 -- the place of that list's kind byte in the choice
 abbrev pub listPlace : Level → Items → Items → Items → ℕ
 listPlace Display a b c = choiceOpeningBytes
-listPlace Text a b c = choiceOpeningBytes + sublistBytes (itemsBytes a)
-listPlace Script a b c = choiceOpeningBytes + sublistBytes (itemsBytes a) + sublistBytes (itemsBytes b)
-listPlace Scriptscript a b c =
-    choiceOpeningBytes + sublistBytes (itemsBytes a) + sublistBytes (itemsBytes b) + sublistBytes (itemsBytes c)
+listPlace Text a b c = secondList a
+listPlace Script a b c = thirdList a b
+listPlace Scriptscript a b c = fourthList a b c
 
 pub data Spot : Type 0 where
   among : Items → Items → Spot  -- the items before and after

@@ -3,7 +3,7 @@
 --     pickIn          the one that starts at a place of a list, if one does: the place lies in one item of the list, and is that item's
 --                     first byte, or lies in a list that the item holds
 --     pickedReasons, reasonsAt     what decided its shifts, from the shapes that the setter gives its fields
---     pickedCourses   what its shifts go through
+--     pickedStages   what its shifts go through
 -- As in the reading, a place within a list counts from the list's first byte, and a place within an item from the item's. Of a choice only
 -- the list taken is looked into, and the style is that current at each item.
 -- Assumes nothing.
@@ -13,17 +13,18 @@ use Prim.Native.Nat.{ℕ, zero, suc, _+_, _-_}
 use lib.Dec.{leb, ltb}
 use Rattle.font.specs.Font.{Font}
 use Rattle.formula.specs.declared.Kind.{Kind}
-use Rattle.formula.specs.Tree.{Items, Item, Field, nil, cons, noad, kern, restyle, choice, empty, symbol, list, openingBytes, choiceOpeningBytes, listOpeningBytes, sublistBytes, itemsBytes, itemBytes, fieldBytes}
+use Rattle.formula.specs.Tree.{Items, Item, Field, nil, cons, noad, kern, restyle, choice, empty, symbol, list, openingBytes, listOpeningBytes, itemsBytes, itemBytes}
+use Rattle.formula.specs.Places.{secondField, thirdField}
 use Rattle.boxes.specs.declared.styles.Style.{Style}
 use Rattle.boxes.specs.Parameters.{Parameters}
 use Rattle.boxes.specs.Boxes.{Shape}
 use Rattle.delimiters.specs.Delimiters.{Signs}
 use Rattle.arrange.specs.declared.Manner.the-variants.{Plain}
 use Rattle.arrange.specs.Arrange.{firstStyle, secondStyle, thirdStyle, firstManner}
-use Rattle.arrange.specs.Reasons.{reasons, courses}
+use Rattle.arrange.specs.Reasons.{reasons, itemStages}
 use Rattle.reasons.specs.Reasons.{Reasons}
-use Rattle.reasons.specs.Courses.{Courses}
-use Rattle.setting.specs.Setting.{taken, styleBehind, signsIn, setField}
+use Rattle.reasons.specs.Stages.{BothStages}
+use Rattle.setting.specs.Setting.{taken, styleBehind, signsIn, setField, takenStart}
 
 pub record Picked : Type 0 where
   pub style : Style
@@ -59,18 +60,13 @@ unfoldable mutual
   pub pickAt : Style → ℕ → Item → Option Picked
   pickAt s zero (noad kind x y z) = some (picked s kind x y z)
   pickAt s (suc n) (noad kind x y z) =
-      let second = openingBytes kind + fieldBytes x in
-      let third = second + fieldBytes y in
       pickField (firstStyle kind s) (openingBytes kind) (suc n) x
-      orIn pickField (secondStyle kind s) second (suc n) y
-      orIn pickField (thirdStyle s) third (suc n) z
+      orIn pickField (secondStyle kind s) (secondField kind x) (suc n) y
+      orIn pickField (thirdStyle s) (thirdField kind x y) (suc n) z
   pickAt s place (kern n) = none
   pickAt s place (restyle number) = none
   pickAt s place (choice d t sc ss) =
-      let second = choiceOpeningBytes + sublistBytes (itemsBytes d) in
-      let third = second + sublistBytes (itemsBytes t) in
-      let fourth = third + sublistBytes (itemsBytes sc) in
-      let start = taken s choiceOpeningBytes second third fourth + listOpeningBytes (itemsBytes (taken s d t sc ss)) in
+      let start = takenStart s d t sc ss in
       let n = place - start in
       ifReached (leb start place) (taken s (pickIn s n d) (pickIn s n t) (pickIn s n sc) (pickIn s n ss))
 
@@ -94,8 +90,8 @@ ofPicked f F q =
 unfoldable pub pickedReasons : Font → Picked → Option Reasons
 pickedReasons F q = ofPicked reasons F q
 
-unfoldable pub pickedCourses : Font → Picked → Courses
-pickedCourses F q = ofPicked courses F q
+unfoldable pub pickedStages : Font → Picked → BothStages
+pickedStages F q = ofPicked itemStages F q
 
 unfoldable pub reasonsAt : Font → Style → ℕ → Items → Option Reasons
 reasonsAt F s place l = elim (pickIn s place l) [ none ↦ none | some q ↦ pickedReasons F q ]

@@ -9,7 +9,7 @@
 -- Assumes nothing.
 use mathlib.Core.Path.{_≡_, refl, sym, ap, subst, _∙_}
 use mathlib.Core.Logic.{_⊎_, inl, inr, ⊎-elim}
-use mathlib.Core.Bool.{Bool, true, false, _&&_, and-eq-true-iff}
+use mathlib.Core.Bool.{Bool, true, false, and-eq-true-iff}
 use mathlib.Core.Option.{Option, none, some}
 use Prim.Native.Nat.{ℕ, zero, suc, _+_, _-_, _≤_, _<_}
 use native.Mathlib.Omega.{arith}
@@ -17,8 +17,7 @@ use lib.Dec.{leb, ltb}
 use lib.IntN.{negℤ}
 use borrow.Author.Tests.{lt-ltb, le-ltb, lt-leb, le-leb, ltb-true, ltb-false}
 use Rattle.font.specs.Font.{Font}
-use Rattle.formula.specs.declared.Kind.{Kind}
-use Rattle.formula.specs.Tree.{Items, Item, Field, nil, cons, noad, kern, restyle, choice, empty, symbol, list, openingBytes, choiceOpeningBytes, listOpeningBytes, sublistBytes, itemsBytes, itemBytes, fieldBytes}
+use Rattle.formula.specs.Tree.{Items, Item, Field, nil, cons, noad, kern, restyle, choice, empty, symbol, list, openingBytes, listOpeningBytes, itemsBytes, itemBytes, fieldBytes}
 use Rattle.boxes.specs.declared.styles.Level.{Level}
 use Rattle.boxes.specs.declared.styles.Level.the-variants.{Display, Text, Script, Scriptscript}
 use Rattle.boxes.specs.declared.styles.Style.{Style}
@@ -29,13 +28,13 @@ use Rattle.arrange.specs.declared.Manner.the-variants.{Plain}
 use Rattle.arrange.specs.Arrange.{firstStyle, secondStyle, thirdStyle, firstManner}
 use Rattle.arrange.specs.ReasonsLaws.{raised, lowered, reasons-true, used}
 use Rattle.reasons.specs.Reasons.{Reasons}
-use Rattle.reasons.specs.Courses.{AllTrue}
-use Rattle.setting.specs.Setting.{taken, styleBehind, arrangedIn, sidesOf, setField, setList}
-use Rattle.setting.specs.SettingLaws.{taken-all, missingItem-choice, itemFits-choice}
-use Rattle.setting.specs.Missing.{_orElse_, later, missingItems, missingItem, missingField}
+use Rattle.reasons.specs.Stages.{AllTrue}
+use Rattle.setting.specs.Setting.{taken, styleBehind, arrangedIn, sidesOf, setField, setList, takenStart}
+use Rattle.setting.specs.SettingLaws.{taken-all}
+use Rattle.setting.specs.Missing.{later, missingItems, missingItem, missingField}
 use Rattle.setting.specs.Fitting.{boxFits, itemsFit, itemFits, fieldFits}
-use Rattle.setting.specs.FieldAlone.{neither-missing, none-of-three-missing, not-later, all-true, fields-there, fields-fit}
-use Rattle.setting.specs.Picked.{Picked, picked, _orIn_, ifReached, pickIn, pickAt, pickField, pickedReasons, pickedCourses, reasonsAt}
+use Rattle.setting.specs.FieldAlone.{neither-missing, not-later, all-true, fields-there, fields-fit}
+use Rattle.setting.specs.Picked.{Picked, picked, _orIn_, ifReached, pickIn, pickAt, pickField, pickedReasons, pickedStages, reasonsAt}
 
 -- ---- where the place lies
 
@@ -73,14 +72,6 @@ module _ (s : Style) (at place : ℕ) where
       let start = at + listOpeningBytes (itemsBytes l) in
       rw (le-leb start place (omega arith)) (pickIn-past s (place - start) l (omega arith))
 
--- where the items of the list that a choice takes stand
-abbrev pub takenStart : Style → Items → Items → Items → Items → ℕ
-takenStart s d t sc ss =
-    let second = choiceOpeningBytes + sublistBytes (itemsBytes d) in
-    let third = second + sublistBytes (itemsBytes t) in
-    let fourth = third + sublistBytes (itemsBytes sc) in
-    taken s choiceOpeningBytes second third fourth + listOpeningBytes (itemsBytes (taken s d t sc ss))
-
 module _ (s : Style) (place : ℕ) (d t sc ss : Items) where
   pub pickAt-choice : let start = takenStart s d t sc ss in
       pickAt s place (choice d t sc ss) ≡ ifReached (leb start place) (pickIn s (place - start) (taken s d t sc ss))
@@ -105,9 +96,9 @@ pub record Sound (F : Font) (q : Picked) : Type 0 where
   pub present : missingItem F (q .style) (noad (q .kind) (q .first) (q .second) (q .third)) ≡ none
   pub fits : itemFits F (q .style) (noad (q .kind) (q .first) (q .second) (q .third)) ≡ true
 
-either : (a b : Option Picked) {q : Picked} → a orIn b ≡ some q → (a ≡ some q) ⊎ (b ≡ some q)
-either none b e = inr e
-either (some x) b e = inl e
+orIn-some : (a b : Option Picked) {q : Picked} → a orIn b ≡ some q → (a ≡ some q) ⊎ (b ≡ some q)
+orIn-some none b e = inr e
+orIn-some (some x) b e = inl e
 
 reached : (t : Bool) (a : Option Picked) {q : Picked} → ifReached t a ≡ some q → a ≡ some q
 reached true a e = e
@@ -161,8 +152,8 @@ module _ (F : Font) where
         (λ h.
         ⊎-elim (λ k. picked-in-field (secondStyle kind s) Plain second _ (suc n) y (ms .1) (fs .1) k)
         (λ k. picked-in-field (thirdStyle s) Plain third _ (suc n) z (ms .2) (fs .2) k)
-        (either b c h))
-        (either a (b orIn c) e)
+        (orIn-some b c h))
+        (orIn-some a (b orIn c) e)
     picked-within s place (kern n) m f e = let z : _≡_ {A = ℕ} 0 1 = cc in absurd (omega arith)
     picked-within s place (restyle n) m f e = let z : _≡_ {A = ℕ} 0 1 = cc in absurd (omega arith)
     picked-within s place (choice d t sc ss) m f e =
@@ -192,12 +183,12 @@ pickedArranged F q =
 
 -- what makes the reasons of an item true
 pub record Because (F : Font) (q : Picked) (r : Reasons) : Type 0 where
-  pub all-true : AllTrue (pickedCourses F q) r
+  pub all-true : AllTrue (pickedStages F q) r
   pub up-used : raised (q .kind) (pickedArranged F q) ≡ r .up .shift
   pub down-used : lowered (q .kind) (pickedArranged F q) ≡ negℤ (r .down .shift)
 
 pub picked-because : (F : Font) (q : Picked) (r : Reasons) → pickedReasons F q ≡ some r → Because F q r
-unfolding pickedReasons pickedCourses
+unfolding pickedReasons pickedStages
 picked-because F q r e =
     let there = used (F .parameter) (q .style) (q .kind) _ _ _ _ r e in
     record { all-true = reasons-true (F .parameter) (q .style) (q .kind) _ _ _ _ r e; up-used = there .0; down-used = there .1 }

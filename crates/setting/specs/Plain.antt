@@ -12,6 +12,7 @@ use Prim.Native.Nat.{ℕ, _+_}
 use Rattle.font.specs.Font.{Font}
 use Rattle.formula.specs.declared.Class.{Class}
 use Rattle.formula.specs.Tree.{Items, Item, Field, nil, cons, noad, kern, restyle, choice, empty, symbol, list, openingBytes, holdsList, listOpeningBytes, itemsBytes, itemBytes, fieldBytes}
+use Rattle.formula.specs.Places.{secondField, thirdField}
 use Rattle.boxes.specs.declared.styles.Style.{Style}
 use Rattle.boxes.specs.Styles.{fontSize}
 use Rattle.spacing.specs.Classes.{Neighbour, classOf, changedClass}
@@ -20,9 +21,9 @@ use Rattle.boxes.specs.Boxes.{box}
 use Rattle.arrange.specs.declared.Manner.{Manner}
 use Rattle.arrange.specs.declared.Manner.the-variants.{Plain as Plainly}
 use Rattle.arrange.specs.Arrange.{firstStyle, secondStyle, thirdStyle, firstManner}
-use Rattle.setting.specs.Setting.{Box, Part, Line, symbolIn, emptyPart, symbolPart, itemBox, styleBehind, nextClass, classAt, emptyBox, beside, kerned, placed, Sides, noSides, sidesOf, isEnlarged, start, closed, setItems, setItem, setField, setList}
+use Rattle.setting.specs.Setting.{Box, FieldBox, Line, symbolIn, emptyFieldBox, symbolFieldBox, itemBox, styleBehind, nextClass, classAt, emptyBox, beside, kerned, placed, Sides, noSides, sidesOf, isEnlarged, start, closed, setItems, setItem, setField, setList}
 use Rattle.setting.specs.SettingLaws.{heldSides, first-sides}
-use Rattle.setting.specs.FieldInPlace.{listPart}
+use Rattle.setting.specs.FieldInPlace.{listFieldBox}
 use Rattle.setting.specs.Missing.{_orElse_, later, absentAt, missingItems, missingItem, missingField}
 use Rattle.setting.specs.Fitting.{boxFits, itemsFit, itemFits, fieldFits, listFits}
 
@@ -79,10 +80,10 @@ unfoldable mutual
   setPlainItem F s right l (restyle number) = l
   setPlainItem F s right l (choice d t sc ss) = l
 
-  pub setPlainField : Font → Style → Bool → Field → Part
-  setPlainField F s enlarge empty = emptyPart
+  pub setPlainField : Font → Style → Bool → Field → FieldBox
+  setPlainField F s enlarge empty = emptyFieldBox
   setPlainField F s enlarge (symbol family code) =
-      symbolPart (fontSize s) family (symbolIn F (fontSize s) enlarge family code)
+      symbolFieldBox (fontSize s) family (symbolIn F (fontSize s) enlarge family code)
   setPlainField F s enlarge (list l) =
       let b = setPlainItems F s none (record { left = none; box = emptyBox }) l .box in
       record { shape = box (b .size); nodes = b .nodes }
@@ -182,8 +183,8 @@ module _ (F : Font) where
     field-as-before s manner empty h e = refl
     field-as-before s manner (symbol family code) h e = refl
     field-as-before s manner (list l) h e =
-        ap (λ (sides : Sides). listPart (closed F s (sides .right) (setItems F (sides .right) (start (sides .left) s) l))) e
-        ∙ ap (λ (m : Line). listPart (m .box)) (items-as-before s none (record { left = none; box = emptyBox }) l h)
+        ap (λ (sides : Sides). listFieldBox (closed F s (sides .right) (setItems F (sides .right) (start (sides .left) s) l))) e
+        ∙ ap (λ (m : Line). listFieldBox (m .box)) (items-as-before s none (record { left = none; box = emptyBox }) l h)
 
   pub set-as-before : (s : Style) (l : Items) → Plain l → setList F noSides s l ≡ setPlain F s l
   unfolding setList setPlain
@@ -200,10 +201,9 @@ module _ (F : Font) where
 
     missing-item : (s : Style) (i : Item) → PlainItem i → missingItem F s i ≡ missingPlainItem F s i
     missing-item s (noad kind x y z) h =
-        let second = openingBytes kind + fieldBytes x in
         ap₂ _orElse_ (missing-field (firstStyle kind s) (firstManner kind s) (openingBytes kind) x (h .0))
-        (ap₂ _orElse_ (missing-field (secondStyle kind s) Plainly second y (h .1))
-        (missing-field (thirdStyle s) Plainly (second + fieldBytes y) z (h .2)))
+        (ap₂ _orElse_ (missing-field (secondStyle kind s) Plainly (secondField kind x) y (h .1))
+        (missing-field (thirdStyle s) Plainly (thirdField kind x y) z (h .2)))
     missing-item s (kern n) h = refl
     missing-item s (restyle number) h = absurd h
     missing-item s (choice d t sc ss) h = absurd h

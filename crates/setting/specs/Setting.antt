@@ -11,7 +11,7 @@
 use mathlib.Core.Bool.{Bool, true, false}
 use mathlib.Core.List.{List, [], _∷_, _++_}
 use mathlib.Core.Option.{Option, none, some}
-use Prim.Native.Nat.{ℕ}
+use Prim.Native.Nat.{ℕ, _+_}
 use lib.IntN.{ℤ, pos, _+ℤ_}
 use Rattle.scaled.specs.Length.{maxℤ}
 use Rattle.font.specs.Font.{Font, Metrics}
@@ -22,7 +22,8 @@ use Rattle.formula.specs.declared.Base.{Base}
 use Rattle.formula.specs.declared.Base.the-variants.{Atom, Over, Under, Root, Fence}
 use Rattle.formula.specs.declared.Kind.{Kind}
 use Rattle.formula.specs.declared.Kind.the-variants.{Scripted, Fraction}
-use Rattle.formula.specs.Tree.{Items, Item, Field, nil, cons, noad, kern, restyle, choice, empty, symbol, list}
+use Rattle.formula.specs.Tree.{Items, Item, Field, nil, cons, noad, kern, restyle, choice, empty, symbol, list, choiceOpeningBytes, listOpeningBytes, itemsBytes}
+use Rattle.formula.specs.Places.{secondList, thirdList, fourthList}
 use Rattle.boxes.specs.declared.styles.Level.the-variants.{Display, Text, Script, Scriptscript}
 use Rattle.boxes.specs.declared.styles.Style.{Style}
 use Rattle.boxes.specs.Styles.{styleOf, fontSize}
@@ -68,16 +69,16 @@ symbolIn F size enlarge family code = enlarged F size family enlarge (found code
 
 -- ---- a field alone
 
-pub record Part : Type 0 where
+pub record FieldBox : Type 0 where
   pub shape : Shape
   pub nodes : List Node
 
-abbrev pub emptyPart : Part
-emptyPart = record { shape = nothing; nodes = [] }
+abbrev pub emptyFieldBox : FieldBox
+emptyFieldBox = record { shape = nothing; nodes = [] }
 
-unfoldable pub symbolPart : ℕ → ℕ → Option Symbol → Part
-symbolPart size family none = emptyPart
-symbolPart size family (some s) =
+unfoldable pub symbolFieldBox : ℕ → ℕ → Option Symbol → FieldBox
+symbolFieldBox size family none = emptyFieldBox
+symbolFieldBox size family (some s) =
     record { shape = char (s .metrics); nodes = glyph (pos 0) (pos 0) size family (s .code) ∷ [] }
 
 -- ---- the sign of a root and the delimiters of a fence, which go by the shape of the first field; whether there are any does not
@@ -116,8 +117,9 @@ hasSigns F s (Fraction bar) = unsigned
 
 -- ---- an item, at its own reference point: its own nodes stand before and behind field 1, and fields 2 and 3 behind them
 
-abbrev pub movedTo : Offset → List Node → List Node
-movedTo p ns = moved (p .across) (p .up) ns
+-- every node moved by one distance
+abbrev pub movedBy : Offset → List Node → List Node
+movedBy p ns = moved (p .across) (p .up) ns
 
 abbrev pub ownNode : OwnNode → Node
 ownNode (ruled r) = rule (r .corner .across) (r .corner .up) (r .width) (r .thickness)
@@ -127,19 +129,19 @@ unfoldable pub ownNodes : List OwnNode → List Node
 ownNodes [] = []
 ownNodes (o ∷ os) = ownNode o ∷ ownNodes os
 
-unfoldable pub itemNodes : Arranged → Part → Part → Part → List Node
+unfoldable pub itemNodes : Arranged → FieldBox → FieldBox → FieldBox → List Node
 itemNodes a x y z =
     ownNodes (a .own .before)
-    ++ movedTo (a .first) (x .nodes)
+    ++ movedBy (a .first) (x .nodes)
     ++ ownNodes (a .own .behind)
-    ++ movedTo (a .second) (y .nodes)
-    ++ movedTo (a .third) (z .nodes)
+    ++ movedBy (a .second) (y .nodes)
+    ++ movedBy (a .third) (z .nodes)
 
 -- what the rules make of three shapes
 abbrev pub arrangedIn : Font → Style → Kind → Shape → Shape → Shape → Arranged
 arrangedIn F s kind x y z = arrange (F .parameter) s kind (signsIn F s kind x) x y z
 
-unfoldable pub itemBox : Font → Style → Kind → Part → Part → Part → Box
+unfoldable pub itemBox : Font → Style → Kind → FieldBox → FieldBox → FieldBox → Box
 itemBox F s kind x y z =
     let a = arrangedIn F s kind (x .shape) (y .shape) (z .shape) in
     record { size = a .size; nodes = itemNodes a x y z }
@@ -153,6 +155,13 @@ restyled s number = elim (styleOf number) [ none ↦ s | some new ↦ new ]
 -- C4: of four, that of the style, prime aside
 abbrev pub taken : {A : Type 0} → Style → A → A → A → A → A
 taken s d t sc ss = elim (s .level) [ Display ↦ d | Text ↦ t | Script ↦ sc | Scriptscript ↦ ss ]
+
+-- where that list stands in the choice, and where its items start
+abbrev pub takenPlace : Style → Items → Items → Items → ℕ
+takenPlace s d t sc = taken s choiceOpeningBytes (secondList d) (thirdList d t) (fourthList d t sc)
+
+abbrev pub takenStart : Style → Items → Items → Items → Items → ℕ
+takenStart s d t sc ss = takenPlace s d t sc + listOpeningBytes (itemsBytes (taken s d t sc ss))
 
 -- the style behind items, and behind an item, from the style before
 unfoldable mutual
@@ -274,10 +283,10 @@ unfoldable mutual
   setItem F right l (choice d t sc ss) =
       taken (l .style) (setItems F right l d) (setItems F right l t) (setItems F right l sc) (setItems F right l ss)
 
-  pub setField : Font → Style → Manner → Field → Part
-  setField F s manner empty = emptyPart
+  pub setField : Font → Style → Manner → Field → FieldBox
+  setField F s manner empty = emptyFieldBox
   setField F s manner (symbol family code) =
-      symbolPart (fontSize s) family (symbolIn F (fontSize s) (isEnlarged manner) family code)
+      symbolFieldBox (fontSize s) family (symbolIn F (fontSize s) (isEnlarged manner) family code)
   setField F s manner (list l) =
       let sides = sidesOf manner in
       let b = closed F s (sides .right) (setItems F (sides .right) (start (sides .left) s) l) in

@@ -6,18 +6,20 @@
 --     styleBehind-choice, classAt-choice, setItem-choice, missingItem-choice, itemFits-choice
 --                      a choice is asked for what its taken list is
 --     setItem-style, setItems-style     the style of a line behind an item, and behind items, goes by them and the style before
+--     closed-nodes     the space at a list's end is no node
 -- Assumes nothing.
 use mathlib.Core.Path.{_≡_, refl, sym, ap, ap₂, _∙_}
 use mathlib.Core.Bool.{Bool, true, false}
 use mathlib.Core.List.{List, [], _∷_}
-use Prim.Native.Nat.{suc, _+_}
+use mathlib.Core.Option.{none, some}
+use Prim.Native.Nat.{suc}
 use lib.ListN.{length}
 use Rattle.font.specs.Font.{Font}
 use Rattle.formula.specs.declared.Base.the-variants.{Atom, Over, Under, Root, Fence}
 use Rattle.formula.specs.declared.Kind.{Kind}
 use Rattle.formula.specs.declared.Kind.the-variants.{Scripted, Fraction}
 use Rattle.formula.specs.Heads.{isOp}
-use Rattle.formula.specs.Tree.{Items, Item, nil, cons, noad, kern, restyle, choice, choiceOpeningBytes, listOpeningBytes, sublistBytes, itemsBytes, holdsList}
+use Rattle.formula.specs.Tree.{Items, Item, nil, cons, noad, kern, restyle, choice, holdsList}
 use Rattle.boxes.specs.declared.styles.Level.{Level}
 use Rattle.boxes.specs.declared.styles.Level.the-variants.{Display, Text, Script, Scriptscript}
 use Rattle.boxes.specs.declared.styles.Style.{Style}
@@ -27,7 +29,7 @@ use Rattle.delimiters.specs.DelimiterLaws.{whichFound, found-anyway}
 use Rattle.spacing.specs.Classes.{Neighbour}
 use Rattle.arrange.specs.declared.Manner.the-variants.{Plain}
 use Rattle.arrange.specs.Arrange.{opManner, firstManner}
-use Rattle.setting.specs.Setting.{signsIn, hasSigns, ownNodes, Sides, noSides, fenceSides, sidesOf, taken, styleAfter, styleBehind, nextClass, classAt, Line, placed, setItems, setItem}
+use Rattle.setting.specs.Setting.{signsIn, hasSigns, ownNodes, Sides, noSides, fenceSides, sidesOf, taken, styleAfter, styleBehind, nextClass, classAt, Line, placed, closed, setItems, setItem, takenStart}
 use Rattle.setting.specs.Missing.{later, missingItems, missingItem}
 use Rattle.setting.specs.Fitting.{itemsFit, itemFits}
 
@@ -97,12 +99,7 @@ unfolding setItem
 setItem-choice F right line d t sc ss = sym (taken-all (setItems F right line) (line .style) refl refl refl refl)
 
 pub missingItem-choice : (F : Font) (s : Style) (d t sc ss : Items) →
-    let second = choiceOpeningBytes + sublistBytes (itemsBytes d) in
-    let third = second + sublistBytes (itemsBytes t) in
-    let fourth = third + sublistBytes (itemsBytes sc) in
-    missingItem F s (choice d t sc ss)
-    ≡ later (taken s choiceOpeningBytes second third fourth + listOpeningBytes (itemsBytes (taken s d t sc ss)))
-    (missingItems F s (taken s d t sc ss))
+    missingItem F s (choice d t sc ss) ≡ later (takenStart s d t sc ss) (missingItems F s (taken s d t sc ss))
 unfolding missingItem
 missingItem-choice F s d t sc ss = ap (later _) (sym (taken-all (missingItems F s) s refl refl refl refl))
 
@@ -133,3 +130,9 @@ module _ (F : Font) where
     setItem-style right line (choice d t sc ss) =
         taken-all (λ (m : Line). m .style) (line .style) (setItems-style right line d) (setItems-style right line t)
         (setItems-style right line sc) (setItems-style right line ss)
+
+-- ---- a list's end
+
+pub closed-nodes : (F : Font) (s : Style) (right : Neighbour) (line : Line) → closed F s right line .nodes ≡ line .box .nodes
+closed-nodes F s none line = refl
+closed-nodes F s (some class) line = refl

@@ -9,11 +9,9 @@ use lib.Dec.{T, eqb, ltb, eqb→eq, ltb→lt}
 use lib.ListN.{getD}
 use Rattle.formula.specs.declared.Class.{Class}
 use Rattle.formula.specs.declared.Class.the-variants.{Ord, Op, Bin, Rel, Open, Close, Punct, Inner}
-use Rattle.spacing.specs.Spacing.{Entry, column, chart, units}
+use Rattle.formula.specs.Heads.{classes, classNumber}
+use Rattle.spacing.specs.Spacing.{Entry, chart, units}
 use Rattle.spacing.specs.Values.{Digits}
-
-abbrev classes : List Class
-classes = Ord ∷ Op ∷ Bin ∷ Rel ∷ Open ∷ Close ∷ Punct ∷ Inner ∷ []
 
 abbrev every : (Class → Bool) → List Class → Bool
 every f [] = true
@@ -29,19 +27,19 @@ at f [] t o k = o
 at f (class ∷ l) t o zero = split (f class) (every f l) t .0
 at f (class ∷ l) t o (suc k) = at f l (split (f class) (every f l) t .1) o k
 
-at-column : (class : Class) → getD classes (column class) Ord ≡ class
-at-column Ord = refl
-at-column Op = refl
-at-column Bin = refl
-at-column Rel = refl
-at-column Open = refl
-at-column Close = refl
-at-column Punct = refl
-at-column Inner = refl
+at-number : (class : Class) → getD classes (classNumber class) Ord ≡ class
+at-number Ord = refl
+at-number Op = refl
+at-number Bin = refl
+at-number Rel = refl
+at-number Open = refl
+at-number Close = refl
+at-number Punct = refl
+at-number Inner = refl
 
 at-each : (f : Class → Bool) → T (every f classes) → (class : Class) → T (f class)
 at-each f t class =
-    rw at-column at (at f classes t (split (f Ord) _ t .0) (column class))
+    rw at-number at (at f classes t (split (f Ord) _ t .0) (classNumber class))
 
 abbrev are-digits : ℕ → Entry → Bool
 are-digits x e = eqb (x / 10) (units true e) && (eqb (x % 10) (units false e) && ltb x 60)
@@ -54,12 +52,12 @@ digits x e t =
 
 -- the table has the chart's digits at each pair of classes
 abbrev right-at : List (List ℕ) → Class → Class → Bool
-right-at table left right = are-digits (getD (getD table (column left) []) (column right) 0) (chart left right)
+right-at table left right = are-digits (getD (getD table (classNumber left) []) (classNumber right) 0) (chart left right)
 
 abbrev pub right : List (List ℕ) → Bool
 right table = every (λ (left : Class). every (right-at table left) classes) classes
 
 pub right-entry : (table : List (List ℕ)) → T (right table) → (left right : Class) →
-    Digits (getD (getD table (column left) []) (column right) 0) (chart left right)
+    Digits (getD (getD table (classNumber left) []) (classNumber right) 0) (chart left right)
 right-entry table t l r =
     digits _ _ (at-each (right-at table l) (at-each (λ (l : Class). every (right-at table l) classes) t l) r)

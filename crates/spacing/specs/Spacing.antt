@@ -9,6 +9,7 @@ use lib.ListN.{getD}
 use Rattle.scaled.specs.Length.{atQuad}
 use Rattle.formula.specs.declared.Class.{Class}
 use Rattle.formula.specs.declared.Class.the-variants.{Ord, Op, Bin, Rel, Open, Close, Punct, Inner}
+use Rattle.formula.specs.Heads.{classNumber}
 use Rattle.boxes.specs.declared.styles.Style.{Style}
 use Rattle.boxes.specs.Styles.{isLarge, fontSize}
 use Rattle.spacing.specs.Classes.{Neighbour}
@@ -30,18 +31,8 @@ row Close = ·0· ∷ ·1· ∷ [2] ∷ [3] ∷ ·0· ∷ ·0· ∷ ·0· ∷ [1
 row Punct = [1] ∷ [1] ∷ ·*· ∷ [1] ∷ [1] ∷ [1] ∷ [1] ∷ [1] ∷ []
 row Inner = [1] ∷ ·1· ∷ [2] ∷ [3] ∷ [1] ∷ ·0· ∷ [1] ∷ [1] ∷ []
 
-abbrev pub column : Class → ℕ
-column Ord = 0
-column Op = 1
-column Bin = 2
-column Rel = 3
-column Open = 4
-column Close = 5
-column Punct = 6
-column Inner = 7
-
 unfoldable pub chart : Class → Class → Entry
-chart left right = getD (row left) (column right) ·*·
+chart left right = getD (row left) (classNumber right) ·*·
 
 -- thin, medium and thick spaces, in math units
 abbrev pub thinUnits : ℕ

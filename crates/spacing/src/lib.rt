@@ -14,6 +14,7 @@ use scaled::Sp;
 ghost use mathlib.Core.Path.{_≡_};
 ghost use Prim.Native.Nat.{_<_, _^_};
 ghost use Rattle.scaled.specs.Signed.{Within};
+ghost use Rattle.formula.specs.Heads.{classNumber};
 ghost use Rattle.spacing.specs.Spacing as spacing;
 ghost use Rattle.spacing.specs.Spacing.{chart, spaceBefore};
 ghost use Rattle.boxes.specs.Values.{parametersIn};
@@ -59,7 +60,7 @@ fn entry(left: Class, right: Class) -> u8
 }
 
 fn column(class: Class) -> usize
-    ensures { λ r. ⌜ (r ≡ spacing.column class) × (r < 8) ⌝ }
+    ensures { λ r. ⌜ (r ≡ classNumber class) × (r < 8) ⌝ }
 {
     match class {
         Class::Ord => 0,

@@ -1,15 +1,18 @@
 // Reads the bytes of a formula from standard input, with the names of names.tab in the working folder, and writes its typed text to standard
 // output; or, to standard error, why it does not.
 
+use eqn_calls::report_of;
 use files::NAME_SPACE;
 use files::read_needed;
-use files::write_front;
-use files::write_refusal;
+use formula::FORMULA_LIMIT;
+use libc::STDERR_FILENO;
 use libc::STDIN_FILENO;
-use typing::parts_of;
+use libc::STDOUT_FILENO;
+use texts::print;
+use texts::write_refusal;
 
 // One byte more than the longest formula, so that a longer one is seen.
-const FORMULA_SPACE: usize = 131_073;
+const FORMULA_SPACE: usize = FORMULA_LIMIT + 1;
 
 // The longest text that the program writes, as long as the longest that `eqn` takes.
 const TEXT_SPACE: usize = 131_072;
@@ -24,10 +27,10 @@ fn main() {
 
 fn show<'a>(names: &'a [u8], formula: &'a [u8]) {
     let mut text = [0u8; TEXT_SPACE];
-    let parts = parts_of(typing::write(names, formula, &mut text));
-    if parts.number == 0 {
-        write_front(&text, parts.bytes);
+    let report = report_of(eqn_calls::write(names, formula, &mut text));
+    if report.number == 0 {
+        print(STDOUT_FILENO, &text, report.bytes);
     } else {
-        write_refusal(parts.number, parts.place);
+        write_refusal(STDERR_FILENO, report.number, report.place);
     }
 }

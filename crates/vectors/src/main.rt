@@ -1,16 +1,16 @@
 // Runs test cases through the library and writes what the thin programs would write for each, with the library's own limit on a
-// formula's length. In each file of cases but pages.bin and typed.bin, which are described in pages.rt and texts.rt:
+// formula's length. In each file of cases but pages.bin and typed.bin, which are described in pages.rt and typed.rt:
 //     'T' or 'C'    a four-byte length and a table of ours or of a client's, which holds from there on; both are empty at first
 //     'F' or 'L'    a style, a length of two bytes or of four, and a formula to be set
-//     'W'           as 'F', and a four-byte place, of an item whose shifts are to be explained
+//     'W'           as 'F', and a four-byte place, of an item whose shifts are asked for
 
 mod pages;
-mod texts;
+mod typed;
 
 ghost use Prim.Native.Nat.{_≤_};
 ghost use lib.ListN.{length};
-use font::INDEX_WORDS;
-use layout::explaining::why;
+use font_index::INDEX_WORDS;
+use layout::why::why;
 
 // A case that is longer is cut.
 const TABLE_SPACE: usize = 50_000;
@@ -27,7 +27,7 @@ fn main() {
     run_file(b"cases.bin");
     run_file(b"reasons.bin");
     pages::run_file();
-    texts::run_file();
+    typed::run_file();
 }
 
 fn run_file(name: &[u8]) {
@@ -76,7 +76,7 @@ fn run_case<'a>(
     let size = read_formula(fd, letter, formula);
     if letter == b'W' {
         let place = read_word(fd) as usize;
-        explain(style, table, client, &formula[..size], place);
+        show_reasons(style, table, client, &formula[..size], place);
     } else {
         show(style, table, client, &formula[..size]);
     }
@@ -152,7 +152,7 @@ fn show<'a>(style: u8, table: &'a [u8], client: &'a [u8], formula: &[u8]) {
     listing::write_answer(answer, &nodes);
 }
 
-fn explain<'a>(style: u8, table: &'a [u8], client: &'a [u8], formula: &[u8], place: usize) {
+fn show_reasons<'a>(style: u8, table: &'a [u8], client: &'a [u8], formula: &[u8], place: usize) {
     let mut index = [0u64; INDEX_WORDS];
     let mut client_index = [0u64; INDEX_WORDS];
     listing::write_reasons(why(

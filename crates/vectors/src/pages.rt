@@ -7,7 +7,9 @@ use crate::read_byte;
 use crate::read_long;
 use crate::read_word;
 use dvi::Answer;
+use dvi::report_of;
 use libc::STDOUT_FILENO;
+use texts::write_refusal;
 
 // A case that is longer is cut.
 const CASE_SPACE: usize = 16_384;
@@ -60,12 +62,12 @@ fn show(letter: u8, bytes: &[u8], room: usize, result: &mut [u8]) {
 }
 
 fn write_answer(answer: Answer, result: &[u8]) {
-    match answer {
-        Answer::Accepted(size) => write_front(result, size),
-        Answer::BadNodes => write_text(b"refused 16 at 0\n"),
-        Answer::OutsideProfile => write_text(b"refused 17 at 0\n"),
-        Answer::NoRoom => write_text(b"refused 18 at 0\n"),
+    let report = report_of(answer);
+    if report.number == 0 {
+        write_front(result, report.bytes);
+        return;
     }
+    write_refusal(STDOUT_FILENO, report.number, report.place);
 }
 
 pub fn write_front(result: &[u8], size: usize) {
@@ -107,6 +109,6 @@ fn digit(n: u8) -> u8
     b'a' + (n - 10)
 }
 
-pub fn write_text(text: &[u8]) {
+fn write_text(text: &[u8]) {
     io::write_all(STDOUT_FILENO, text);
 }

@@ -17,12 +17,12 @@ use Rattle.formula.specs.declared.FieldHead.the-variants.{NoField, Empty, Symbo
 use Rattle.formula.proofs.FieldHead.{the-type}
 use Rattle.formula.specs.declared.Opening.{Opening}
 use Rattle.formula.specs.declared.Opening.the-variants.{Choice}
-use Rattle.formula.specs.Tree.{Items, Item, choiceOpeningBytes, listOpeningBytes, sublistBytes, itemsBytes}
+use Rattle.formula.specs.Tree.{Items, Item, listOpeningBytes, itemsBytes}
 use Rattle.formula.specs.Heads.{openingOf, fieldHead}
 use Rattle.formula.specs.Places.{treeOf, headBytes, contents, listOf, GoodList, choiceLists, headAt, fieldEnd, listPlace, listIn, itemOf}
 use Rattle.formula.specs.Slices.{tail-part, field-part}
 use Rattle.formula.specs.HeadLaws.{head-fits, list-opening, contents-shorter}
-use Rattle.formula.specs.PlacesLaws.{Chosen, items-bytes, list-bytes}
+use Rattle.formula.specs.PlacesLaws.{Chosen, items-bytes, lists-stand}
 use Rattle.font.specs.Font.{Font}
 use Rattle.boxes.specs.declared.styles.Level.{Level}
 use Rattle.boxes.specs.declared.styles.Level.the-variants.{Display, Text, Script, Scriptscript}
@@ -30,7 +30,7 @@ use Rattle.boxes.specs.declared.styles.Style.{Style}
 use Rattle.boxes.specs.Styles.{plain}
 use Rattle.spacing.specs.Classes.{Neighbour}
 use Rattle.nodes.specs.Kept.{kept-more}
-use Rattle.setting.specs.Setting.{Line, taken, styleAfter, styleBehind, nextClass, setItem, setItems}
+use Rattle.setting.specs.Setting.{Line, styleAfter, styleBehind, nextClass, setItem, setItems, takenPlace}
 use Rattle.setting.specs.Missing.{later, missingItem, missingItems}
 use Rattle.setting.specs.Fitting.{itemFits, itemsFit}
 use Rattle.setting.specs.SettingLaws.{taken-all, styleBehind-choice, classAt-choice, setItem-choice, missingItem-choice, itemFits-choice}
@@ -148,15 +148,10 @@ choice-given given span =
 
 -- the place of the taken list, from the lists before it
 pub place-taken : (s : List ℕ) → Chosen s → (style : Style) →
-    let second = choiceOpeningBytes + sublistBytes (itemsBytes (listIn s 0)) in
-    let third = second + sublistBytes (itemsBytes (listIn s 1)) in
-    let fourth = third + sublistBytes (itemsBytes (listIn s 2)) in
-    listPlace s (listsBefore style) ≡ taken style choiceOpeningBytes second third fourth
+    listPlace s (listsBefore style) ≡ takenPlace style (listIn s 0) (listIn s 1) (listIn s 2)
 place-taken s chosen style =
-    let a = list-bytes s 0 (chosen .lists 0 (omega arith)) in
-    let b = list-bytes s 1 (chosen .lists 1 (omega arith)) in
-    let c = list-bytes s 2 (chosen .lists 2 (omega arith)) in
-    taken-all (listPlace s) style refl (omega arith) (omega arith) (omega arith)
+    let stand = lists-stand s chosen in
+    taken-all (listPlace s) style refl (sym (stand .at-second)) (sym (stand .at-third)) (sym (stand .at-fourth))
 
 module _ (F : Font) (beyond : Neighbour) {s : List ℕ} (l : lines.Line) (b b′ : List ℕ) (opens : openingOf s ≡ Choice) (chosen : Chosen s)
     {c : Span} (span : TakenSpan (l .style) s c) where

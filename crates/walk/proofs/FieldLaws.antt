@@ -25,16 +25,16 @@ use Rattle.boxes.specs.Parameters.{Parameters}
 use Rattle.spacing.specs.Classes.{Neighbour}
 use Rattle.arrange.specs.declared.Manner.{Manner}
 use Rattle.setting.specs.Setting.{Sides, sidesOf}
-use Rattle.walk.specs.declared.parts.Part as parts
-use Rattle.walk.specs.declared.parts.FieldSet.{FieldSet}
-use Rattle.walk.specs.declared.parts.FieldSet.the-variants.{Whole, Missing}
+use Rattle.walk.specs.declared.fields.FieldBox as fields
+use Rattle.walk.specs.declared.fields.FieldSet.{FieldSet}
+use Rattle.walk.specs.declared.fields.FieldSet.the-variants.{Whole, Missing}
 use Rattle.walk.specs.declared.lines.Line as lines
 use Rattle.walk.specs.declared.lists.ItemsSet.{ItemsSet}
 use Rattle.walk.specs.declared.lists.ItemsSet.the-variants as items
 use Rattle.walk.specs.Bounds.{longest, LineWithin}
-use Rattle.walk.specs.Walked.{EmptyPart, ListGiven, FieldGiven, FieldDone, HeadDone, StartLine, ClosedLine, ClosedPart, ListGoes, ListField, ItemsGiven, ItemsDone, ListDone}
+use Rattle.walk.specs.Walked.{EmptyField, ListGiven, FieldGiven, FieldDone, HeadDone, StartLine, ClosedLine, ClosedField, ListGoes, ListField, ItemsGiven, ItemsDone, ListDone}
 use Rattle.walk.specs.WalkedLaws.{start-within, list-whole-of, list-lacks-of}
-use Rattle.walk.proofs.PartLaws.{field-empty, list-whole, list-missing}
+use Rattle.walk.proofs.FieldBoxLaws.{field-empty, list-whole, list-missing}
 use Rattle.walk.proofs.ListLaws.{line-more}
 
 -- what the setter of a field is given, by what that of its item is
@@ -131,8 +131,8 @@ module _ (F : Font) (st : Style) (manner : Manner) (b b′ : List ℕ) {s : List
     head-line : {line : lines.Line} → l ≡ items.Whole line → LineWithin (0 + n) line
     head-line {line} is = items-done (items.Whole line) is .1 .grows 0 (start-within 0 empty-line)
 
-    head-whole : {P : Parameters} {line : lines.Line} {c : parts.Part} → P ≡ F .parameter → l ≡ items.Whole line →
-        ClosedPart P st (sides .right) end line c → HeadDone F st manner s at b (Whole c) b′
+    head-whole : {P : Parameters} {line : lines.Line} {c : fields.FieldBox} → P ≡ F .parameter → l ≡ items.Whole line →
+        ClosedField P st (sides .right) end line c → HeadDone F st manner s at b (Whole c) b′
     head-whole {P} {line} {c} params is p =
         let closed = p .closed in
         let end-is = subst (λ (P : Parameters). ClosedLine P st (sides .right) line closed) params (p .closed-is) in
@@ -174,7 +174,7 @@ module _ (F : Font) (st : Style) (manner : Manner) (b b′ : List ℕ) {s : List
             subst (λ (k : ℕ). HeadDone F st manner s at b (Missing k) b′) (sym e) (head-missing is .0)
 
 module _ (F : Font) (st : Style) (manner : Manner) (b : List ℕ) {s : List ℕ} {at end : ℕ} where
-  pub head-empty : {h : FieldHead} {c : parts.Part} → Head s at h end → fieldOf (drop at s) h ≡ empty → EmptyPart end c →
+  pub head-empty : {h : FieldHead} {c : fields.FieldBox} → Head s at h end → fieldOf (drop at s) h ≡ empty → EmptyField end c →
       HeadDone F st manner s at b (Whole c) b
   head-empty {h} {c} o none-there e =
       head-done F st manner b b o (Whole c)

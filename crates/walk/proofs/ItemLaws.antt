@@ -35,7 +35,7 @@ use Rattle.nodes.specs.Hull.{Hull, hull, joined, movedHull, HullWithin}
 use Rattle.nodes.specs.HullLaws.{hull-append, hull-moved, join-assoc, join-within, moved-within, within-more}
 use Rattle.nodes.specs.declared.run.Run.{Run}
 use Rattle.nodes.specs.Values.{hullOf}
-use Rattle.setting.specs.Setting.{Part, ownNode, ownNodes, itemNodes}
+use Rattle.setting.specs.Setting.{FieldBox, ownNode, ownNodes, itemNodes}
 use Rattle.setting.specs.SettingLaws.{length-own}
 use Rattle.walk.specs.declared.lines.Line as lines
 use Rattle.walk.specs.Bounds.{stride, LineWithin}
@@ -117,7 +117,7 @@ module _ (x : ℤ) (A : Arranged) where
   length-owned : length owned ≡ length (A .own .behind)
   length-owned = length-moved x (pos 0) (ownNodes (A .own .behind)) ∙ length-own (A .own .behind)
 
-  module _ (X Y Z : Part) where
+  module _ (X Y Z : FieldBox) where
     abbrev first : List Node
     first = placedAt x (A .first) (X .nodes)
 

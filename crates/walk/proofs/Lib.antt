@@ -1,5 +1,5 @@
 -- What the proofs of several functions use. Assumes nothing.
-mod PartLaws
+mod FieldBoxLaws
 mod FieldLaws
 pub mod PlaceLaws
 mod ItemLaws

@@ -4,13 +4,14 @@
 -- Assumes nothing.
 use Prim.Native.Nat.{ℕ, _*_, _^_, _≤_}
 use Rattle.scaled.specs.Signed.{Within}
+use Rattle.formula.specs.Format.{formulaLimit}
 use Rattle.boxes.specs.Bounds.{words, itemWords}
 use Rattle.nodes.specs.Hull.{HullWithin}
 use Rattle.nodes.specs.Values.{hullOf}
 use Rattle.walk.specs.declared.lines.Line as lines
 
 abbrev pub longest : ℕ
-longest = 131_072
+longest = formulaLimit
 
 -- how far a length may lie from zero behind so many bytes of a list
 abbrev pub stride : ℕ → ℕ

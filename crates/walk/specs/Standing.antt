@@ -22,9 +22,9 @@ use Rattle.arrange.specs.declared.Manner.the-variants.{Plain}
 use Rattle.arrange.specs.Arrange.{ownCounts, firstStyle, secondStyle, firstManner}
 use Rattle.nodes.specs.Nodes.{bytesInNode, bytesOf}
 use Rattle.nodes.specs.Kept.{Kept}
-use Rattle.setting.specs.Setting.{Part, hasSigns, setField}
+use Rattle.setting.specs.Setting.{FieldBox, hasSigns, setField}
 use Rattle.setting.specs.Fitting.{fieldFits}
-use Rattle.walk.specs.declared.parts.Part as parts
+use Rattle.walk.specs.declared.fields.FieldBox as fields
 use Rattle.walk.specs.declared.lines.Line as lines
 use Rattle.walk.specs.declared.lists.ItemSet.{ItemSet}
 use Rattle.walk.specs.Walked.{FieldWhole, OpenedGiven, ItemDone}
@@ -37,7 +37,7 @@ pub record Laid (b₀ : List ℕ) (m n : ℕ) (known : Bool) (w b : List ℕ) : 
   pub laid : known ≡ true → bytesInNode * n ≤ length b₀ → (length w ≡ bytesInNode * n) × (b ≡ w ++ drop (bytesInNode * n) b₀)
 
 -- the room for an item's own nodes, before its first field a and behind it
-module _ (a : parts.Part) (o₁ o₂ : ℕ) (b₀ : List ℕ) where
+module _ (a : fields.FieldBox) (o₁ o₂ : ℕ) (b₀ : List ℕ) where
   abbrev pub gap₁ : List ℕ
   gap₁ = take (bytesInNode * o₁) b₀
 
@@ -46,11 +46,11 @@ module _ (a : parts.Part) (o₁ o₂ : ℕ) (b₀ : List ℕ) where
 
 -- of the item at the head of some bytes, in the buffer v, which was b₀
 module _ (F : Font) (s : Style) (kind : Kind) (bytes : List ℕ) where
-  abbrev firstPart : Part
-  firstPart = setField F (firstStyle kind s) (firstManner kind s) (fieldIn bytes (openingBytes kind))
+  abbrev firstBox : FieldBox
+  firstBox = setField F (firstStyle kind s) (firstManner kind s) (fieldIn bytes (openingBytes kind))
 
-  abbrev secondPart : Part
-  secondPart = setField F (secondStyle kind s) Plain (fieldIn bytes (second bytes kind))
+  abbrev secondBox : FieldBox
+  secondBox = setField F (secondStyle kind s) Plain (fieldIn bytes (second bytes kind))
 
   abbrev firstFits : Bool
   firstFits = fieldFits F (firstStyle kind s) (firstManner kind s) (fieldIn bytes (openingBytes kind))
@@ -59,40 +59,40 @@ module _ (F : Font) (s : Style) (kind : Kind) (bytes : List ℕ) where
   secondFits = fieldFits F (secondStyle kind s) Plain (fieldIn bytes (second bytes kind))
 
   -- the first field a
-  pub record One (o₁ o₂ : ℕ) (b₀ : List ℕ) (a : parts.Part) (v : List ℕ) : Type 0 where
+  pub record One (o₁ o₂ : ℕ) (b₀ : List ℕ) (a : fields.FieldBox) (v : List ℕ) : Type 0 where
     pub noad : Noad bytes kind
     pub own₁ : o₁ ≡ ownCounts (F .parameter) s kind (hasSigns F s kind) .before
     pub own₂ : o₂ ≡ ownCounts (F .parameter) s kind (hasSigns F s kind) .behind
-    pub wx : FieldWhole F (firstStyle kind s) (firstManner kind s) (fieldIn bytes (openingBytes kind)) (openingBytes kind) (second bytes kind) a
+    pub first-whole : FieldWhole F (firstStyle kind s) (firstManner kind s) (fieldIn bytes (openingBytes kind)) (openingBytes kind) (second bytes kind) a
     pub so : Laid b₀ (second bytes kind) (o₁ + a .run .count + o₂) firstFits
-        ((gap₁ a o₁ o₂ b₀ ++ bytesOf (firstPart .nodes)) ++ gap₂ a o₁ o₂ b₀) v
+        ((gap₁ a o₁ o₂ b₀ ++ bytesOf (firstBox .nodes)) ++ gap₂ a o₁ o₂ b₀) v
 
   -- and the second, b
-  pub record Two (o₁ o₂ : ℕ) (b₀ : List ℕ) (a b : parts.Part) (v : List ℕ) : Type 0 where
+  pub record Two (o₁ o₂ : ℕ) (b₀ : List ℕ) (a b : fields.FieldBox) (v : List ℕ) : Type 0 where
     pub noad : Noad bytes kind
     pub own₁ : o₁ ≡ ownCounts (F .parameter) s kind (hasSigns F s kind) .before
     pub own₂ : o₂ ≡ ownCounts (F .parameter) s kind (hasSigns F s kind) .behind
-    pub wx : FieldWhole F (firstStyle kind s) (firstManner kind s) (fieldIn bytes (openingBytes kind)) (openingBytes kind) (second bytes kind) a
-    pub wy : FieldWhole F (secondStyle kind s) Plain (fieldIn bytes (second bytes kind)) (second bytes kind) (third bytes kind) b
+    pub first-whole : FieldWhole F (firstStyle kind s) (firstManner kind s) (fieldIn bytes (openingBytes kind)) (openingBytes kind) (second bytes kind) a
+    pub second-whole : FieldWhole F (secondStyle kind s) Plain (fieldIn bytes (second bytes kind)) (second bytes kind) (third bytes kind) b
     pub so : Laid b₀ (third bytes kind) (o₁ + a .run .count + o₂ + b .run .count) (firstFits && secondFits)
-        (((gap₁ a o₁ o₂ b₀ ++ bytesOf (firstPart .nodes)) ++ gap₂ a o₁ o₂ b₀) ++ bytesOf (secondPart .nodes)) v
+        (((gap₁ a o₁ o₂ b₀ ++ bytesOf (firstBox .nodes)) ++ gap₂ a o₁ o₂ b₀) ++ bytesOf (secondBox .nodes)) v
 
 -- the first field of the item that opens stands in the buffer v
-pub record SecondGiven (t u i j : List ℕ) (p : List (List ℕ)) (s : List ℕ) (kind : Kind) (l : lines.Line) (own : OwnCounts) (a : parts.Part) (v : List ℕ) : Type 0 where
+pub record SecondGiven (t u i j : List ℕ) (p : List (List ℕ)) (s : List ℕ) (kind : Kind) (l : lines.Line) (own : OwnCounts) (a : fields.FieldBox) (v : List ℕ) : Type 0 where
   pub opened : OpenedGiven t u i j p s (Fields kind) l
   pub from : List ℕ
   pub one : One (fontWith t u) (l .style) kind s (own .before) (own .behind) from a v
 
 -- and the second
-pub record ThirdGiven (t u i j : List ℕ) (p : List (List ℕ)) (s : List ℕ) (kind : Kind) (l : lines.Line) (own : OwnCounts) (a b : parts.Part) (v : List ℕ) : Type 0 where
+pub record ThirdGiven (t u i j : List ℕ) (p : List (List ℕ)) (s : List ℕ) (kind : Kind) (l : lines.Line) (own : OwnCounts) (a b : fields.FieldBox) (v : List ℕ) : Type 0 where
   pub opened : OpenedGiven t u i j p s (Fields kind) l
   pub from : List ℕ
   pub two : Two (fontWith t u) (l .style) kind s (own .before) (own .behind) from a b v
 
-abbrev pub SecondDone : Font → Neighbour → List ℕ → Kind → lines.Line → OwnCounts → parts.Part → List ℕ → ItemSet → List ℕ → Type 0
+abbrev pub SecondDone : Font → Neighbour → List ℕ → Kind → lines.Line → OwnCounts → fields.FieldBox → List ℕ → ItemSet → List ℕ → Type 0
 SecondDone F beyond s kind l own a v r v′ =
     (b₀ : List ℕ) → One F (l .style) kind s (own .before) (own .behind) b₀ a v → ItemDone F beyond s l b₀ r v′
 
-abbrev pub ThirdDone : Font → Neighbour → List ℕ → Kind → lines.Line → OwnCounts → parts.Part → parts.Part → List ℕ → ItemSet → List ℕ → Type 0
+abbrev pub ThirdDone : Font → Neighbour → List ℕ → Kind → lines.Line → OwnCounts → fields.FieldBox → fields.FieldBox → List ℕ → ItemSet → List ℕ → Type 0
 ThirdDone F beyond s kind l own a b v r v′ =
     (b₀ : List ℕ) → Two F (l .style) kind s (own .before) (own .behind) b₀ a b v → ItemDone F beyond s l b₀ r v′

@@ -1,7 +1,7 @@
 -- What the values of the walk's code stand for in the definition.
---     symbolAs, soughtAs     a symbol that was looked for
+--     symbolAs, symbolSearchAs     a symbol that was looked for
 --     sidesAs                what a list sees on its sides
---     PartIs                 a field that has been set alone
+--     FieldBoxIs                 a field that has been set alone
 --     bareIn, bareLine       a line, but for its nodes: the code knows how many there are and how far they reach
 --     lineFits               whether a line keeps within the greatest length, and so do all lists in it
 -- Assumes nothing.
@@ -15,26 +15,26 @@ use Rattle.boxes.specs.declared.styles.Style.{Style}
 use Rattle.boxes.specs.Values.{sizeAs, shapeAs}
 use Rattle.nodes.specs.Hull.{hullFits}
 use Rattle.nodes.specs.Values.{hullOf, isLarge, RunIs}
-use Rattle.setting.specs.Setting.{Symbol, Part, Line, Sides as SidesOf}
+use Rattle.setting.specs.Setting.{Symbol, FieldBox, Line, Sides as SidesOf}
 use Rattle.setting.specs.Fitting.{sizeFits}
 use Rattle.walk.specs.declared.symbols.Symbol as symbols
-use Rattle.walk.specs.declared.symbols.Sought.{Sought}
-use Rattle.walk.specs.declared.symbols.Sought.the-variants.{Present, Absent}
+use Rattle.walk.specs.declared.symbols.SymbolSearch.{SymbolSearch}
+use Rattle.walk.specs.declared.symbols.SymbolSearch.the-variants.{Present, Absent}
 use Rattle.walk.specs.declared.sides.Sides.{Sides}
-use Rattle.walk.specs.declared.parts.Part as parts
+use Rattle.walk.specs.declared.fields.FieldBox as fields
 use Rattle.walk.specs.declared.lines.Line as lines
 
 abbrev pub symbolAs : symbols.Symbol → Symbol
 symbolAs s = record { code = s .code; metrics = metricsAs (s .metrics) }
 
-abbrev pub soughtAs : Sought → Option Symbol
-soughtAs (Present s) = some (symbolAs s)
-soughtAs Absent = none
+abbrev pub symbolSearchAs : SymbolSearch → Option Symbol
+symbolSearchAs (Present s) = some (symbolAs s)
+symbolSearchAs Absent = none
 
 abbrev pub sidesAs : Sides → SidesOf
 sidesAs s = record { left = neighbourAs (s .left); right = neighbourAs (s .right) }
 
-pub record PartIs (x : Part) (c : parts.Part) : Type 0 where
+pub record FieldBoxIs (x : FieldBox) (c : fields.FieldBox) : Type 0 where
   pub shape-is : shapeAs (c .shape) ≡ x .shape
   pub run-is : RunIs (x .nodes) (c .run)
 

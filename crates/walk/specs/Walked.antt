@@ -14,7 +14,7 @@ use lib.IntN.{ℤ, pos, _+ℤ_}
 use lib.ListN.{length, drop}
 use Rattle.scaled.specs.Length.{maxℤ}
 use Rattle.scaled.specs.Signed.{Within}
-use Rattle.font.specs.Index.{Indexed}
+use Rattle.font_index.specs.Index.{Indexed}
 use Rattle.font.specs.Font.{Font, fontWith}
 use Rattle.formula.specs.declared.Class.{Class}
 use Rattle.formula.specs.declared.Kind.{Kind}
@@ -53,9 +53,9 @@ use Rattle.nodes.specs.Values.{hullOf, isLarge, RunIs, EmptyRun, JoinedRun}
 use Rattle.setting.specs.Setting.{Line, Sides, ownNode, ownNodes, styleAfter, styleBehind, nextClass, setField, setItem, setItems, setList}
 use Rattle.setting.specs.Missing.{later, missingField, missingItem, missingItems}
 use Rattle.setting.specs.Fitting.{fieldFits, itemFits, itemsFit}
-use Rattle.walk.specs.declared.parts.Part as parts
-use Rattle.walk.specs.declared.parts.FieldSet.{FieldSet}
-use Rattle.walk.specs.declared.parts.FieldSet.the-variants as field
+use Rattle.walk.specs.declared.fields.FieldBox as fields
+use Rattle.walk.specs.declared.fields.FieldSet.{FieldSet}
+use Rattle.walk.specs.declared.fields.FieldSet.the-variants as field
 use Rattle.walk.specs.declared.lines.Line as lines
 use Rattle.walk.specs.declared.items.Placing.{Placing}
 use Rattle.walk.specs.declared.lists.ItemsSet.{ItemsSet}
@@ -64,29 +64,29 @@ use Rattle.walk.specs.declared.lists.ItemSet.{ItemSet}
 use Rattle.walk.specs.declared.lists.ItemSet.the-variants as step
 use Rattle.walk.specs.declared.lists.StretchSet.{StretchSet}
 use Rattle.walk.specs.declared.lists.StretchSet.the-variants as stretch
-use Rattle.walk.specs.Values.{PartIs, bareLine, lineFits}
+use Rattle.walk.specs.Values.{FieldBoxIs, bareLine, lineFits}
 use Rattle.walk.specs.Bounds.{longest, LineWithin}
 
 -- ---- a field
 
-pub record EmptyPart (end : ℕ) (c : parts.Part) : Type 0 where
+pub record EmptyField (end : ℕ) (c : fields.FieldBox) : Type 0 where
   pub end-is : c .end ≡ end
   pub shape-is : c .shape ≡ Nothing
   pub run-is : EmptyRun (c .run)
 
 -- how far the numbers of a field lie from zero, whatever it holds; it has at most a node for each of its bytes
-pub record PartWithin (at : ℕ) (c : parts.Part) : Type 0 where
+pub record FieldBoxWithin (at : ℕ) (c : fields.FieldBox) : Type 0 where
   pub shape : ModerateShape (c .shape)
   pub count : at + c .run .count ≤ c .end
   pub hull : HullWithin greatestLength (hullOf (c .run))
 
 -- the field f, which stands at a place of its item and ends at another: all but its nodes in the buffer
-pub record FieldWhole (F : Font) (s : Style) (manner : Manner) (f : Field) (at end : ℕ) (c : parts.Part) : Type 0 where
+pub record FieldWhole (F : Font) (s : Style) (manner : Manner) (f : Field) (at end : ℕ) (c : fields.FieldBox) : Type 0 where
   pub present : missingField F s manner at f ≡ none
   pub end-is : c .end ≡ end
   pub large-is : isLarge (c .run) ≡ not (fieldFits F s manner f)
-  pub small : PartWithin at c
-  pub is : fieldFits F s manner f ≡ true → PartIs (setField F s manner f) c
+  pub small : FieldBoxWithin at c
+  pub is : fieldFits F s manner f ≡ true → FieldBoxIs (setField F s manner f) c
 
 abbrev pub FieldDone : Font → Style → Manner → Field → ℕ → ℕ → List ℕ → FieldSet → List ℕ → Type 0
 FieldDone F s manner f at end b (field.Whole c) b′ =
@@ -156,7 +156,7 @@ pub record ExtendedLine (l : lines.Line) (class : Class) (x : ℤ) (z : CodeSize
   pub run-is : JoinedRun (l .run) r (c .run)
 
 -- a whole line as a field that ends at a place: the list that it stands for, if that fits
-pub record ListPart (end : ℕ) (l : lines.Line) (c : parts.Part) : Type 0 where
+pub record LineField (end : ℕ) (l : lines.Line) (c : fields.FieldBox) : Type 0 where
   pub end-is : c .end ≡ end
   pub large-is : isLarge (c .run) ≡ not (lineFits l)
   pub shape : ModerateShape (c .shape)
@@ -165,10 +165,10 @@ pub record ListPart (end : ℕ) (l : lines.Line) (c : parts.Part) : Type 0 where
   pub is : lineFits l ≡ true → (c .shape ≡ Box (l .size)) × (c .run ≡ l .run)
 
 -- with the space at its end
-pub record ClosedPart (P : Parameters) (s : Style) (right : Neighbour) (end : ℕ) (l : lines.Line) (c : parts.Part) : Type 0 where
+pub record ClosedField (P : Parameters) (s : Style) (right : Neighbour) (end : ℕ) (l : lines.Line) (c : fields.FieldBox) : Type 0 where
   pub closed : lines.Line
   pub closed-is : ClosedLine P s right l closed
-  pub part-is : ListPart end closed c
+  pub part-is : LineField end closed c
 
 -- what the setter of a list came to, whose items stand at a place of its item, and the field from that
 abbrev pub ListGoes : ℕ → ItemsSet → Type 0
@@ -176,7 +176,7 @@ ListGoes first (items.Whole l) = LineWithin longest l
 ListGoes first (items.Missing place) = first + place < 2 ^ 64
 
 abbrev pub ListField : Parameters → Style → Neighbour → ℕ → ℕ → ItemsSet → FieldSet → Type 0
-ListField P s right first end (items.Whole l) (field.Whole c) = ClosedPart P s right end l c
+ListField P s right first end (items.Whole l) (field.Whole c) = ClosedField P s right end l c
 ListField P s right first end (items.Whole l) (field.Missing place) = ⊥
 ListField P s right first end (items.Missing place) (field.Whole c) = ⊥
 ListField P s right first end (items.Missing place) (field.Missing there) = there ≡ first + place
@@ -287,15 +287,15 @@ pub record ItemPut (x : ℤ) (A : Arranged) (a b c r : Run) (v v′ : List ℕ) 
   pub buffer-is : v′ ≡ itemBuffer x A (a .count) (b .count) (c .count) v
 
 -- three fields, one behind another, of an item that is to go behind a line
-pub record FinishGiven (l : lines.Line) (a b c : parts.Part) : Type 0 where
+pub record FinishGiven (l : lines.Line) (a b c : fields.FieldBox) : Type 0 where
   pub line : LineWithin longest l
   pub short : c .end ≤ longest
   pub from : ℕ
-  pub first : PartWithin from a
-  pub second : PartWithin (a .end) b
-  pub third : PartWithin (b .end) c
+  pub first : FieldBoxWithin from a
+  pub second : FieldBoxWithin (a .end) b
+  pub third : FieldBoxWithin (b .end) c
 
-pub record Finished (P : Parameters) (s : Style) (kind : Kind) (signs : Signs) (right : Neighbour) (l : lines.Line) (a b c : parts.Part) (r : lines.Line) (v v′ : List ℕ) : Type 0 where
+pub record Finished (P : Parameters) (s : Style) (kind : Kind) (signs : Signs) (right : Neighbour) (l : lines.Line) (a b c : fields.FieldBox) (r : lines.Line) (v v′ : List ℕ) : Type 0 where
   pub class : Class
   pub arranged : Arranged
   pub x : ℤ

@@ -24,6 +24,7 @@ use Rattle.nodes.specs.Hull.{hullFits, joined}
 use Rattle.nodes.specs.HullLaws.{fits-hull}
 use Rattle.nodes.specs.Values.{hullOf, isLarge, RunIs}
 use Rattle.setting.specs.Setting.{Box, Line, Sides, noSides, start, closed, setItems, setList}
+use Rattle.setting.specs.SettingLaws.{closed-nodes}
 use Rattle.setting.specs.Fitting.{sizeFits, boxFits, itemsFit}
 use Rattle.walk.specs.declared.lines.Line as lines
 use Rattle.walk.specs.declared.lists.ItemsSet.{ItemsSet}
@@ -76,10 +77,6 @@ start-within k o =
 closed-size : (F : Font) (s : Style) (right : Neighbour) (m : Line) → closed F s right m .size ≡ closedSize (F .parameter) s right (m .left) (m .box .size)
 closed-size F s none m = refl
 closed-size F s (some class) m = refl
-
-closed-nodes : (F : Font) (s : Style) (right : Neighbour) (m : Line) → closed F s right m .nodes ≡ m .box .nodes
-closed-nodes F s none m = refl
-closed-nodes F s (some class) m = refl
 
 -- nothing on the right changes nothing
 closed-bare : (P : Parameters) (s : Style) (c : lines.Line) → ClosedLine P s none c c

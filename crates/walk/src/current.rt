@@ -11,8 +11,8 @@ use boxes::styles::Numbered;
 use boxes::styles::Style;
 use boxes::styles::style_of;
 use formula::FieldHead;
-use formula::heads::field_head;
-use formula::heads::list_place;
+use formula_fields::field_head;
+use formula_fields::list_place;
 
 // Some items of a list: the first byte of the first, and the place behind the last.
 pub struct Span {
@@ -21,7 +21,7 @@ pub struct Span {
 }
 
 // The style that a number sets. One that is no style's does not occur in what reads.
-pub fn restyled(style: Style, number: u8) -> Style
+pub(crate) fn restyled(style: Style, number: u8) -> Style
     ensures { λ r. ⌜ r ≡ definition.restyled style number ⌝ }
 {
     let numbered = style_of(number);

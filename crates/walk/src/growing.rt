@@ -5,10 +5,10 @@ ghost use Rattle.boxes.specs.Values.{parametersIn};
 ghost use Rattle.boxes.specs.Bounds.{words};
 ghost use Rattle.spacing.specs.Values.{neighbourAs};
 ghost use Rattle.walk.specs.Bounds.{longest, LineWithin};
-ghost use Rattle.walk.specs.Walked.{StartLine, KernedLine, ClosedLine, StyledLine, ItemGoes, ExtendedLine, ListPart, ClosedPart, SizesGo, SizesBeside};
+ghost use Rattle.walk.specs.Walked.{StartLine, KernedLine, ClosedLine, StyledLine, ItemGoes, ExtendedLine, LineField, ClosedField, SizesGo, SizesBeside};
+use crate::fields::FieldBox;
 use crate::lines::Line;
 use crate::lines::list_fits;
-use crate::parts::Part;
 use boxes::Shape;
 use boxes::Size;
 use boxes::parameters::Parameters;
@@ -111,27 +111,33 @@ pub fn extended(line: Line, class: Class, x: Sp, size: Size, run: Run) -> Line
 }
 
 // A whole list as a field that ends at a place of its item, with the space before an atom that it sees on its right.
-pub fn closed_part(p: &Parameters, style: Style, right: Neighbour, end: usize, line: Line) -> Part
+pub fn closed_field(
+    p: &Parameters,
+    style: Style,
+    right: Neighbour,
+    end: usize,
+    line: Line,
+) -> FieldBox
     requires { ⌜ LineWithin longest line ⌝ }
-    ensures { λ r. ⌜ ClosedPart (parametersIn (now (p .entry))) style (neighbourAs right) end line r ⌝ }
+    ensures { λ r. ⌜ ClosedField (parametersIn (now (p .entry))) style (neighbourAs right) end line r ⌝ }
 {
-    list_part(end, closed(p, style, right, line))
+    line_field(end, closed(p, style, right, line))
 }
 
 // One that does not fit has no shape that matters.
-fn list_part(end: usize, line: Line) -> Part
-    ensures { λ r. ⌜ ListPart end line r ⌝ }
+fn line_field(end: usize, line: Line) -> FieldBox
+    ensures { λ r. ⌜ LineField end line r ⌝ }
 {
     if list_fits(line) {
         let size = line.size;
         let run = line.run;
-        Part {
+        FieldBox {
             end,
             shape: Shape::Box(size),
             run,
         }
     } else {
-        Part {
+        FieldBox {
             end,
             shape: Shape::Nothing,
             run: Run::too_large(),

@@ -7,9 +7,9 @@ ghost use Rattle.delimiters.specs.Values.{signsAs};
 ghost use Rattle.boxes.specs.Bounds.{ModerateShape};
 ghost use Rattle.walk.specs.Bounds.{longest, LineWithin};
 ghost use Rattle.walk.specs.Walked.{PlacingIs, MoveGiven, FieldMoved, OwnGiven, SigningGiven, RulingGiven, OwnPut, PutGiven, ItemPut, FinishGiven, Finished};
+use crate::fields::FieldBox;
 use crate::growing::extended;
 use crate::lines::Line;
-use crate::parts::Part;
 use arrange::arrange;
 use boxes::Arranged;
 use boxes::Offset;
@@ -148,9 +148,9 @@ pub fn finished(
     signs: Signs,
     right: Neighbour,
     line: Line,
-    a: Part,
-    b: Part,
-    c: Part,
+    a: FieldBox,
+    b: FieldBox,
+    c: FieldBox,
     buf: &mut [u8],
 ) -> Line
     requires { ⌜ FinishGiven line a b c ⌝ }

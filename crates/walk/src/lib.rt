@@ -4,11 +4,11 @@
 // item that holds it knows where it stands. A node that has no room is not written, so that an empty buffer measures.
 
 pub mod current;
+pub mod fields;
 mod growing;
 mod items;
 pub mod lines;
 pub mod lists;
-pub mod parts;
 pub mod places;
 mod sides;
 pub mod signs;

@@ -17,16 +17,16 @@ ghost use Rattle.walk.specs.Standing.{SecondGiven, ThirdGiven, SecondDon
 ghost use Rattle.walk.specs.Walked.{ListGiven, ItemsGiven, OpenedGiven, FieldGiven, ListDone, ItemsDone, StretchDone, Onward, ChoiceDone, ItemDone, HeadDone, ListGoes, ListField};
 use crate::current::restyled;
 use crate::current::taken_span;
-use crate::growing::closed_part;
+use crate::fields::FieldBox;
+use crate::fields::FieldSet;
+use crate::fields::empty_field;
+use crate::fields::symbol_field;
+use crate::growing::closed_field;
 use crate::growing::kerned;
 use crate::growing::start;
 use crate::growing::styled;
 use crate::items::finished;
 use crate::lines::Line;
-use crate::parts::FieldSet;
-use crate::parts::Part;
-use crate::parts::empty_part;
-use crate::parts::symbol_part;
 use crate::places::beyond_choice;
 use crate::places::right_of;
 use crate::sides::sides_of;
@@ -41,19 +41,19 @@ use arrange::second_style;
 use arrange::third_style;
 use boxes::parameters::Parameters;
 use boxes::styles::Style;
+use formula::CHOICE_LISTS;
 use formula::FieldHead;
+use formula::KERN_BYTES;
 use formula::Kind;
 use formula::Opening;
-use formula::heads::CHOICE_LISTS;
-use formula::heads::KERN_BYTES;
-use formula::heads::RESTYLE_BYTES;
-use formula::heads::field_bytes;
-use formula::heads::field_head;
-use formula::heads::has_third;
-use formula::heads::is_empty;
-use formula::heads::list_place;
-use formula::heads::opening;
-use formula::heads::opening_bytes;
+use formula::RESTYLE_BYTES;
+use formula_fields::field_bytes;
+use formula_fields::field_head;
+use formula_fields::is_empty;
+use formula_fields::list_place;
+use formula_kinds::has_third;
+use formula_kinds::opening_bytes;
+use formula_openings::opening;
 use nodes::room;
 use spacing::classes::Neighbour;
 
@@ -383,7 +383,7 @@ fn set_second<'a>(
     s: &[u8],
     line: Line,
     own: OwnCounts,
-    a: Part,
+    a: FieldBox,
     buf: &mut [u8],
 ) -> ItemSet
     requires { ⌜ SecondGiven (now table) (now client) (now index) (now «client_index») (now p) (now s) kind line own a (now buf) ⌝ }
@@ -436,8 +436,8 @@ fn set_third<'a>(
     s: &[u8],
     line: Line,
     own: OwnCounts,
-    a: Part,
-    b: Part,
+    a: FieldBox,
+    b: FieldBox,
     buf: &mut [u8],
 ) -> ItemSet
     requires { ⌜ ThirdGiven (now table) (now client) (now index) (now «client_index») (now p) (now s) kind line own a b (now buf) ⌝ }
@@ -460,7 +460,7 @@ fn set_third<'a>(
             &mut buf[k..],
         )
     } else {
-        FieldSet::Whole(empty_part(b.end))
+        FieldSet::Whole(empty_field(b.end))
     };
     match z {
         FieldSet::Whole(c) => {
@@ -492,7 +492,7 @@ pub fn set_field<'a>(
     ensures { λ r. ⌜ HeadDone (fontWith (now (table .entry)) (now (client .entry))) style manner (now (s .entry)) at (now (buf .entry)) r (now (buf .exit)) ⌝ }
 {
     if is_empty(&s[at..]) {
-        return FieldSet::Whole(empty_part(at + 1));
+        return FieldSet::Whole(empty_field(at + 1));
     }
     set_given(
         table,
@@ -527,9 +527,9 @@ fn set_given<'a>(
     let head = field_head(&s[at..]);
     let end = at + field_bytes(head);
     match head {
-        FieldHead::NoField => FieldSet::Whole(empty_part(end)),
-        FieldHead::Empty => FieldSet::Whole(empty_part(end)),
-        FieldHead::Symbol(family, code) => symbol_part(
+        FieldHead::NoField => FieldSet::Whole(empty_field(end)),
+        FieldHead::Empty => FieldSet::Whole(empty_field(end)),
+        FieldHead::Symbol(family, code) => symbol_field(
             table,
             client,
             index,
@@ -560,7 +560,7 @@ fn set_given<'a>(
             );
             list_field(p, style, right, first, end, set)
         }
-        FieldHead::CutSublist => FieldSet::Whole(empty_part(end)),
+        FieldHead::CutSublist => FieldSet::Whole(empty_field(end)),
     }
 }
 
@@ -577,7 +577,7 @@ fn list_field(
     ensures { λ r. ⌜ ListField (parametersIn (now (p .entry))) style (neighbourAs right) first end set r ⌝ }
 {
     match set {
-        ItemsSet::Whole(line) => FieldSet::Whole(closed_part(p, style, right, end, line)),
+        ItemsSet::Whole(line) => FieldSet::Whole(closed_field(p, style, right, end, line)),
         ItemsSet::Missing(place) => FieldSet::Missing(first + place),
     }
 }

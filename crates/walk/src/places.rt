@@ -13,15 +13,15 @@ ghost use Rattle.walk.specs.Seen.{ItemSeen, ItemsSeen, SetsAlike};
 use crate::current::restyled;
 use crate::current::taken_span;
 use boxes::styles::Style;
+use formula::CHOICE_LISTS;
 use formula::Class;
+use formula::KERN_BYTES;
 use formula::Kind;
 use formula::Opening;
-use formula::heads::CHOICE_LISTS;
-use formula::heads::KERN_BYTES;
-use formula::heads::RESTYLE_BYTES;
-use formula::heads::fields_end;
-use formula::heads::list_place;
-use formula::heads::opening;
+use formula::RESTYLE_BYTES;
+use formula_fields::fields_end;
+use formula_fields::list_place;
+use formula_openings::opening;
 use spacing::classes::Neighbour;
 use spacing::classes::class_of;
 
@@ -34,7 +34,7 @@ pub struct Sight {
 
 // The class of the next atom, where it matters: what follows an item changes a Bin alone (rule 6). `beyond` is the class that
 // follows the list.
-pub fn right_of(kind: Kind, style: Style, beyond: Neighbour, s: &[u8]) -> Neighbour
+pub(crate) fn right_of(kind: Kind, style: Style, beyond: Neighbour, s: &[u8]) -> Neighbour
     requires { ⌜ tree.Readable (now s) × (length (now s) ≤ longest) ⌝ }
     ensures { λ r. ⌜ ChangesAlike kind (neighbourAs r) (nextClass style (neighbourAs beyond) (tree.treeOf (now (s .entry)))) ⌝ }
 {
@@ -46,7 +46,7 @@ pub fn right_of(kind: Kind, style: Style, beyond: Neighbour, s: &[u8]) -> Neighb
 }
 
 // The class beyond a choice whose taken list is `inside`, where it matters: an atom in that list asks for it.
-pub fn beyond_choice(style: Style, beyond: Neighbour, inside: &[u8], s: &[u8]) -> Neighbour
+pub(crate) fn beyond_choice(style: Style, beyond: Neighbour, inside: &[u8], s: &[u8]) -> Neighbour
     requires { ⌜ tree.Readable (now inside) × (length (now inside) ≤ longest) × tree.Readable (now s) × (length (now s) ≤ longest) ⌝ }
     ensures { λ r. ⌜ SetsAlike style (tree.treeOf (now (inside .entry))) (neighbourAs r) (nextClass (styleAfter style (tree.treeOf (now (inside .entry)))) (neighbourAs beyond) (tree.treeOf (now (s .entry)))) ⌝ }
 {

@@ -1,7 +1,7 @@
 // The sign of a root and the delimiters of a fence: whether there are any, and which.
 
 ghost use mathlib.Core.Path.{_≡_};
-ghost use Rattle.font.specs.Index.{Indexed};
+ghost use Rattle.font_index.specs.Index.{Indexed};
 ghost use Rattle.font.specs.Font.{fontWith};
 ghost use Rattle.boxes.specs.Boxes.{sizeOf};
 ghost use Rattle.boxes.specs.Styles.{fontSize};
@@ -39,7 +39,7 @@ const NO_SIGNS: Signs = Signs {
 };
 
 // On which side an item has a sign, whatever its fields hold.
-pub fn has_signs<'a>(
+pub(crate) fn has_signs<'a>(
     table: &'a [u8],
     client: &'a [u8],
     index: &[u64],

@@ -1,11 +1,11 @@
 // The symbol that is set for a family and a code.
 
 ghost use mathlib.Core.Path.{_≡_};
-ghost use Rattle.font.specs.Index.{Indexed};
+ghost use Rattle.font_index.specs.Index.{Indexed};
 ghost use Rattle.font.specs.Font.{fontWith};
 ghost use Rattle.font.specs.Values.{foundAs, successorAs};
 ghost use Rattle.setting.specs.Setting as definition;
-ghost use Rattle.walk.specs.Values.{symbolAs, soughtAs};
+ghost use Rattle.walk.specs.Values.{symbolAs, symbolSearchAs};
 use font::Found;
 use font::Metrics;
 use font::Successor;
@@ -16,7 +16,7 @@ pub struct Symbol {
     pub metrics: Metrics,
 }
 
-pub enum Sought {
+pub enum SymbolSearch {
     Present(Symbol),
     Absent,
 }
@@ -31,20 +31,20 @@ pub fn symbol_in<'a>(
     enlarge: bool,
     family: u8,
     code: u8,
-) -> Sought
+) -> SymbolSearch
     requires { ⌜ Indexed (now table) (now client) (now index) (now «client_index») ⌝ }
-    ensures { λ r. ⌜ soughtAs r ≡ definition.symbolIn (fontWith (now (table .entry)) (now (client .entry))) size enlarge family code ⌝ }
+    ensures { λ r. ⌜ symbolSearchAs r ≡ definition.symbolIn (fontWith (now (table .entry)) (now (client .entry))) size enlarge family code ⌝ }
 {
-    let found = font::symbol(table, client, index, client_index, size, family, code);
+    let found = font_index::symbol(table, client, index, client_index, size, family, code);
     match found {
         Found::Symbol(metrics) => {
             let symbol = Symbol { code, metrics };
             if enlarge {
                 return successor(table, client, index, client_index, size, family, symbol);
             }
-            Sought::Present(symbol)
+            SymbolSearch::Present(symbol)
         }
-        Found::Absent => Sought::Absent,
+        Found::Absent => SymbolSearch::Absent,
     }
 }
 
@@ -56,26 +56,26 @@ fn successor<'a>(
     size: u8,
     family: u8,
     symbol: Symbol,
-) -> Sought
+) -> SymbolSearch
     requires { ⌜ Indexed (now table) (now client) (now index) (now «client_index») ⌝ }
-    ensures { λ r. ⌜ soughtAs r ≡ definition.successor (fontWith (now (table .entry)) (now (client .entry))) size family (symbolAs symbol) (successorAs (symbol .metrics .successor)) ⌝ }
+    ensures { λ r. ⌜ symbolSearchAs r ≡ definition.successor (fontWith (now (table .entry)) (now (client .entry))) size family (symbolAs symbol) (successorAs (symbol .metrics .successor)) ⌝ }
 {
     let metrics = symbol.metrics;
     let next = metrics.successor;
     match next {
-        Successor::Nothing => Sought::Present(symbol),
+        Successor::Nothing => SymbolSearch::Present(symbol),
         Successor::Code(code) => symbol_of(
             code,
-            font::symbol(table, client, index, client_index, size, family, code),
+            font_index::symbol(table, client, index, client_index, size, family, code),
         ),
     }
 }
 
-fn symbol_of(code: u8, found: Found) -> Sought
-    ensures { λ r. ⌜ soughtAs r ≡ definition.found code (foundAs found) ⌝ }
+fn symbol_of(code: u8, found: Found) -> SymbolSearch
+    ensures { λ r. ⌜ symbolSearchAs r ≡ definition.found code (foundAs found) ⌝ }
 {
     match found {
-        Found::Symbol(metrics) => Sought::Present(Symbol { code, metrics }),
-        Found::Absent => Sought::Absent,
+        Found::Symbol(metrics) => SymbolSearch::Present(Symbol { code, metrics }),
+        Found::Absent => SymbolSearch::Absent,
     }
 }

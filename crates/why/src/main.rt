@@ -4,17 +4,18 @@
 use files::CLIENT_SPACE;
 use files::TABLE_SPACE;
 use files::read_table;
-use font::INDEX_WORDS;
+use font_index::INDEX_WORDS;
+use formula::FORMULA_LIMIT;
 use layout::Answer;
-use layout::explaining::Explanation;
-use layout::explaining::why;
+use layout::why::WhyAnswer;
+use layout::why::why;
 use libc::STDIN_FILENO;
 
 // A style and a place.
 const HEAD_BYTES: usize = 5;
 
 // One byte more than these and the longest formula, so that a longer one is seen.
-const INPUT_SPACE: usize = 131_078;
+const INPUT_SPACE: usize = HEAD_BYTES + FORMULA_LIMIT + 1;
 
 fn main() {
     let mut input = [0u8; INPUT_SPACE];
@@ -29,18 +30,18 @@ fn main() {
 // Without a style there is no style that is known; without a whole place there is no formula either.
 fn show<'a>(table: &'a [u8], client: &'a [u8], input: &[u8]) {
     if input.len() == 0 {
-        listing::write_reasons(Explanation::Refused(Answer::NoStyle));
+        listing::write_reasons(WhyAnswer::Refused(Answer::NoStyle));
         return;
     }
     if input.len() < HEAD_BYTES {
-        explain(table, client, input[0], 0, &input[..0]);
+        show_reasons(table, client, input[0], 0, &input[..0]);
         return;
     }
     let place = words::word(input, 1) as usize;
-    explain(table, client, input[0], place, &input[HEAD_BYTES..]);
+    show_reasons(table, client, input[0], place, &input[HEAD_BYTES..]);
 }
 
-fn explain<'a>(table: &'a [u8], client: &'a [u8], style: u8, place: usize, formula: &[u8]) {
+fn show_reasons<'a>(table: &'a [u8], client: &'a [u8], style: u8, place: usize, formula: &[u8]) {
     let mut index = [0u64; INDEX_WORDS];
     let mut client_index = [0u64; INDEX_WORDS];
     listing::write_reasons(why(

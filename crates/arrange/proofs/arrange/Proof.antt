@@ -37,27 +37,6 @@ parts-moderate c =
     let pre = upper .before .before .before .before .pre in
     (n .nucleus-of .ensures .1, upper .given .ensures .1 (pre .1), lower .given2 .ensures .1 (pre .2))
 
-enum-known-kind : tie.Need-enum-known-kind
-enum-known-kind c = search needs
-
-given-requires : tie.Need-given-requires
-given-requires c κs = search needs
-
-given-requires-2 : tie.Need-given-requires-2
-given-requires-2 c κs = search needs
-
-is-given-requires : tie.Need-is-given-requires
-is-given-requires c κs = search needs
-
-nucleus-of-requires : tie.Need-nucleus-of-requires
-nucleus-of-requires c κs = search needs
-
-sets-limits-requires : tie.Need-sets-limits-requires
-sets-limits-requires c κs = search needs
-
-font-size-requires : tie.Need-font-size-requires
-font-size-requires c κs = search needs
-
 limited-requires : tie.Need-limited-requires
 limited-requires c κs =
     let parts = parts-moderate (c .before .before) in
@@ -65,15 +44,6 @@ limited-requires c κs =
 
 scripted-requires : tie.Need-scripted-requires
 scripted-requires c κs = parts-moderate (c .before)
-
-enum-known-kind-2 : tie.Need-enum-known-kind-2
-enum-known-kind-2 c = search needs
-
-size-of-requires : tie.Need-size-of-requires
-size-of-requires c κs = search needs
-
-size-of-requires-2 : tie.Need-size-of-requires-2
-size-of-requires-2 c κs = search needs
 
 fraction-requires : tie.Need-fraction-requires
 fraction-requires c κs =
@@ -103,18 +73,18 @@ pub arrange-spec : {M : Type 1} → statement M
 arrange-spec =
     tie.close
     (tie.spec
-    enum-known-kind
-    given-requires
-    given-requires-2
-    is-given-requires
-    nucleus-of-requires
-    sets-limits-requires
-    font-size-requires
+    (λ c. search needs)
+    (λ c κs. search needs)
+    (λ c κs. search needs)
+    (λ c κs. search needs)
+    (λ c κs. search needs)
+    (λ c κs. search needs)
+    (λ c κs. search needs)
     limited-requires
     scripted-requires
-    enum-known-kind-2
-    size-of-requires
-    size-of-requires-2
+    (λ c. search needs)
+    (λ c κs. search needs)
+    (λ c κs. search needs)
     fraction-requires
     returns
     returns-2

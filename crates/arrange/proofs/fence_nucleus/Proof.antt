@@ -5,15 +5,6 @@ use borrow.Author.Needs.{needs}
 use Rattle.arrange.proofs.fence_nucleus.Statement.{statement}
 use Rattle.arrange.proofs.fence_nucleus.Tie as tie
 
-sign-at-requires : tie.Need-sign-at-requires
-sign-at-requires c κs = search needs
-
-sign-at-requires-2 : tie.Need-sign-at-requires-2
-sign-at-requires-2 c κs = search needs
-
-signed-around-requires : tie.Need-signed-around-requires
-signed-around-requires c κs = search needs
-
 returns : tie.Need-returns
 returns c =
     let right = c .before in
@@ -25,4 +16,4 @@ returns c =
 
 pub fence-nucleus-spec : {M : Type 1} → statement M
 fence-nucleus-spec =
-    tie.close (tie.spec sign-at-requires sign-at-requires-2 signed-around-requires returns)
+    tie.close (tie.spec (λ c κs. search needs) (λ c κs. search needs) (λ c κs. search needs) returns)

@@ -4,18 +4,6 @@ use borrow.Author.Needs.{needs}
 use Rattle.arrange.proofs.first_style.Statement.{statement}
 use Rattle.arrange.proofs.first_style.Tie as tie
 
-enum-known-kind : tie.Need-enum-known-kind
-enum-known-kind c = search needs
-
-base-style-requires : tie.Need-base-style-requires
-base-style-requires c κs = search needs
-
-enum-told : tie.Need-enum-told
-enum-told c = search needs
-
-numerator-style-requires : tie.Need-numerator-style-requires
-numerator-style-requires c κs = search needs
-
 returns : tie.Need-returns
 returns c = rw (c .before .before .kind .given .1) (c .base-style .ensures)
 
@@ -26,9 +14,9 @@ pub first-style-spec : {M : Type 1} → statement M
 first-style-spec =
     tie.close
     (tie.spec
-    enum-known-kind
-    base-style-requires
-    enum-told
-    numerator-style-requires
+    (λ c. search needs)
+    (λ c κs. search needs)
+    (λ c. search needs)
+    (λ c κs. search needs)
     returns
     returns-2)

@@ -10,89 +10,26 @@ use Rattle.arrange.specs.Arrange.{rootNucleus, fenceNucleus, nucleusOf}
 use Rattle.arrange.proofs.nucleus_of.Statement.{statement}
 use Rattle.arrange.proofs.nucleus_of.Tie as tie
 
-enum-known-base : tie.Need-enum-known-base
-enum-known-base c = search needs
-
-font-size-requires : tie.Need-font-size-requires
-font-size-requires c κs = search needs
-
-parameter-requires : tie.Need-parameter-requires
-parameter-requires c κs = search needs
-
-has-limits-requires : tie.Need-has-limits-requires
-has-limits-requires c κs = search needs
-
-is-op-requires : tie.Need-is-op-requires
-is-op-requires c κs = search needs
-
-atom-nucleus-requires : tie.Need-atom-nucleus-requires
-atom-nucleus-requires c κs = search needs
-
-enum-told : tie.Need-enum-told
-enum-told c = search needs
-
-rule-thickness-requires : tie.Need-rule-thickness-requires
-rule-thickness-requires c κs = search needs
-
-size-of-requires : tie.Need-size-of-requires
-size-of-requires c κs = search needs
-
 overline-requires : tie.Need-overline-requires
 overline-requires c κs =
     let theta = c .before in
     (theta .rule-thickness .ensures .1, c .size-of .ensures .1 (theta .before .before .before .pre))
-
-enum-told-2 : tie.Need-enum-told-2
-enum-told-2 c = search needs
-
-rule-thickness-requires-2 : tie.Need-rule-thickness-requires-2
-rule-thickness-requires-2 c κs = search needs
-
-size-of-requires-2 : tie.Need-size-of-requires-2
-size-of-requires-2 c κs = search needs
 
 underline-requires : tie.Need-underline-requires
 underline-requires c κs =
     let theta = c .before in
     (theta .rule-thickness2 .ensures .1, c .size-of2 .ensures .1 (theta .before .before .before .pre))
 
-enum-told-3 : tie.Need-enum-told-3
-enum-told-3 c = search needs
-
-size-of-requires-3 : tie.Need-size-of-requires-3
-size-of-requires-3 c κs = search needs
-
-sign-size-requires : tie.Need-sign-size-requires
-sign-size-requires c κs = search needs
-
 root-requires : tie.Need-root-requires
 root-requires c κs =
     let nucleus = c .before in
     (nucleus .size-of3 .ensures .1 (nucleus .before .before .before .pre), c .sign-size .ensures .1)
-
-root-nucleus-requires : tie.Need-root-nucleus-requires
-root-nucleus-requires c κs = search needs
-
-enum-told-4 : tie.Need-enum-told-4
-enum-told-4 c = search needs
-
-sign-size-requires-2 : tie.Need-sign-size-requires-2
-sign-size-requires-2 c κs = search needs
-
-size-of-requires-4 : tie.Need-size-of-requires-4
-size-of-requires-4 c κs = search needs
-
-sign-size-requires-3 : tie.Need-sign-size-requires-3
-sign-size-requires-3 c κs = search needs
 
 fence-of-requires : tie.Need-fence-of-requires
 fence-of-requires c κs =
     let list = c .before in
     let left = list .before in
     (left .sign-size2 .ensures .1, list .size-of4 .ensures .1 (left .before .before .before .pre), c .sign-size3 .ensures .1)
-
-fence-nucleus-requires : tie.Need-fence-nucleus-requires
-fence-nucleus-requires c κs = search needs
 
 returns : tie.Need-returns
 unfolding nucleusOf
@@ -149,31 +86,31 @@ pub nucleus-of-spec : {M : Type 1} → statement M
 nucleus-of-spec =
     tie.close
     (tie.spec
-    enum-known-base
-    font-size-requires
-    parameter-requires
-    has-limits-requires
-    is-op-requires
-    atom-nucleus-requires
-    enum-told
-    rule-thickness-requires
-    size-of-requires
+    (λ c. search needs)
+    (λ c κs. search needs)
+    (λ c κs. search needs)
+    (λ c κs. search needs)
+    (λ c κs. search needs)
+    (λ c κs. search needs)
+    (λ c. search needs)
+    (λ c κs. search needs)
+    (λ c κs. search needs)
     overline-requires
-    enum-told-2
-    rule-thickness-requires-2
-    size-of-requires-2
+    (λ c. search needs)
+    (λ c κs. search needs)
+    (λ c κs. search needs)
     underline-requires
-    enum-told-3
-    size-of-requires-3
-    sign-size-requires
+    (λ c. search needs)
+    (λ c κs. search needs)
+    (λ c κs. search needs)
     root-requires
-    root-nucleus-requires
-    enum-told-4
-    sign-size-requires-2
-    size-of-requires-4
-    sign-size-requires-3
+    (λ c κs. search needs)
+    (λ c. search needs)
+    (λ c κs. search needs)
+    (λ c κs. search needs)
+    (λ c κs. search needs)
     fence-of-requires
-    fence-nucleus-requires
+    (λ c κs. search needs)
     returns
     returns-2
     returns-3

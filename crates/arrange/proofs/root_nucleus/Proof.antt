@@ -5,12 +5,6 @@ use borrow.Author.Needs.{needs}
 use Rattle.arrange.proofs.root_nucleus.Statement.{statement}
 use Rattle.arrange.proofs.root_nucleus.Tie as tie
 
-sign-at-requires : tie.Need-sign-at-requires
-sign-at-requires c κs = search needs
-
-signed-before-requires : tie.Need-signed-before-requires
-signed-before-requires c κs = search needs
-
 returns : tie.Need-returns
 returns c =
     let at = c .before in
@@ -20,4 +14,4 @@ returns c =
     )
 
 pub root-nucleus-spec : {M : Type 1} → statement M
-root-nucleus-spec = tie.close (tie.spec sign-at-requires signed-before-requires returns)
+root-nucleus-spec = tie.close (tie.spec (λ c κs. search needs) (λ c κs. search needs) returns)

@@ -4,18 +4,6 @@ use borrow.Author.Needs.{needs}
 use Rattle.arrange.proofs.second_style.Statement.{statement}
 use Rattle.arrange.proofs.second_style.Tie as tie
 
-enum-told : tie.Need-enum-told
-enum-told c = search needs
-
-superscript-style-requires : tie.Need-superscript-style-requires
-superscript-style-requires c κs = search needs
-
-enum-told-2 : tie.Need-enum-told-2
-enum-told-2 c = search needs
-
-denominator-style-requires : tie.Need-denominator-style-requires
-denominator-style-requires c κs = search needs
-
 returns : tie.Need-returns
 returns c = rw (c .before .enum-told .given .1) (c .superscript-style .ensures)
 
@@ -26,9 +14,9 @@ pub second-style-spec : {M : Type 1} → statement M
 second-style-spec =
     tie.close
     (tie.spec
-    enum-told
-    superscript-style-requires
-    enum-told-2
-    denominator-style-requires
+    (λ c. search needs)
+    (λ c κs. search needs)
+    (λ c. search needs)
+    (λ c κs. search needs)
     returns
     returns-2)

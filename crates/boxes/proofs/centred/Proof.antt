@@ -4,14 +4,8 @@ use borrow.Author.Needs.{needs}
 use Rattle.boxes.proofs.centred.Statement.{statement}
 use Rattle.boxes.proofs.centred.Tie as tie
 
-minus-requires : tie.Need-minus-requires
-minus-requires c κs = search needs
-
-half-requires : tie.Need-half-requires
-half-requires c κs = search needs
-
 returns : tie.Need-returns
 returns c = (rw (c .half .ensures .is, c .before .minus .ensures .is), search needs)
 
 pub centred-spec : {M : Type 1} → statement M
-centred-spec = tie.close (tie.spec minus-requires half-requires returns)
+centred-spec = tie.close (tie.spec (λ c κs. search needs) (λ c κs. search needs) returns)

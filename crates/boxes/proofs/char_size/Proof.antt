@@ -4,21 +4,6 @@ use borrow.Author.Needs.{needs}
 use Rattle.boxes.proofs.char_size.Statement.{statement}
 use Rattle.boxes.proofs.char_size.Tie as tie
 
-of-word-requires : tie.Need-of-word-requires
-of-word-requires c κs = search needs
-
-of-word-requires-2 : tie.Need-of-word-requires-2
-of-word-requires-2 c κs = search needs
-
-plus-requires : tie.Need-plus-requires
-plus-requires c κs = search needs
-
-of-word-requires-3 : tie.Need-of-word-requires-3
-of-word-requires-3 c κs = search needs
-
-of-word-requires-4 : tie.Need-of-word-requires-4
-of-word-requires-4 c κs = search needs
-
 returns : tie.Need-returns
 returns c =
     let h = c .before in
@@ -31,9 +16,9 @@ pub char-size-spec : {M : Type 1} → statement M
 char-size-spec =
     tie.close
     (tie.spec
-    of-word-requires
-    of-word-requires-2
-    plus-requires
-    of-word-requires-3
-    of-word-requires-4
+    (λ c κs. search needs)
+    (λ c κs. search needs)
+    (λ c κs. search needs)
+    (λ c κs. search needs)
+    (λ c κs. search needs)
     returns)

@@ -6,18 +6,6 @@ use borrow.Author.Needs.{needs}
 use Rattle.boxes.proofs.given.Statement.{statement}
 use Rattle.boxes.proofs.given.Tie as tie
 
-enum-told : tie.Need-enum-told
-enum-told c = search needs
-
-enum-known-x : tie.Need-enum-known-x
-enum-known-x c = search needs
-
-char-size-requires : tie.Need-char-size-requires
-char-size-requires c κs = search needs
-
-enum-known-x-2 : tie.Need-enum-known-x-2
-enum-known-x-2 c = search needs
-
 returns : tie.Need-returns
 returns c = (cc, λ moderate. tt)
 
@@ -33,4 +21,4 @@ returns-3 c =
 pub given-spec : {M : Type 1} → statement M
 given-spec =
     tie.close
-    (tie.spec enum-told enum-known-x char-size-requires enum-known-x-2 returns returns-2 returns-3)
+    (tie.spec (λ c. search needs) (λ c. search needs) (λ c κs. search needs) (λ c. search needs) returns returns-2 returns-3)

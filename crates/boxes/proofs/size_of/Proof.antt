@@ -5,21 +5,6 @@ use borrow.Author.Needs.{needs}
 use Rattle.boxes.proofs.size_of.Statement.{statement}
 use Rattle.boxes.proofs.size_of.Tie as tie
 
-enum-told : tie.Need-enum-told
-enum-told c = search needs
-
-zero-size-requires : tie.Need-zero-size-requires
-zero-size-requires c κs = search needs
-
-enum-known-x : tie.Need-enum-known-x
-enum-known-x c = search needs
-
-char-size-requires : tie.Need-char-size-requires
-char-size-requires c κs = search needs
-
-enum-known-x-2 : tie.Need-enum-known-x-2
-enum-known-x-2 c = search needs
-
 returns : tie.Need-returns
 returns c = (cc, λ moderate. c .zero-size .ensures .1)
 
@@ -36,11 +21,11 @@ pub size-of-spec : {M : Type 1} → statement M
 size-of-spec =
     tie.close
     (tie.spec
-    enum-told
-    zero-size-requires
-    enum-known-x
-    char-size-requires
-    enum-known-x-2
+    (λ c. search needs)
+    (λ c κs. search needs)
+    (λ c. search needs)
+    (λ c κs. search needs)
+    (λ c. search needs)
     returns
     returns-2
     returns-3)

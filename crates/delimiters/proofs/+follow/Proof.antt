@@ -1,9 +1,10 @@
 -- `follow` takes the steps of `chain` and looks at each symbol. The measure is the steps that are left.
 -- Assumes nothing.
 use mathlib.Core.Path.{sym, ap, _∙_}
-use Prim.Native.Nat.{ℕ, _-_, _<_}
+use Prim.Native.Nat.{ℕ, _-_}
 use native.Mathlib.Omega.{arith}
 use borrow.Author.Needs.{needs}
+use Rattle.laws.specs.Cycles as cycles
 use Rattle.font.specs.Font.{fontWith}
 use Rattle.font.specs.Values.{foundAs, successorAs}
 use Rattle.delimiters.specs.Delimiters.{chain}
@@ -11,11 +12,11 @@ use Rattle.delimiters.specs.Looking.{Looked, lookedAt}
 use Rattle.delimiters.proofs.LookingLaws.{looked-enough}
 use Rattle.delimiters.proofs.ChainLaws.{chain-absent, chain-last, chain-cut, chain-step}
 use borrow.Fn.Kinds.{In}
-use borrow.Fn.PlainCycle.{Measures, is, falls, and}
+use borrow.Fn.PlainCycle.{Measures}
 use Rattle.delimiters.proofs.follow.Reads as follow
 use Rattle.delimiters.proofs.follow.Kinds as kinds
 use Rattle.delimiters.proofs.+follow.Lts-follow as lts
-use Rattle.font.proofs.symbol.Reads as symbol-reads
+use Rattle.font_index.proofs.symbol.Reads as symbol-reads
 use Rattle.delimiters.proofs.look.Reads as look-reads
 use Rattle.delimiters.proofs.+follow.{statement}
 use Rattle.delimiters.proofs.+follow.Tie.{close}
@@ -24,10 +25,10 @@ abbrev μ : Measures 3 kinds.ps ℕ
 μ κs a = a .1 .1 .1 .1 .1 .1 .1 .1 .1 .0
 
 abbrev at : ℕ → In 3 kinds.ps
-at t = and 3 kinds.ps (is 3 kinds.ps μ t) follow.Pre
+at = cycles.at 3 kinds.ps μ follow.Pre
 
 abbrev below : ℕ → In 3 kinds.ps
-below t = and 3 kinds.ps (falls 3 kinds.ps _<_ μ t) follow.Pre
+below = cycles.below 3 kinds.ps μ follow.Pre
 
 abbrev claims : ℕ → lts.Claims
 claims t = (symbol-reads.Asked, symbol-reads.Learnt, look-reads.Asked, look-reads.Learnt, below t, follow.Post)

@@ -1,18 +1,19 @@
 -- `is_in_sizes` goes from size to size, as `inSizes` does. The measure is the size.
 -- Assumes nothing.
 use mathlib.Core.Path.{sym, ap, _∙_}
-use Prim.Native.Nat.{ℕ, _<_}
+use Prim.Native.Nat.{ℕ}
 use native.Mathlib.Omega.{arith}
 use borrow.Author.Needs.{needs}
+use Rattle.laws.specs.Cycles as cycles
 use Rattle.font.specs.Font.{fontWith}
 use Rattle.font.specs.Values.{foundAs}
 use Rattle.delimiters.proofs.ChainLaws.{any-here, any-text, any-up}
 use borrow.Fn.Kinds.{In}
-use borrow.Fn.PlainCycle.{Measures, is, falls, and}
+use borrow.Fn.PlainCycle.{Measures}
 use Rattle.delimiters.proofs.is_in_sizes.Reads as is-in-sizes
 use Rattle.delimiters.proofs.is_in_sizes.Kinds as kinds
 use Rattle.delimiters.proofs.+is_in_sizes.Lts-is_in_sizes as lts
-use Rattle.font.proofs.symbol.Reads as symbol-reads
+use Rattle.font_index.proofs.symbol.Reads as symbol-reads
 use Rattle.delimiters.proofs.+is_in_sizes.{statement}
 use Rattle.delimiters.proofs.+is_in_sizes.Tie.{close}
 
@@ -20,10 +21,10 @@ abbrev μ : Measures 3 kinds.ps ℕ
 μ κs a = a .1 .1 .1 .1 .0
 
 abbrev at : ℕ → In 3 kinds.ps
-at t = and 3 kinds.ps (is 3 kinds.ps μ t) is-in-sizes.Pre
+at = cycles.at 3 kinds.ps μ is-in-sizes.Pre
 
 abbrev below : ℕ → In 3 kinds.ps
-below t = and 3 kinds.ps (falls 3 kinds.ps _<_ μ t) is-in-sizes.Pre
+below = cycles.below 3 kinds.ps μ is-in-sizes.Pre
 
 abbrev claims : ℕ → lts.Claims
 claims t = (symbol-reads.Asked, symbol-reads.Learnt, below t, is-in-sizes.Post)

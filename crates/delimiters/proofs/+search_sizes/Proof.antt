@@ -1,13 +1,14 @@
 -- `search_sizes` goes from size to size, as `inSizes` does. The measure is the size.
 -- Assumes nothing.
-use Prim.Native.Nat.{ℕ, _<_}
+use Prim.Native.Nat.{ℕ}
 use native.Mathlib.Omega.{arith}
 use borrow.Author.Needs.{needs}
+use Rattle.laws.specs.Cycles as cycles
 use Rattle.font.specs.Font.{fontWith}
 use Rattle.delimiters.proofs.LookingLaws.{looked-both}
 use Rattle.delimiters.proofs.ChainLaws.{in-text, in-sizes}
 use borrow.Fn.Kinds.{In}
-use borrow.Fn.PlainCycle.{Measures, is, falls, and}
+use borrow.Fn.PlainCycle.{Measures}
 use Rattle.delimiters.proofs.search_sizes.Reads as search-sizes
 use Rattle.delimiters.proofs.search_sizes.Kinds as kinds
 use Rattle.delimiters.proofs.+search_sizes.Lts-search_sizes as lts
@@ -19,10 +20,10 @@ abbrev μ : Measures 3 kinds.ps ℕ
 μ κs a = a .1 .1 .1 .1 .0
 
 abbrev at : ℕ → In 3 kinds.ps
-at t = and 3 kinds.ps (is 3 kinds.ps μ t) search-sizes.Pre
+at = cycles.at 3 kinds.ps μ search-sizes.Pre
 
 abbrev below : ℕ → In 3 kinds.ps
-below t = and 3 kinds.ps (falls 3 kinds.ps _<_ μ t) search-sizes.Pre
+below = cycles.below 3 kinds.ps μ search-sizes.Pre
 
 abbrev claims : ℕ → lts.Claims
 claims t = (follow-reads.Asked, follow-reads.Learnt, below t, search-sizes.Post)

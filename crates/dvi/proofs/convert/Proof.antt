@@ -3,16 +3,10 @@
 use mathlib.Core.Path.{sym, ap, _∙_}
 use native.Mathlib.Omega.{arith}
 use borrow.Author.Needs.{needs}
-use Rattle.dvi.specs.Answers.{accepted}
+use Rattle.results.specs.Results.{accepted}
 use Rattle.dvi.specs.AnswerLaws.{answer-refused, buffer-refused, answer-full, buffer-full, answer-made}
 use Rattle.dvi.proofs.convert.Statement.{statement}
 use Rattle.dvi.proofs.convert.Tie as tie
-
-measure-requires : tie.Need-measure-requires
-measure-requires c κs = search needs
-
-enum-known-measured : tie.Need-enum-known-measured
-enum-known-measured c = search needs
 
 returns : tie.Need-returns
 returns c =
@@ -28,15 +22,6 @@ transcribe-requires c κs =
     let measured = c .before .before .before in
     let measure = measured .before .before in
     record { size = _; sized = rw (measured .measured .given .1) at (measure .measure .ensures); room = c .before .if1 .left }
-
-enum-told : tie.Need-enum-told
-enum-told c = search needs
-
-refused-requires : tie.Need-refused-requires
-refused-requires c κs = search needs
-
-same-length : tie.Need-same-length
-same-length c = search needs
 
 returns-2 : tie.Need-returns-2
 returns-2 c =
@@ -58,12 +43,12 @@ pub convert-spec : {M : Type 1} → statement M
 convert-spec =
     tie.close
     (tie.spec
-    measure-requires
-    enum-known-measured
+    (λ c κs. search needs)
+    (λ c. search needs)
     returns
     transcribe-requires
-    enum-told
-    refused-requires
-    same-length
+    (λ c. search needs)
+    (λ c κs. search needs)
+    (λ c. search needs)
     returns-2
     returns-3)

@@ -20,9 +20,6 @@ Inv-loop from s to at₀ size₀ at size = Passed from to s at size
 abbrev μ-loop : tie.MeasureT-loop
 μ-loop from s to at₀ size₀ at size = length s - at
 
-other-requires : tie.Need-other-requires Inv-loop μ-loop
-other-requires c κs = search needs
-
 loop-holds : tie.Need-loop-holds Inv-loop μ-loop
 loop-holds c = passed-none _ _ _
 
@@ -35,15 +32,6 @@ part-front-start c = omega arith
 part-front-end : tie.Need-part-front-end Inv-loop μ-loop
 part-front-end c = omega arith
 
-front-requires : tie.Need-front-requires Inv-loop μ-loop
-front-requires c κs = search needs
-
-enum-known-front : tie.Need-enum-known-front Inv-loop μ-loop
-enum-known-front c = search needs
-
-enum-told : tie.Need-enum-told Inv-loop μ-loop
-enum-told c = search needs
-
 returns : tie.Need-returns Inv-loop μ-loop
 returns c =
     let front = c .before .before in
@@ -53,9 +41,6 @@ returns c =
     passed-stopped (loop .loop .inv) (test .loop-test .taken)
     (front-there (args .from) (loop .loop .at) (args .s .now) (front .front .ensures) (c .enum-told .given .1))
 
-size-requires : tie.Need-size-requires Inv-loop μ-loop
-size-requires c κs = search needs
-
 add-at : tie.Need-add-at Inv-loop μ-loop
 add-at c =
     let told = c .before .before in
@@ -64,9 +49,6 @@ add-at c =
     let args = loop .before .before .before .args in
     let there = front-there (args .from) (loop .loop .at) (args .s .now) (front .front .ensures) (told .front2 .given .1) in
     omega (arith, passed-next (loop .loop .inv) _ there (c .size .ensures) refl .inside)
-
-size-requires-2 : tie.Need-size-requires-2 Inv-loop μ-loop
-size-requires-2 c κs = search needs
 
 -- the nodes that are passed after a turn
 turn : tie.Need-loop-again Inv-loop μ-loop
@@ -104,18 +86,18 @@ measure-spec =
     (tie.spec
     Inv-loop
     μ-loop
-    other-requires
+    (λ c κs. search needs)
     loop-holds
     sub-front
     part-front-start
     part-front-end
-    front-requires
-    enum-known-front
-    enum-told
+    (λ c κs. search needs)
+    (λ c. search needs)
+    (λ c. search needs)
     returns
-    size-requires
+    (λ c κs. search needs)
     add-at
-    size-requires-2
+    (λ c κs. search needs)
     add-size
     loop-less
     turn

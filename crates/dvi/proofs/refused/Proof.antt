@@ -3,21 +3,16 @@
 use mathlib.Core.Path.{sym, ap}
 use borrow.Author.Needs.{needs}
 use Rattle.dvi.specs.declared.forms.Form.{Form}
-use Rattle.dvi.specs.Answers.{refusal, refusalNumber}
+use Rattle.results.specs.Results.{refusal}
+use Rattle.dvi.specs.Answers.{refusalNumber}
 use Rattle.dvi.proofs.refused.Statement.{statement}
 use Rattle.dvi.proofs.refused.Tie as tie
 
-enum-told : tie.Need-enum-told
-enum-told c = search needs
-
-enum-told-2 : tie.Need-enum-told-2
-enum-told-2 c = search needs
-
 returns : tie.Need-returns
-returns c = ap (λ (f : Form). refusal (refusalNumber f)) (sym (c .enum-told .given .1))
+returns c = ap (λ (f : Form). refusal (refusalNumber f) 0) (sym (c .enum-told .given .1))
 
 returns-2 : tie.Need-returns-2
-returns-2 c = ap (λ (f : Form). refusal (refusalNumber f)) (sym (c .enum-told2 .given .1))
+returns-2 c = ap (λ (f : Form). refusal (refusalNumber f) 0) (sym (c .enum-told2 .given .1))
 
 pub refused-spec : {M : Type 1} → statement M
-refused-spec = tie.close (tie.spec enum-told enum-told-2 returns returns-2)
+refused-spec = tie.close (tie.spec (λ c. search needs) (λ c. search needs) returns returns-2)

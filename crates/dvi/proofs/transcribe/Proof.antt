@@ -18,9 +18,6 @@ Inv-loop from s out₀ to at₀ end₀ out at end = Copied from to s out₀ out 
 abbrev μ-loop : tie.MeasureT-loop
 μ-loop from s out₀ to at₀ end₀ out at end = length s - at
 
-other-requires : tie.Need-other-requires Inv-loop μ-loop
-other-requires c κs = search needs
-
 loop-holds : tie.Need-loop-holds Inv-loop μ-loop
 loop-holds c = copied-none _ _ _ _
 
@@ -33,17 +30,10 @@ part-front-start c = omega arith
 part-front-end : tie.Need-part-front-end Inv-loop μ-loop
 part-front-end c = omega arith
 
-front-requires : tie.Need-front-requires Inv-loop μ-loop
-front-requires c κs = search needs
-
-enum-known-front : tie.Need-enum-known-front Inv-loop μ-loop
-enum-known-front c = search needs
-
-enum-told : tie.Need-enum-told Inv-loop μ-loop
-enum-told c = search needs
-
 same-length : tie.Need-same-length Inv-loop μ-loop
-same-length c = c .before .before .before .before .before .loop .inv .same
+same-length c =
+    let front = c .before .before in
+    front .before .before .before .loop .inv .same
 
 returns : tie.Need-returns Inv-loop μ-loop
 returns c =
@@ -56,17 +46,20 @@ returns c =
 
 sub-put : tie.Need-sub-put Inv-loop μ-loop
 sub-put c =
-    let loop = c .before .before .before .before .before .before in
+    let front = c .before .before .before in
+    let loop = front .before .before .before in
     omega (arith, copied-room (loop .loop .inv) (loop .before .other .ensures) (loop .before .before .before .before .pre))
 
 part-put-start : tie.Need-part-put-start Inv-loop μ-loop
 part-put-start c =
-    let loop = c .before .before .before .before .before .before in
+    let front = c .before .before .before in
+    let loop = front .before .before .before in
     omega (arith, copied-room (loop .loop .inv) (loop .before .other .ensures) (loop .before .before .before .before .pre))
 
 part-put-end : tie.Need-part-put-end Inv-loop μ-loop
 part-put-end c =
-    let loop = c .before .before .before .before .before .before in
+    let front = c .before .before .before in
+    let loop = front .before .before .before in
     omega (arith, copied-room (loop .loop .inv) (loop .before .other .ensures) (loop .before .before .before .before .pre))
 
 put-requires : tie.Need-put-requires Inv-loop μ-loop
@@ -78,9 +71,6 @@ put-requires c κs =
     let there = front-there (start .args .from) (loop .loop .at) (start .args .s .now) (front .front .ensures) (told .front2 .given .1) in
     copied-asks (loop .loop .inv) _ (loop .before .other .ensures) (start .pre) there
 
-size-requires : tie.Need-size-requires Inv-loop μ-loop
-size-requires c κs = search needs
-
 add-at : tie.Need-add-at Inv-loop μ-loop
 add-at c =
     let told = c .before .before .before .before .before .before in
@@ -89,9 +79,6 @@ add-at c =
     let args = loop .before .before .before .before .args in
     let there = front-there (args .from) (loop .loop .at) (args .s .now) (front .front .ensures) (told .front2 .given .1) in
     omega (arith, passed-next (loop .loop .inv .passed) _ there (c .size .ensures) refl .inside)
-
-size-requires-2 : tie.Need-size-requires-2 Inv-loop μ-loop
-size-requires-2 c κs = search needs
 
 -- what is written after a turn
 turn : tie.Need-loop-again Inv-loop μ-loop
@@ -106,14 +93,18 @@ turn c =
 
 add-end : tie.Need-add-end Inv-loop μ-loop
 add-end c =
-    let loop = c .before .before .before .before .before .before .before .before .before .before .before .before in
+    let put = c .before .before .before .before in
+    let told = put .before .before .before in
+    let loop = told .before .before .before .before .before in
     omega (arith, copied-room (turn c) (loop .before .other .ensures) (loop .before .before .before .before .pre), turn c .same)
 
 loop-less : tie.Need-loop-less Inv-loop μ-loop
 loop-less c =
     let size = c .before in
-    let told = size .before .before .before .before .before .before in
-    let start = told .before .before .before .before .before .before .before .before .before in
+    let put = size .before .before .before in
+    let told = put .before .before .before in
+    let loop = told .before .before .before .before .before in
+    let start = loop .before .before .before .before in
     omega (arith, turn c .passed .inside, size .size .ensures, size-least (start .args .from) (nodeAs (told .front2 .given .0 .0)))
 
 same-length-2 : tie.Need-same-length-2 Inv-loop μ-loop
@@ -130,23 +121,23 @@ transcribe-spec =
     (tie.spec
     Inv-loop
     μ-loop
-    other-requires
+    (λ c κs. search needs)
     loop-holds
     sub-front
     part-front-start
     part-front-end
-    front-requires
-    enum-known-front
-    enum-told
+    (λ c κs. search needs)
+    (λ c. search needs)
+    (λ c. search needs)
     same-length
     returns
     sub-put
     part-put-start
     part-put-end
     put-requires
-    size-requires
+    (λ c κs. search needs)
     add-at
-    size-requires-2
+    (λ c κs. search needs)
     add-end
     loop-less
     turn

@@ -19,15 +19,6 @@ each-size P text script scriptscript beyond (suc zero) = script
 each-size P text script scriptscript beyond (suc (suc zero)) = scriptscript
 each-size P text script scriptscript beyond (suc (suc (suc size))) = beyond (suc (suc (suc size))) (omega arith)
 
-row-requires : tie.Need-row-requires
-row-requires c κs = search needs
-
-row-requires-2 : tie.Need-row-requires-2
-row-requires-2 c κs = search needs
-
-row-requires-3 : tie.Need-row-requires-3
-row-requires-3 c κs = search needs
-
 returns : tie.Need-returns
 returns c =
     let table = now (c .before .before .before .before .args .table) in
@@ -44,4 +35,4 @@ returns c =
     }
 
 pub parameters-spec : {M : Type 1} → statement M
-parameters-spec = tie.close (tie.spec row-requires row-requires-2 row-requires-3 returns)
+parameters-spec = tie.close (tie.spec (λ c κs. search needs) (λ c κs. search needs) (λ c κs. search needs) returns)

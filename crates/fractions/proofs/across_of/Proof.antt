@@ -4,14 +4,8 @@ use borrow.Author.Needs.{needs}
 use Rattle.fractions.proofs.across_of.Statement.{statement}
 use Rattle.fractions.proofs.across_of.Tie as tie
 
-centred-requires : tie.Need-centred-requires
-centred-requires c κs = search needs
-
-plus-requires : tie.Need-plus-requires
-plus-requires c κs = search needs
-
 returns : tie.Need-returns
 returns c = (rw (c .plus .ensures .is, c .before .centred .ensures .0), search needs)
 
 pub across-of-spec : {M : Type 1} → statement M
-across-of-spec = tie.close (tie.spec centred-requires plus-requires returns)
+across-of-spec = tie.close (tie.spec (λ c κs. search needs) (λ c κs. search needs) returns)

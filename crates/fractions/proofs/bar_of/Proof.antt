@@ -5,24 +5,6 @@ use borrow.Author.Needs.{needs}
 use Rattle.fractions.proofs.bar_of.Statement.{statement}
 use Rattle.fractions.proofs.bar_of.Tie as tie
 
-has-bar-requires : tie.Need-has-bar-requires
-has-bar-requires c κs = search needs
-
-half-requires : tie.Need-half-requires
-half-requires c κs = search needs
-
-plus-requires : tie.Need-plus-requires
-plus-requires c κs = search needs
-
-minus-requires : tie.Need-minus-requires
-minus-requires c κs = search needs
-
-ruled-behind-requires : tie.Need-ruled-behind-requires
-ruled-behind-requires c κs = search needs
-
-no-own-requires : tie.Need-no-own-requires
-no-own-requires c κs = search needs
-
 returns : tie.Need-returns
 returns c =
     let low = c .before in
@@ -44,11 +26,11 @@ pub bar-of-spec : {M : Type 1} → statement M
 bar-of-spec =
     tie.close
     (tie.spec
-    has-bar-requires
-    half-requires
-    plus-requires
-    minus-requires
-    ruled-behind-requires
-    no-own-requires
+    (λ c κs. search needs)
+    (λ c κs. search needs)
+    (λ c κs. search needs)
+    (λ c κs. search needs)
+    (λ c κs. search needs)
+    (λ c κs. search needs)
     returns
     returns-2)

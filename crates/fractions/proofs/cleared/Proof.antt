@@ -7,18 +7,6 @@ use Rattle.fractions.specs.Fractions.{cleared}
 use Rattle.fractions.proofs.cleared.Statement.{statement}
 use Rattle.fractions.proofs.cleared.Tie as tie
 
-minus-requires : tie.Need-minus-requires
-minus-requires c κs = search needs
-
-less-requires : tie.Need-less-requires
-less-requires c κs = search needs
-
-minus-requires-2 : tie.Need-minus-requires-2
-minus-requires-2 c κs = search needs
-
-plus-requires : tie.Need-plus-requires
-plus-requires c κs = search needs
-
 returns : tie.Need-returns
 unfolding cleared
 returns c =
@@ -38,4 +26,4 @@ returns-2 c =
 pub cleared-spec : {M : Type 1} → statement M
 cleared-spec =
     tie.close
-    (tie.spec minus-requires less-requires minus-requires-2 plus-requires returns returns-2)
+    (tie.spec (λ c κs. search needs) (λ c κs. search needs) (λ c κs. search needs) (λ c κs. search needs) returns returns-2)

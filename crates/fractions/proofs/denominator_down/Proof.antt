@@ -6,15 +6,6 @@ use Rattle.scaled.specs.Made.{pick-yes, pick-no}
 use Rattle.fractions.proofs.denominator_down.Statement.{statement}
 use Rattle.fractions.proofs.denominator_down.Tie as tie
 
-font-size-requires : tie.Need-font-size-requires
-font-size-requires c κs = search needs
-
-is-display-requires : tie.Need-is-display-requires
-is-display-requires c κs = search needs
-
-parameter-requires : tie.Need-parameter-requires
-parameter-requires c κs = search needs
-
 returns : tie.Need-returns
 returns c =
     let display = c .before .before in (
@@ -22,9 +13,6 @@ returns c =
           (rw (c .parameter .ensures .0 .is, display .before .font-size .ensures .0)),
       search needs,
     )
-
-parameter-requires-2 : tie.Need-parameter-requires-2
-parameter-requires-2 c κs = search needs
 
 returns-2 : tie.Need-returns-2
 returns-2 c =
@@ -38,9 +26,9 @@ pub denominator-down-spec : {M : Type 1} → statement M
 denominator-down-spec =
     tie.close
     (tie.spec
-    font-size-requires
-    is-display-requires
-    parameter-requires
+    (λ c κs. search needs)
+    (λ c κs. search needs)
+    (λ c κs. search needs)
     returns
-    parameter-requires-2
+    (λ c κs. search needs)
     returns-2)

@@ -4,14 +4,8 @@ use borrow.Author.Needs.{needs}
 use Rattle.fractions.proofs.enclosed.Statement.{statement}
 use Rattle.fractions.proofs.enclosed.Tie as tie
 
-plus-requires : tie.Need-plus-requires
-plus-requires c κs = search needs
-
-plus-requires-2 : tie.Need-plus-requires-2
-plus-requires-2 c κs = search needs
-
 returns : tie.Need-returns
 returns c = (rw (c .plus2 .ensures .is, c .before .plus .ensures .is), search needs)
 
 pub enclosed-spec : {M : Type 1} → statement M
-enclosed-spec = tie.close (tie.spec plus-requires plus-requires-2 returns)
+enclosed-spec = tie.close (tie.spec (λ c κs. search needs) (λ c κs. search needs) returns)

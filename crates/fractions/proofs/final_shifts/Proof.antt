@@ -5,27 +5,6 @@ use borrow.Author.Needs.{needs}
 use Rattle.fractions.proofs.final_shifts.Statement.{statement}
 use Rattle.fractions.proofs.final_shifts.Tie as tie
 
-fraction-shifts-requires : tie.Need-fraction-shifts-requires
-fraction-shifts-requires c κs = search needs
-
-has-bar-requires : tie.Need-has-bar-requires
-has-bar-requires c κs = search needs
-
-font-size-requires : tie.Need-font-size-requires
-font-size-requires c κs = search needs
-
-parameter-requires : tie.Need-parameter-requires
-parameter-requires c κs = search needs
-
-least-from-bar-requires : tie.Need-least-from-bar-requires
-least-from-bar-requires c κs = search needs
-
-shifts-with-bar-requires : tie.Need-shifts-with-bar-requires
-shifts-with-bar-requires c κs = search needs
-
-shifts-without-bar-requires : tie.Need-shifts-without-bar-requires
-shifts-without-bar-requires c κs = search needs
-
 returns : tie.Need-returns
 returns c =
     let phi = c .before in
@@ -47,12 +26,12 @@ pub final-shifts-spec : {M : Type 1} → statement M
 final-shifts-spec =
     tie.close
     (tie.spec
-    fraction-shifts-requires
-    has-bar-requires
-    font-size-requires
-    parameter-requires
-    least-from-bar-requires
-    shifts-with-bar-requires
-    shifts-without-bar-requires
+    (λ c κs. search needs)
+    (λ c κs. search needs)
+    (λ c κs. search needs)
+    (λ c κs. search needs)
+    (λ c κs. search needs)
+    (λ c κs. search needs)
+    (λ c κs. search needs)
     returns
     returns-2)

@@ -23,24 +23,6 @@ same-bar : {a a′ θ θ′ w w′ : ℤ} → a ≡ a′ → θ ≡ θ′ → w 
 same-bar {a} {a′} {θ} {θ′} {w} {w′} p q r =
     ap (λ (a : ℤ). barOf a θ w) p ∙ ap (λ (θ : ℤ). barOf a′ θ w) q ∙ ap (λ (w : ℤ). barOf a′ θ′ w) r
 
-font-size-requires : tie.Need-font-size-requires
-font-size-requires c κs = search needs
-
-bar-thickness-requires : tie.Need-bar-thickness-requires
-bar-thickness-requires c κs = search needs
-
-final-shifts-requires : tie.Need-final-shifts-requires
-final-shifts-requires c κs = search needs
-
-max-requires : tie.Need-max-requires
-max-requires c κs = search needs
-
-parameter-requires : tie.Need-parameter-requires
-parameter-requires c κs = search needs
-
-bar-of-requires : tie.Need-bar-of-requires
-bar-of-requires c κs = search needs
-
 stacked-requires : tie.Need-stacked-requires
 stacked-requires c κs =
     let width = c .before .before in
@@ -75,11 +57,11 @@ pub fraction-spec : {M : Type 1} → statement M
 fraction-spec =
     tie.close
     (tie.spec
-    font-size-requires
-    bar-thickness-requires
-    final-shifts-requires
-    max-requires
-    parameter-requires
-    bar-of-requires
+    (λ c κs. search needs)
+    (λ c κs. search needs)
+    (λ c κs. search needs)
+    (λ c κs. search needs)
+    (λ c κs. search needs)
+    (λ c κs. search needs)
     stacked-requires
     returns)

@@ -6,15 +6,6 @@ use Rattle.scaled.specs.Made.{pick-yes, pick-no}
 use Rattle.fractions.proofs.numerator_up.Statement.{statement}
 use Rattle.fractions.proofs.numerator_up.Tie as tie
 
-font-size-requires : tie.Need-font-size-requires
-font-size-requires c κs = search needs
-
-is-display-requires : tie.Need-is-display-requires
-is-display-requires c κs = search needs
-
-parameter-requires : tie.Need-parameter-requires
-parameter-requires c κs = search needs
-
 returns : tie.Need-returns
 returns c =
     let display = c .before .before in (
@@ -22,12 +13,6 @@ returns c =
           (rw (c .parameter .ensures .0 .is, display .before .font-size .ensures .0)),
       search needs,
     )
-
-has-bar-requires : tie.Need-has-bar-requires
-has-bar-requires c κs = search needs
-
-parameter-requires-2 : tie.Need-parameter-requires-2
-parameter-requires-2 c κs = search needs
 
 returns-2 : tie.Need-returns-2
 returns-2 c =
@@ -38,9 +23,6 @@ returns-2 c =
           (rw (c .parameter2 .ensures .0 .is, display .before .font-size .ensures .0))),
       search needs,
     )
-
-parameter-requires-3 : tie.Need-parameter-requires-3
-parameter-requires-3 c κs = search needs
 
 returns-3 : tie.Need-returns-3
 returns-3 c =
@@ -56,12 +38,12 @@ pub numerator-up-spec : {M : Type 1} → statement M
 numerator-up-spec =
     tie.close
     (tie.spec
-    font-size-requires
-    is-display-requires
-    parameter-requires
+    (λ c κs. search needs)
+    (λ c κs. search needs)
+    (λ c κs. search needs)
     returns
-    has-bar-requires
-    parameter-requires-2
+    (λ c κs. search needs)
+    (λ c κs. search needs)
     returns-2
-    parameter-requires-3
+    (λ c κs. search needs)
     returns-3)

@@ -6,21 +6,6 @@ use Rattle.fractions.specs.Fractions.{parted}
 use Rattle.fractions.proofs.parted.Statement.{statement}
 use Rattle.fractions.proofs.parted.Tie as tie
 
-less-requires : tie.Need-less-requires
-less-requires c κs = search needs
-
-minus-requires : tie.Need-minus-requires
-minus-requires c κs = search needs
-
-half-requires : tie.Need-half-requires
-half-requires c κs = search needs
-
-plus-requires : tie.Need-plus-requires
-plus-requires c κs = search needs
-
-plus-requires-2 : tie.Need-plus-requires-2
-plus-requires-2 c κs = search needs
-
 returns : tie.Need-returns
 unfolding parted
 returns c =
@@ -40,10 +25,10 @@ pub parted-spec : {M : Type 1} → statement M
 parted-spec =
     tie.close
     (tie.spec
-    less-requires
-    minus-requires
-    half-requires
-    plus-requires
-    plus-requires-2
+    (λ c κs. search needs)
+    (λ c κs. search needs)
+    (λ c κs. search needs)
+    (λ c κs. search needs)
+    (λ c κs. search needs)
     returns
     returns-2)

@@ -8,15 +8,6 @@ use Rattle.scaled.specs.Made.{pick-yes, pick-no}
 use Rattle.fractions.proofs.rules_clear.Statement.{statement}
 use Rattle.fractions.proofs.rules_clear.Tie as tie
 
-is-display-requires : tie.Need-is-display-requires
-is-display-requires c κs = search needs
-
-times-requires : tie.Need-times-requires
-times-requires c κs = search needs
-
-times-requires-2 : tie.Need-times-requires-2
-times-requires-2 c κs = search needs
-
 returns : tie.Need-returns
 returns c =
     let display = c .before .before in
@@ -33,4 +24,4 @@ returns-2 c =
 
 pub rules-clear-spec : {M : Type 1} → statement M
 rules-clear-spec =
-    tie.close (tie.spec is-display-requires times-requires times-requires-2 returns returns-2)
+    tie.close (tie.spec (λ c κs. search needs) (λ c κs. search needs) (λ c κs. search needs) returns returns-2)

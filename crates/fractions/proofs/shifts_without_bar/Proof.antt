@@ -5,19 +5,10 @@ use Rattle.fractions.specs.Fractions.{shiftsWithoutBar}
 use Rattle.fractions.proofs.shifts_without_bar.Statement.{statement}
 use Rattle.fractions.proofs.shifts_without_bar.Tie as tie
 
-least-clearance-requires : tie.Need-least-clearance-requires
-least-clearance-requires c κs = search needs
-
-clearance-requires : tie.Need-clearance-requires
-clearance-requires c κs = search needs
-
-parted-requires : tie.Need-parted-requires
-parted-requires c κs = search needs
-
 returns : tie.Need-returns
 unfolding shiftsWithoutBar
 returns c = (rw (c .before .clearance .ensures .0, c .before .before .least-clearance .ensures .0) at (c .parted .ensures .0), c .parted .ensures .1)
 
 pub shifts-without-bar-spec : {M : Type 1} → statement M
 shifts-without-bar-spec =
-    tie.close (tie.spec least-clearance-requires clearance-requires parted-requires returns)
+    tie.close (tie.spec (λ c κs. search needs) (λ c κs. search needs) (λ c κs. search needs) returns)

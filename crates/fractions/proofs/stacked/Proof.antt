@@ -5,27 +5,6 @@ use borrow.Author.Needs.{needs}
 use Rattle.fractions.proofs.stacked.Statement.{statement}
 use Rattle.fractions.proofs.stacked.Tie as tie
 
-enclosed-requires : tie.Need-enclosed-requires
-enclosed-requires c κs = search needs
-
-plus-requires : tie.Need-plus-requires
-plus-requires c κs = search needs
-
-plus-requires-2 : tie.Need-plus-requires-2
-plus-requires-2 c κs = search needs
-
-across-of-requires : tie.Need-across-of-requires
-across-of-requires c κs = search needs
-
-across-of-requires-2 : tie.Need-across-of-requires-2
-across-of-requires-2 c κs = search needs
-
-negated-requires : tie.Need-negated-requires
-negated-requires c κs = search needs
-
-origin-requires : tie.Need-origin-requires
-origin-requires c κs = search needs
-
 returns : tie.Need-returns
 returns c =
     let lower = c .before in
@@ -51,11 +30,11 @@ pub stacked-spec : {M : Type 1} → statement M
 stacked-spec =
     tie.close
     (tie.spec
-    enclosed-requires
-    plus-requires
-    plus-requires-2
-    across-of-requires
-    across-of-requires-2
-    negated-requires
-    origin-requires
+    (λ c κs. search needs)
+    (λ c κs. search needs)
+    (λ c κs. search needs)
+    (λ c κs. search needs)
+    (λ c κs. search needs)
+    (λ c κs. search needs)
+    (λ c κs. search needs)
     returns)

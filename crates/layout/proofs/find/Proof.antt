@@ -13,26 +13,24 @@ use Rattle.layout.proofs.EntryLaws.{examined-found}
 use Rattle.layout.proofs.find.Statement.{statement}
 use Rattle.layout.proofs.find.Tie as tie
 
-tested-requires : tie.Need-tested-requires
-tested-requires c κs = search needs
-
-enum-known-testing : tie.Need-enum-known-testing
-enum-known-testing c = search needs
-
-enum-known-testing-2 : tie.Need-enum-known-testing-2
-enum-known-testing-2 c = search needs
+abbrev start-of : tie.After-tested → tie.Start
+start-of c = c .before .before .before .before .before .before
 
 returns : tie.Need-returns
 returns c =
-    let a = c .before .before .before .before .before .before .before .before .before .args in
-    let h = rw (c .before .testing2 .given .1) at (c .before .before .before .tested .ensures) in
+    let tested = c .before .before .before in
+    let a = start-of tested .args in
+    let h = rw (c .before .testing2 .given .1) at (tested .tested .ensures) in
     let i = a .index .now in
     let j = a .client-index .now in
     (stopped _ _ _ i j _ h (a .formula .now), left-alone _ _ _ i j _ h)
 
 -- nothing is refused before the reading
+abbrev passed-start : tie.After-testing → tie.Start
+passed-start c = start-of (c .before .before)
+
 passes : (c : tie.After-testing) →
-    let a = c .before .before .before .before .before .before .before .before .args in
+    let a = passed-start c .args in
     Passes (a .style) (a .table .now) (a .client .now) (lentOf (a .index .now) (a .client-index .now)) (c .testing .given .0 .0)
 passes c = rw (c .testing .given .1) at (c .before .before .tested .ensures)
 
@@ -43,28 +41,28 @@ build-requires c κs =
     (sound-tables _ _ (h .table-good) (h .client-good), omega arith, omega arith)
 
 -- both indexes stand
+abbrev passed-of : tie.After-build → tie.After-testing
+passed-of c = c .before .before .before .before
+
 built : (c : tie.After-build) →
-    let a = c .before .before .before .before .before .before .before .before .before .before .before .before .args in
+    let a = passed-start (passed-of c) .args in
     Built (a .table .now) (a .client .now) (a .index .now) (a .client-index .now) (c .build .last .1 .1 .0) (c .build .last .1 .1 .1 .0)
 built c = record { ours-is = c .build .ensures .0; theirs-is = c .build .ensures .1 }
 
-read-formula-requires : tie.Need-read-formula-requires
-read-formula-requires c κs = search needs
-
-enum-told : tie.Need-enum-told
-enum-told c = search needs
-
 -- a formula that reads
+abbrev built-of : tie.After-read-formula → tie.After-build
+built-of c = c .before .before .before .before .before
+
 reads-on : (c : tie.After-enum-told) →
-    let made = c .before .before .before .before .before .before .before in
-    let tests = made .before .before .before .before in
-    let a = tests .before .before .before .before .before .before .before .before .args in
+    let made = built-of (c .before .before) in
+    let tests = passed-of made in
+    let a = passed-start tests .args in
     let lent = lentOf (a .index .now) (a .client-index .now) in
     Reads (a .style) (a .table .now) (a .client .now) lent (a .formula .now) (made .build .last .1 .1 .0) (made .build .last .1 .1 .1 .0) (tests .testing .given .0 .0)
 reads-on c =
-    let made = c .before .before .before .before .before .before .before in
-    let tests = made .before .before .before .before in
-    let a = tests .before .before .before .before .before .before .before .before .args in
+    let made = built-of (c .before .before) in
+    let tests = passed-of made in
+    let a = passed-start tests .args in
     formula-reads _ _ _ (a .index .now) (a .client-index .now) _ _ _ (passes tests) (built made) _
     (formula-good _ (sym (c .before .before .read-formula .ensures) ∙ c .enum-told .given .1))
 
@@ -74,43 +72,27 @@ parameters-requires c κs = good-header _ (reads-on c .table-good)
 examine-requires : tie.Need-examine-requires
 examine-requires c κs = given-list _ (reads-on (c .before .before .before .before)) (c .before .before .before .parameters .ensures)
 
-enum-known-verdict : tie.Need-enum-known-verdict
-enum-known-verdict c = search needs
-
-faulty-requires : tie.Need-faulty-requires
-faulty-requires c κs = search needs
-
-same-length : tie.Need-same-length
-same-length c = search needs
-
-same-length-2 : tie.Need-same-length-2
-same-length-2 c = search needs
-
 returns-2 : tie.Need-returns-2
 returns-2 c =
-    let read = c .before .before .before .before .before in
-    let made = read .before .before .before .before .before .before .before in
-    let tests = made .before .before .before .before in
-    let a = tests .before .before .before .before .before .before .before .before .args in (
+    let asked = c .before in
+    let read = asked .before .before .before .before in
+    let made = built-of (read .before .before) in
+    let tests = passed-of made in
+    let a = passed-start tests .args in (
       examined-found _ _ _ _ _ _ _ _ (reads-on read) (c .examine .result) (c .examine .ensures),
       built-both _ _ _ (a .index .now) (a .client-index .now) _ _ _ (passes tests) (built made),
     )
 
-same-length-3 : tie.Need-same-length-3
-same-length-3 c = search needs
-
-same-length-4 : tie.Need-same-length-4
-same-length-4 c = search needs
-
 returns-3 : tie.Need-returns-3
 returns-3 c =
-    let made = c .before .before .before .before .before .before .before .before .before in
-    let tests = made .before .before .before .before in
-    let a = tests .before .before .before .before .before .before .before .before .args in
+    let read = c .before .before .before .before in
+    let made = built-of read in
+    let tests = passed-of made in
+    let a = passed-start tests .args in
     let i = a .index .now in
     let j = a .client-index .now in (
       fault-refused _ _ _ i j _ _ _ (passes tests) (built made) _ _ _ _
-          (formula-fault _ _ _ (sym (c .before .before .before .before .read-formula .ensures) ∙ c .before .before .verdict .given .1)) (c .faulty .ensures),
+          (formula-fault _ _ _ (sym (read .read-formula .ensures) ∙ c .before .before .verdict .given .1)) (c .faulty .ensures),
       built-both _ _ _ i j _ _ _ (passes tests) (built made),
     )
 
@@ -118,20 +100,20 @@ pub find-spec : {M : Type 1} → statement M
 find-spec =
     tie.close
     (tie.spec
-    tested-requires
-    enum-known-testing
-    enum-known-testing-2
+    (λ c κs. search needs)
+    (λ c. search needs)
+    (λ c. search needs)
     returns
     build-requires
-    read-formula-requires
-    enum-told
+    (λ c κs. search needs)
+    (λ c. search needs)
     parameters-requires
     examine-requires
-    enum-known-verdict
-    faulty-requires
-    same-length
-    same-length-2
+    (λ c. search needs)
+    (λ c κs. search needs)
+    (λ c. search needs)
+    (λ c. search needs)
     returns-2
-    same-length-3
-    same-length-4
+    (λ c. search needs)
+    (λ c. search needs)
     returns-3)

@@ -4,9 +4,6 @@ use borrow.Author.Needs.{needs}
 use Rattle.layout.proofs.weighed.Statement.{statement}
 use Rattle.layout.proofs.weighed.Tie as tie
 
-list-fits-requires : tie.Need-list-fits-requires
-list-fits-requires c κs = search needs
-
 returns : tie.Need-returns
 returns c = (sym (c .before .before .list-fits .ensures) ∙ c .before .if1 .taken, refl, refl, refl)
 
@@ -14,4 +11,4 @@ returns-2 : tie.Need-returns-2
 returns-2 c = (sym (c .before .list-fits .ensures) ∙ c .if1 .left, refl)
 
 pub weighed-spec : {M : Type 1} → statement M
-weighed-spec = tie.close (tie.spec list-fits-requires returns returns-2)
+weighed-spec = tie.close (tie.spec (λ c κs. search needs) returns returns-2)

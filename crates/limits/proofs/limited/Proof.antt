@@ -21,12 +21,6 @@ width-within w =
     let pre = w .before .pre in
     w .widest .ensures .1 (pre .1 .size .width, pre .2, pre .3)
 
-widest-requires : tie.Need-widest-requires
-widest-requires c κs = search needs
-
-half-requires : tie.Need-half-requires
-half-requires c κs = search needs
-
 one-side-requires : tie.Need-one-side-requires
 one-side-requires c κs =
     let w = c .before in
@@ -39,12 +33,6 @@ one-side-requires c κs =
       omega (arith, c .half .ensures .parts, pre .1 .delta),
       pre .2,
     )
-
-negated-requires : tie.Need-negated-requires
-negated-requires c κs = search needs
-
-turned-requires : tie.Need-turned-requires
-turned-requires c κs = search needs
 
 one-side-requires-2 : tie.Need-one-side-requires-2
 one-side-requires-2 c κs =
@@ -85,11 +73,11 @@ pub limited-spec : {M : Type 1} → statement M
 limited-spec =
     tie.close
     (tie.spec
-    widest-requires
-    half-requires
+    (λ c κs. search needs)
+    (λ c κs. search needs)
     one-side-requires
-    negated-requires
-    turned-requires
+    (λ c κs. search needs)
+    (λ c κs. search needs)
     one-side-requires-2
     stacked-requires
     returns)

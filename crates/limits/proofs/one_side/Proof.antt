@@ -7,12 +7,6 @@ use Rattle.limits.specs.Limits.{Limit}
 use Rattle.limits.proofs.one_side.Statement.{statement}
 use Rattle.limits.proofs.one_side.Tie as tie
 
-enum-told : tie.Need-enum-told
-enum-told c = search needs
-
-enum-known-script : tie.Need-enum-known-script
-enum-known-script c = search needs
-
 limit-requires : tie.Need-limit-requires
 limit-requires c κs =
     let arm = c .before in
@@ -26,9 +20,6 @@ centred-requires c κs =
     let pre = arm .before .before .pre in
     let z = rw (arm .script .given .1) at (pre .6) in
     (pre .4, omega (arith, z .width))
-
-plus-requires : tie.Need-plus-requires
-plus-requires c κs = search needs
 
 returns : tie.Need-returns
 returns c =
@@ -50,10 +41,10 @@ pub one-side-spec : {M : Type 1} → statement M
 one-side-spec =
     tie.close
     (tie.spec
-    enum-told
-    enum-known-script
+    (λ c. search needs)
+    (λ c. search needs)
     limit-requires
     centred-requires
-    plus-requires
+    (λ c κs. search needs)
     returns
     returns-2)

@@ -5,15 +5,6 @@ use borrow.Author.Needs.{needs}
 use Rattle.limits.proofs.stacked.Statement.{statement}
 use Rattle.limits.proofs.stacked.Tie as tie
 
-centred-requires : tie.Need-centred-requires
-centred-requires c κs = search needs
-
-plus-requires : tie.Need-plus-requires
-plus-requires c κs = search needs
-
-negated-requires : tie.Need-negated-requires
-negated-requires c κs = search needs
-
 returns : tie.Need-returns
 returns c =
     let down = c .before in
@@ -33,4 +24,4 @@ returns c =
     )
 
 pub stacked-spec : {M : Type 1} → statement M
-stacked-spec = tie.close (tie.spec centred-requires plus-requires negated-requires returns)
+stacked-spec = tie.close (tie.spec (λ c κs. search needs) (λ c κs. search needs) (λ c κs. search needs) returns)

@@ -5,18 +5,6 @@ use borrow.Author.Needs.{needs}
 use Rattle.limits.proofs.widest.Statement.{statement}
 use Rattle.limits.proofs.widest.Tie as tie
 
-width-of-requires : tie.Need-width-of-requires
-width-of-requires c κs = search needs
-
-max-requires : tie.Need-max-requires
-max-requires c κs = search needs
-
-width-of-requires-2 : tie.Need-width-of-requires-2
-width-of-requires-2 c κs = search needs
-
-max-requires-2 : tie.Need-max-requires-2
-max-requires-2 c κs = search needs
-
 returns : tie.Need-returns
 returns c =
     let second = c .before in
@@ -28,4 +16,4 @@ returns c =
 
 pub widest-spec : {M : Type 1} → statement M
 widest-spec =
-    tie.close (tie.spec width-of-requires max-requires width-of-requires-2 max-requires-2 returns)
+    tie.close (tie.spec (λ c κs. search needs) (λ c κs. search needs) (λ c κs. search needs) (λ c κs. search needs) returns)

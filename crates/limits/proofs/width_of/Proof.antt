@@ -5,19 +5,10 @@ use borrow.Author.Needs.{needs}
 use Rattle.limits.proofs.width_of.Statement.{statement}
 use Rattle.limits.proofs.width_of.Tie as tie
 
-enum-told : tie.Need-enum-told
-enum-told c = search needs
-
-enum-known-script : tie.Need-enum-known-script
-enum-known-script c = search needs
-
-returns : tie.Need-returns
-returns c = search needs
-
 returns-2 : tie.Need-returns-2
 returns-2 c =
     let known = c .before .before .script .given .1 in
     (rw known refl, λ moderate. (rw known at moderate) .width)
 
 pub width-of-spec : {M : Type 1} → statement M
-width-of-spec = tie.close (tie.spec enum-told enum-known-script returns returns-2)
+width-of-spec = tie.close (tie.spec (λ c. search needs) (λ c. search needs) (λ c. search needs) returns-2)

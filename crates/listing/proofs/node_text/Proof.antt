@@ -3,19 +3,10 @@ use mathlib.Core.Path.{sym, ap}
 use denote.Ref.{now}
 use Rattle.nodes.specs.Stored.{glyph-in, rule-in}
 use Rattle.listing.specs.Texts.{nodeText}
-use Rattle.listing.proofs.PutLaws.{written-as}
+use Rattle.texts.specs.PutLaws.{written-as}
 use borrow.Author.Needs.{needs}
 use Rattle.listing.proofs.node_text.Statement.{statement}
 use Rattle.listing.proofs.node_text.Tie as tie
-
-shared-slice-read-if1 : tie.Need-shared-slice-read-if1
-shared-slice-read-if1 c = search needs
-
-glyph-text-requires : tie.Need-glyph-text-requires
-glyph-text-requires c κs = search needs
-
-same-length : tie.Need-same-length
-same-length c = search needs
 
 returns : tie.Need-returns
 returns c =
@@ -23,12 +14,6 @@ returns c =
     let tested = line .before .before in
     let node = now (tested .before .before .before .before .args .node) in
     written-as (ap nodeText (sym (glyph-in node (tested .if1 .taken)))) (line .glyph-text .ensures)
-
-rule-text-requires : tie.Need-rule-text-requires
-rule-text-requires c κs = search needs
-
-same-length-2 : tie.Need-same-length-2
-same-length-2 c = search needs
 
 returns-2 : tie.Need-returns-2
 returns-2 c =
@@ -41,10 +26,10 @@ pub node-text-spec : {M : Type 1} → statement M
 node-text-spec =
     tie.close
     (tie.spec
-    shared-slice-read-if1
-    glyph-text-requires
-    same-length
+    (λ c. search needs)
+    (λ c κs. search needs)
+    (λ c. search needs)
     returns
-    rule-text-requires
-    same-length-2
+    (λ c κs. search needs)
+    (λ c. search needs)
     returns-2)

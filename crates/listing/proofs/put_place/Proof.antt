@@ -1,8 +1,8 @@
 -- `put_place` meets its contract: a mark and a space, each with its number. Assumes nothing.
 use denote.Ref.{now}
 use native.Mathlib.Omega.{arith}
-use Rattle.listing.specs.Texts.{space}
-use Rattle.listing.proofs.PutLaws.{number-put, line-more}
+use Rattle.texts.specs.Refusals.{space}
+use Rattle.texts.specs.PutLaws.{number-put, line-more}
 use borrow.Author.Needs.{needs}
 use Rattle.listing.proofs.put_place.Statement.{statement}
 use Rattle.listing.proofs.put_place.Tie as tie

@@ -1,6 +1,7 @@
 -- `rule_text` meets its contract: mark and place, two words, and the end of the line. Assumes nothing.
-use Rattle.listing.specs.Texts.{space, nodeText}
-use Rattle.listing.proofs.PutLaws.{line-more, line-ended}
+use Rattle.texts.specs.Refusals.{space}
+use Rattle.listing.specs.Texts.{nodeText}
+use Rattle.texts.specs.PutLaws.{line-more, line-ended}
 use borrow.Author.Needs.{needs}
 use Rattle.listing.proofs.rule_text.Statement.{statement}
 use Rattle.listing.proofs.rule_text.Tie as tie

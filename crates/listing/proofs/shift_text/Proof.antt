@@ -4,37 +4,10 @@ use mathlib.Core.Path.{refl, sym, _∙_}
 use mathlib.Core.List.{[]}
 use native.Mathlib.Omega.{arith}
 use borrow.Author.Needs.{needs}
-use Rattle.listing.proofs.PutLaws.{put-then, written-as, line-more, line-ended}
+use Rattle.texts.specs.PutLaws.{put-then, written-as, line-more, line-ended}
 use Rattle.listing.proofs.TextLaws.{shift-shown, shift-absent}
 use Rattle.listing.proofs.shift_text.Statement.{statement}
 use Rattle.listing.proofs.shift_text.Tie as tie
-
-is-there-requires : tie.Need-is-there-requires
-is-there-requires c κs = search needs
-
-put-bytes-requires : tie.Need-put-bytes-requires
-put-bytes-requires c κs = search needs
-
-put-reason-requires : tie.Need-put-reason-requires
-put-reason-requires c κs = search needs
-
-slice-aggregate-put-number : tie.Need-slice-aggregate-put-number
-slice-aggregate-put-number c = search needs
-
-of-length-requires : tie.Need-of-length-requires
-of-length-requires c κs = search needs
-
-put-number-requires : tie.Need-put-number-requires
-put-number-requires c κs = search needs
-
-slice-aggregate-put-bytes : tie.Need-slice-aggregate-put-bytes
-slice-aggregate-put-bytes c = search needs
-
-put-bytes-requires-2 : tie.Need-put-bytes-requires-2
-put-bytes-requires-2 c κs = search needs
-
-same-length : tie.Need-same-length
-same-length c = search needs
 
 returns : tie.Need-returns
 returns c =
@@ -59,14 +32,14 @@ pub shift-text-spec : {M : Type 1} → statement M
 shift-text-spec =
     tie.close
     (tie.spec
-    is-there-requires
-    put-bytes-requires
-    put-reason-requires
-    slice-aggregate-put-number
-    of-length-requires
-    put-number-requires
-    slice-aggregate-put-bytes
-    put-bytes-requires-2
-    same-length
+    (λ c κs. search needs)
+    (λ c κs. search needs)
+    (λ c κs. search needs)
+    (λ c. search needs)
+    (λ c κs. search needs)
+    (λ c κs. search needs)
+    (λ c. search needs)
+    (λ c κs. search needs)
+    (λ c. search needs)
     returns
     returns-2)

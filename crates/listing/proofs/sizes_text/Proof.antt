@@ -2,7 +2,7 @@
 use mathlib.Core.Path.{_∙_}
 use native.Mathlib.Omega.{arith}
 use Rattle.listing.specs.Texts.{widthMark, heightMark, depthMark, countMark}
-use Rattle.listing.proofs.PutLaws.{number-put, line-more, line-ended}
+use Rattle.texts.specs.PutLaws.{number-put, line-more, line-ended}
 use borrow.Author.Needs.{needs}
 use Rattle.listing.proofs.sizes_text.Statement.{statement}
 use Rattle.listing.proofs.sizes_text.Tie as tie

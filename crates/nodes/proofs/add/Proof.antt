@@ -10,18 +10,6 @@ use Rattle.nodes.specs.Buffer.{addedAt}
 use Rattle.nodes.proofs.add.Statement.{statement}
 use Rattle.nodes.proofs.add.Tie as tie
 
-word-requires : tie.Need-word-requires
-word-requires c κs = search needs
-
-sum-requires : tie.Need-sum-requires
-sum-requires c κs = search needs
-
-store-requires : tie.Need-store-requires
-store-requires c κs = search needs
-
-same-length : tie.Need-same-length
-same-length c = search needs
-
 returns : tie.Need-returns
 unfolding addedAt
 returns c =
@@ -33,4 +21,4 @@ returns c =
     stored .store .ensures ∙ ap (sets (args .buf .now) (args .at)) (ap fourBytes (sum .sum .ensures) ∙ four-rest _ ∙ read)
 
 pub add-spec : {M : Type 1} → statement M
-add-spec = tie.close (tie.spec word-requires sum-requires store-requires same-length returns)
+add-spec = tie.close (tie.spec (λ c κs. search needs) (λ c κs. search needs) (λ c κs. search needs) (λ c. search needs) returns)

@@ -23,12 +23,6 @@ abbrev μ-loop : tie.MeasureT-loop
 returns : tie.Need-returns Inv-loop μ-loop
 returns c = sym (moved-full _ _ _ (c .before .before .args .buf .now) (omega arith))
 
-word-of-requires : tie.Need-word-of-requires Inv-loop μ-loop
-word-of-requires c κs = search needs
-
-word-of-requires-2 : tie.Need-word-of-requires-2 Inv-loop μ-loop
-word-of-requires-2 c κs = search needs
-
 returns-2 : tie.Need-returns-2 Inv-loop μ-loop
 returns-2 c =
     let up = c .before in
@@ -84,8 +78,8 @@ move-front-spec =
     Inv-loop
     μ-loop
     returns
-    word-of-requires
-    word-of-requires-2
+    (λ c κs. search needs)
+    (λ c κs. search needs)
     returns-2
     loop-holds
     mul-move-node

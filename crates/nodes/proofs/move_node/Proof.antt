@@ -6,21 +6,6 @@ use Rattle.nodes.proofs.Moves.{head-behind}
 use Rattle.nodes.proofs.move_node.Statement.{statement}
 use Rattle.nodes.proofs.move_node.Tie as tie
 
-add-add : tie.Need-add-add
-add-add c = search needs
-
-add-requires : tie.Need-add-requires
-add-requires c κs = search needs
-
-add-add-2 : tie.Need-add-add-2
-add-add-2 c = search needs
-
-add-requires-2 : tie.Need-add-requires-2
-add-requires-2 c κs = search needs
-
-same-length : tie.Need-same-length
-same-length c = search needs
-
 returns : tie.Need-returns
 returns c =
     let second = c .before .before in
@@ -30,4 +15,4 @@ returns c =
 
 pub move-node-spec : {M : Type 1} → statement M
 move-node-spec =
-    tie.close (tie.spec add-add add-requires add-add-2 add-requires-2 same-length returns)
+    tie.close (tie.spec (λ c. search needs) (λ c κs. search needs) (λ c. search needs) (λ c κs. search needs) (λ c. search needs) returns)

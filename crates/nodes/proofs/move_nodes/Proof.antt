@@ -14,24 +14,6 @@ returns c =
     let args = c .before .before .args in
     sym (none-moved (args .before) (args .dx .0) (args .dy .0) (args .buf .now) (c .if1 .taken))
 
-room-requires : tie.Need-room-requires
-room-requires c κs = search needs
-
-sub-move-front : tie.Need-sub-move-front
-sub-move-front c = search needs
-
-part-move-front-start : tie.Need-part-move-front-start
-part-move-front-start c = search needs
-
-part-move-front-end : tie.Need-part-move-front-end
-part-move-front-end c = search needs
-
-move-front-requires : tie.Need-move-front-requires
-move-front-requires c κs = search needs
-
-same-length : tie.Need-same-length
-same-length c = search needs
-
 returns-2 : tie.Need-returns-2
 returns-2 c =
     let front = c .before .before in
@@ -45,10 +27,10 @@ move-nodes-spec =
     tie.close
     (tie.spec
     returns
-    room-requires
-    sub-move-front
-    part-move-front-start
-    part-move-front-end
-    move-front-requires
-    same-length
+    (λ c κs. search needs)
+    (λ c. search needs)
+    (λ c. search needs)
+    (λ c. search needs)
+    (λ c κs. search needs)
+    (λ c. search needs)
     returns-2)

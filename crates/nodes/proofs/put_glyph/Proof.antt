@@ -5,15 +5,6 @@ use Rattle.nodes.proofs.Stores.{glyph-bytes}
 use Rattle.nodes.proofs.put_glyph.Statement.{statement}
 use Rattle.nodes.proofs.put_glyph.Tie as tie
 
-of-bytes-requires : tie.Need-of-bytes-requires
-of-bytes-requires c κs = search needs
-
-put-node-requires : tie.Need-put-node-requires
-put-node-requires c κs = search needs
-
-same-length : tie.Need-same-length
-same-length c = search needs
-
 returns : tie.Need-returns
 returns c =
     let symbol = c .before .before .before .before in
@@ -23,4 +14,4 @@ returns c =
     (c .before .before .put-node .ensures)
 
 pub put-glyph-spec : {M : Type 1} → statement M
-put-glyph-spec = tie.close (tie.spec of-bytes-requires put-node-requires same-length returns)
+put-glyph-spec = tie.close (tie.spec (λ c κs. search needs) (λ c κs. search needs) (λ c. search needs) returns)

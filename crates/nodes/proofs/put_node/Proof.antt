@@ -12,17 +12,8 @@ use Rattle.nodes.proofs.put_node.Tie as tie
 returns : tie.Need-returns
 returns c = sym (written-full _ (c .before .before .args .buf .now) (omega arith))
 
-slice-write-buf : tie.Need-slice-write-buf
-slice-write-buf c = search needs
-
 slice-write-buf-2 : tie.Need-slice-write-buf-2
 slice-write-buf-2 c = simp length-set (omega arith)
-
-word-of-requires : tie.Need-word-of-requires
-word-of-requires c κs = search needs
-
-word-of-requires-2 : tie.Need-word-of-requires-2
-word-of-requires-2 c κs = search needs
 
 store-pair-requires : tie.Need-store-pair-requires
 store-pair-requires c κs = simp length-set (omega arith)
@@ -52,10 +43,10 @@ put-node-spec =
     tie.close
     (tie.spec
     returns
-    slice-write-buf
+    (λ c. search needs)
     slice-write-buf-2
-    word-of-requires
-    word-of-requires-2
+    (λ c κs. search needs)
+    (λ c κs. search needs)
     store-pair-requires
     store-pair-requires-2
     same-length

@@ -9,33 +9,6 @@ use Rattle.nodes.proofs.Stores.{rule-bytes}
 use Rattle.nodes.proofs.put_rule.Statement.{statement}
 use Rattle.nodes.proofs.put_rule.Tie as tie
 
-max-requires : tie.Need-max-requires
-max-requires c κs = search needs
-
-room-requires : tie.Need-room-requires
-room-requires c κs = search needs
-
-sub-put-node : tie.Need-sub-put-node
-sub-put-node c = search needs
-
-part-put-node-start : tie.Need-part-put-node-start
-part-put-node-start c = search needs
-
-part-put-node-end : tie.Need-part-put-node-end
-part-put-node-end c = search needs
-
-word-of-requires : tie.Need-word-of-requires
-word-of-requires c κs = search needs
-
-word-of-requires-2 : tie.Need-word-of-requires-2
-word-of-requires-2 c κs = search needs
-
-put-node-requires : tie.Need-put-node-requires
-put-node-requires c κs = search needs
-
-same-length : tie.Need-same-length
-same-length c = search needs
-
 returns : tie.Need-returns
 returns c =
     let put-there = c .before .before in
@@ -54,13 +27,13 @@ pub put-rule-spec : {M : Type 1} → statement M
 put-rule-spec =
     tie.close
     (tie.spec
-    max-requires
-    room-requires
-    sub-put-node
-    part-put-node-start
-    part-put-node-end
-    word-of-requires
-    word-of-requires-2
-    put-node-requires
-    same-length
+    (λ c κs. search needs)
+    (λ c κs. search needs)
+    (λ c. search needs)
+    (λ c. search needs)
+    (λ c. search needs)
+    (λ c κs. search needs)
+    (λ c κs. search needs)
+    (λ c κs. search needs)
+    (λ c. search needs)
     returns)

@@ -4,33 +4,6 @@ use borrow.Author.Needs.{needs}
 use Rattle.nucleus.proofs.atom_nucleus.Statement.{statement}
 use Rattle.nucleus.proofs.atom_nucleus.Tie as tie
 
-enum-told : tie.Need-enum-told
-enum-told c = search needs
-
-zero-size-requires : tie.Need-zero-size-requires
-zero-size-requires c κs = search needs
-
-box-nucleus-requires : tie.Need-box-nucleus-requires
-box-nucleus-requires c κs = search needs
-
-enum-known-x : tie.Need-enum-known-x
-enum-known-x c = search needs
-
-stands-beside-requires : tie.Need-stands-beside-requires
-stands-beside-requires c κs = search needs
-
-operator-nucleus-requires : tie.Need-operator-nucleus-requires
-operator-nucleus-requires c κs = search needs
-
-symbol-nucleus-requires : tie.Need-symbol-nucleus-requires
-symbol-nucleus-requires c κs = search needs
-
-enum-known-x-2 : tie.Need-enum-known-x-2
-enum-known-x-2 c = search needs
-
-box-nucleus-requires-2 : tie.Need-box-nucleus-requires-2
-box-nucleus-requires-2 c κs = search needs
-
 returns : tie.Need-returns
 returns c =
     let zero = c .before in (
@@ -61,15 +34,15 @@ pub atom-nucleus-spec : {M : Type 1} → statement M
 atom-nucleus-spec =
     tie.close
     (tie.spec
-    enum-told
-    zero-size-requires
-    box-nucleus-requires
-    enum-known-x
-    stands-beside-requires
-    operator-nucleus-requires
-    symbol-nucleus-requires
-    enum-known-x-2
-    box-nucleus-requires-2
+    (λ c. search needs)
+    (λ c κs. search needs)
+    (λ c κs. search needs)
+    (λ c. search needs)
+    (λ c κs. search needs)
+    (λ c κs. search needs)
+    (λ c κs. search needs)
+    (λ c. search needs)
+    (λ c κs. search needs)
     returns
     returns-2
     returns-3

@@ -6,21 +6,6 @@ use Rattle.boxes.specs.Boxes.{Size}
 use Rattle.nucleus.proofs.operator_nucleus.Statement.{statement}
 use Rattle.nucleus.proofs.operator_nucleus.Tie as tie
 
-operator-shift-requires : tie.Need-operator-shift-requires
-operator-shift-requires c κs = search needs
-
-operator-size-requires : tie.Need-operator-size-requires
-operator-size-requires c κs = search needs
-
-negated-requires : tie.Need-negated-requires
-negated-requires c κs = search needs
-
-of-word-requires : tie.Need-of-word-requires
-of-word-requires c κs = search needs
-
-no-own-requires : tie.Need-no-own-requires
-no-own-requires c κs = search needs
-
 returns : tie.Need-returns
 returns c =
     let italic = c .before in
@@ -36,9 +21,9 @@ pub operator-nucleus-spec : {M : Type 1} → statement M
 operator-nucleus-spec =
     tie.close
     (tie.spec
-    operator-shift-requires
-    operator-size-requires
-    negated-requires
-    of-word-requires
-    no-own-requires
+    (λ c κs. search needs)
+    (λ c κs. search needs)
+    (λ c κs. search needs)
+    (λ c κs. search needs)
+    (λ c κs. search needs)
     returns)

@@ -5,27 +5,6 @@ use borrow.Author.Needs.{needs}
 use Rattle.nucleus.proofs.operator_size.Statement.{statement}
 use Rattle.nucleus.proofs.operator_size.Tie as tie
 
-operator-width-requires : tie.Need-operator-width-requires
-operator-width-requires c κs = search needs
-
-of-word-requires : tie.Need-of-word-requires
-of-word-requires c κs = search needs
-
-minus-requires : tie.Need-minus-requires
-minus-requires c κs = search needs
-
-max-requires : tie.Need-max-requires
-max-requires c κs = search needs
-
-of-word-requires-2 : tie.Need-of-word-requires-2
-of-word-requires-2 c κs = search needs
-
-plus-requires : tie.Need-plus-requires
-plus-requires c κs = search needs
-
-max-requires-2 : tie.Need-max-requires-2
-max-requires-2 c κs = search needs
-
 returns : tie.Need-returns
 returns c =
     let deep = c .before in
@@ -39,11 +18,11 @@ pub operator-size-spec : {M : Type 1} → statement M
 operator-size-spec =
     tie.close
     (tie.spec
-    operator-width-requires
-    of-word-requires
-    minus-requires
-    max-requires
-    of-word-requires-2
-    plus-requires
-    max-requires-2
+    (λ c κs. search needs)
+    (λ c κs. search needs)
+    (λ c κs. search needs)
+    (λ c κs. search needs)
+    (λ c κs. search needs)
+    (λ c κs. search needs)
+    (λ c κs. search needs)
     returns)

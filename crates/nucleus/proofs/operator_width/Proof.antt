@@ -4,18 +4,6 @@ use borrow.Author.Needs.{needs}
 use Rattle.nucleus.proofs.operator_width.Statement.{statement}
 use Rattle.nucleus.proofs.operator_width.Tie as tie
 
-of-word-requires : tie.Need-of-word-requires
-of-word-requires c κs = search needs
-
-of-word-requires-2 : tie.Need-of-word-requires-2
-of-word-requires-2 c κs = search needs
-
-of-word-requires-3 : tie.Need-of-word-requires-3
-of-word-requires-3 c κs = search needs
-
-plus-requires : tie.Need-plus-requires
-plus-requires c κs = search needs
-
 returns : tie.Need-returns
 returns c = (rw (c .before .if1 .taken, c .of-word .ensures .0 .is), search needs)
 
@@ -29,9 +17,9 @@ pub operator-width-spec : {M : Type 1} → statement M
 operator-width-spec =
     tie.close
     (tie.spec
-    of-word-requires
-    of-word-requires-2
-    of-word-requires-3
-    plus-requires
+    (λ c κs. search needs)
+    (λ c κs. search needs)
+    (λ c κs. search needs)
+    (λ c κs. search needs)
     returns
     returns-2)

@@ -4,21 +4,6 @@ use borrow.Author.Needs.{needs}
 use Rattle.nucleus.proofs.overline.Statement.{statement}
 use Rattle.nucleus.proofs.overline.Tie as tie
 
-times-requires : tie.Need-times-requires
-times-requires c κs = search needs
-
-plus-requires : tie.Need-plus-requires
-plus-requires c κs = search needs
-
-times-requires-2 : tie.Need-times-requires-2
-times-requires-2 c κs = search needs
-
-plus-requires-2 : tie.Need-plus-requires-2
-plus-requires-2 c κs = search needs
-
-lined-requires : tie.Need-lined-requires
-lined-requires c κs = search needs
-
 returns : tie.Need-returns
 returns c =
     let rule = c .before in
@@ -30,4 +15,4 @@ returns c =
 pub overline-spec : {M : Type 1} → statement M
 overline-spec =
     tie.close
-    (tie.spec times-requires plus-requires times-requires-2 plus-requires-2 lined-requires returns)
+    (tie.spec (λ c κs. search needs) (λ c κs. search needs) (λ c κs. search needs) (λ c κs. search needs) (λ c κs. search needs) returns)

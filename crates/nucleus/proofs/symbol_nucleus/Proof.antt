@@ -7,33 +7,6 @@ use Rattle.boxes.specs.Boxes.{Size}
 use Rattle.nucleus.proofs.symbol_nucleus.Statement.{statement}
 use Rattle.nucleus.proofs.symbol_nucleus.Tie as tie
 
-of-word-requires : tie.Need-of-word-requires
-of-word-requires c κs = search needs
-
-of-word-requires-2 : tie.Need-of-word-requires-2
-of-word-requires-2 c κs = search needs
-
-of-word-requires-3 : tie.Need-of-word-requires-3
-of-word-requires-3 c κs = search needs
-
-origin-requires : tie.Need-origin-requires
-origin-requires c κs = search needs
-
-of-word-requires-4 : tie.Need-of-word-requires-4
-of-word-requires-4 c κs = search needs
-
-no-own-requires : tie.Need-no-own-requires
-no-own-requires c κs = search needs
-
-char-size-requires : tie.Need-char-size-requires
-char-size-requires c κs = search needs
-
-origin-requires-2 : tie.Need-origin-requires-2
-origin-requires-2 c κs = search needs
-
-no-own-requires-2 : tie.Need-no-own-requires-2
-no-own-requires-2 c κs = search needs
-
 returns : tie.Need-returns
 returns c =
     let italic = c .before in
@@ -63,14 +36,14 @@ pub symbol-nucleus-spec : {M : Type 1} → statement M
 symbol-nucleus-spec =
     tie.close
     (tie.spec
-    of-word-requires
-    of-word-requires-2
-    of-word-requires-3
-    origin-requires
-    of-word-requires-4
-    no-own-requires
-    char-size-requires
-    origin-requires-2
-    no-own-requires-2
+    (λ c κs. search needs)
+    (λ c κs. search needs)
+    (λ c κs. search needs)
+    (λ c κs. search needs)
+    (λ c κs. search needs)
+    (λ c κs. search needs)
+    (λ c κs. search needs)
+    (λ c κs. search needs)
+    (λ c κs. search needs)
     returns
     returns-2)

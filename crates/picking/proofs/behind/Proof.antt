@@ -6,23 +6,11 @@ use borrow.Author.Needs.{needs}
 use Rattle.picking.proofs.behind.Statement.{statement}
 use Rattle.picking.proofs.behind.Tie as tie
 
-enum-told : tie.Need-enum-told
-enum-told c = search needs
-
-enum-known-step : tie.Need-enum-known-step
-enum-known-step c = search needs
-
-enum-known-step-2 : tie.Need-enum-known-step-2
-enum-known-step-2 c = search needs
-
 add-t8 : tie.Need-add-t8
 add-t8 c = let pre = rw (c .before .step2 .given .1) at (c .before .before .before .pre) in omega arith
 
 add-t9 : tie.Need-add-t9
 add-t9 c = let pre = rw (c .before .step2 .given .1) at (c .before .before .before .pre) in omega arith
-
-returns : tie.Need-returns
-returns c = search needs
 
 returns-2 : tie.Need-returns-2
 returns-2 c = rw (c .before .step .given .1) refl
@@ -34,11 +22,11 @@ pub behind-spec : {M : Type 1} → statement M
 behind-spec =
     tie.close
     (tie.spec
-    enum-told
-    enum-known-step
-    enum-known-step-2
+    (λ c. search needs)
+    (λ c. search needs)
+    (λ c. search needs)
     add-t8
     add-t9
-    returns
+    (λ c. search needs)
     returns-2
     returns-3)

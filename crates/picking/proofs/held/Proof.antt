@@ -6,18 +6,6 @@ use Rattle.picking.proofs.PickingLaws.{head-short, held-other, held-sub
 use Rattle.picking.proofs.held.Statement.{statement}
 use Rattle.picking.proofs.held.Tie as tie
 
-sub-field-head : tie.Need-sub-field-head
-sub-field-head c = search needs
-
-part-field-head-start : tie.Need-part-field-head-start
-part-field-head-start c = search needs
-
-part-field-head-end : tie.Need-part-field-head-end
-part-field-head-end c = search needs
-
-field-head-requires : tie.Need-field-head-requires
-field-head-requires c κs = search needs
-
 field-bytes-requires : tie.Need-field-bytes-requires
 field-bytes-requires c κs =
     let start = c .before .before .before in
@@ -29,9 +17,6 @@ add-end c =
     let start = c .before .before .before .before in
     let a = start .args in
     omega (arith, start .pre, c .field-bytes .ensures, head-short (a .s .now) (a .at) (start .pre .0) (start .pre .1) (c .before .field-head .ensures))
-
-enum-known-head : tie.Need-enum-known-head
-enum-known-head c = search needs
 
 returns : tie.Need-returns
 returns c =
@@ -56,13 +41,13 @@ pub held-spec : {M : Type 1} → statement M
 held-spec =
     tie.close
     (tie.spec
-    sub-field-head
-    part-field-head-start
-    part-field-head-end
-    field-head-requires
+    (λ c. search needs)
+    (λ c. search needs)
+    (λ c. search needs)
+    (λ c κs. search needs)
     field-bytes-requires
     add-end
-    enum-known-head
+    (λ c. search needs)
     returns
     add-t7
     returns-2)

@@ -34,25 +34,16 @@ step-in-requires c κs =
     let down = c .before .loop .inv in
     (down .readable, omega (arith, inner-long down, down .inside, c .before .before .before .pre .1))
 
-enum-told : tie.Need-enum-told Inv-loop μ-loop
-enum-told c = search needs
-
 returns : tie.Need-returns Inv-loop μ-loop
 returns c =
     let stepped = c .before .before in
     stepped .before .before .loop .inv .is ∙ rw (c .enum-told .given .1) at (stepped .step-in .ensures)
-
-enum-known-step : tie.Need-enum-known-step Inv-loop μ-loop
-enum-known-step c = search needs
 
 returns-2 : tie.Need-returns-2 Inv-loop μ-loop
 returns-2 c =
     let stepped = c .before .before .before in
     let h = rw (c .before .step .given .1) at (stepped .step-in .ensures) in
     down-here (stepped .before .before .loop .inv) (h .0) (h .1)
-
-enum-known-step-2 : tie.Need-enum-known-step-2 Inv-loop μ-loop
-enum-known-step-2 c = search needs
 
 add-end : tie.Need-add-end Inv-loop μ-loop
 add-end c =
@@ -94,11 +85,11 @@ pick-spec =
     part-step-in-start
     part-step-in-end
     step-in-requires
-    enum-told
+    (λ c. search needs)
     returns
-    enum-known-step
+    (λ c. search needs)
     returns-2
-    enum-known-step-2
+    (λ c. search needs)
     add-end
     add-first
     loop-less

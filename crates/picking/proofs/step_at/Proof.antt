@@ -8,15 +8,6 @@ use Rattle.picking.proofs.PickingLaws.{entered-as, kern-none, style-non
 use Rattle.picking.proofs.step_at.Statement.{statement}
 use Rattle.picking.proofs.step_at.Tie as tie
 
-opening-requires : tie.Need-opening-requires
-opening-requires c κs = search needs
-
-enum-told : tie.Need-enum-told
-enum-told c = search needs
-
-enum-known-o : tie.Need-enum-known-o
-enum-known-o c = search needs
-
 step-from-requires : tie.Need-step-from-requires
 step-from-requires c κs =
     let opened = c .before .before .before in
@@ -25,31 +16,16 @@ step-from-requires c κs =
     let pre = start .pre in
     (pre .0, pre .1, opens, rw opens at (pre .3))
 
-enum-told-2 : tie.Need-enum-told-2
-enum-told-2 c = search needs
-
-enum-told-3 : tie.Need-enum-told-3
-enum-told-3 c = search needs
-
-enum-told-4 : tie.Need-enum-told-4
-enum-told-4 c = search needs
-
 taken-span-requires : tie.Need-taken-span-requires
 taken-span-requires c κs =
     let opened = c .before .before in
     (opened .before .before .pre .0, sym (opened .opening .ensures) ∙ c .enum-told4 .given .1)
-
-entered-requires : tie.Need-entered-requires
-entered-requires c κs = search needs
 
 returns : tie.Need-returns
 returns c =
     let opened = c .before .before in
     let start = opened .before .before in
     absurd (step (start .args .s .now) NoItem (sym (opened .opening .ensures) ∙ c .enum-told .given .1) (start .pre .0) (start .pre .2) .item)
-
-returns-2 : tie.Need-returns-2
-returns-2 c = search needs
 
 returns-3 : tie.Need-returns-3
 returns-3 c = let opened = c .before .before in kern-none _ _ _ _ (sym (opened .opening .ensures) ∙ c .enum-told2 .given .1)
@@ -71,17 +47,17 @@ pub step-at-spec : {M : Type 1} → statement M
 step-at-spec =
     tie.close
     (tie.spec
-    opening-requires
-    enum-told
-    enum-known-o
+    (λ c κs. search needs)
+    (λ c. search needs)
+    (λ c. search needs)
     step-from-requires
-    enum-told-2
-    enum-told-3
-    enum-told-4
+    (λ c. search needs)
+    (λ c. search needs)
+    (λ c. search needs)
     taken-span-requires
-    entered-requires
+    (λ c κs. search needs)
     returns
-    returns-2
+    (λ c. search needs)
     returns-3
     returns-4
     returns-5)

@@ -1,6 +1,6 @@
 -- `step_from` meets its contract: the place is the item's first byte, or lies in one of its fields, which stand one behind another.
 -- Assumes nothing.
-use mathlib.Core.Path.{_≡_, sym, ap, subst, _∙_}
+use mathlib.Core.Path.{sym, ap, subst, _∙_}
 use mathlib.Core.Bool.{Bool}
 use Prim.Native.Nat.{ℕ, _≤_, _<_}
 use native.Mathlib.Omega.{arith}
@@ -25,35 +25,29 @@ returns c =
 noad-of : (c : tie.After-opening-bytes) → let a = c .before .before .before .args in Noad (a .s .now) (a .kind)
 noad-of c = let start = c .before .before .before in noad-at _ _ (start .pre .2) (start .pre .0)
 
+abbrev start-of : tie.After-held → tie.Start
+start-of c = c .before .before .before .before
+
 first-held : (c : tie.After-held) →
-    let a = c .before .before .before .before .args in
+    let a = start-of c .args in
     HeldSpan (a .s .now) (openingBytes (a .kind)) (c .held .result)
 first-held c =
-    let a = c .before .before .before .before .args in
+    let a = start-of c .args in
     subst (λ (n : ℕ). HeldSpan (a .s .now) n (c .held .result)) (c .before .opening-bytes .ensures) (c .held .ensures)
 
 second-held : (c : tie.After-held2) →
-    let a = c .before .before .before .before .before .before .before .args in
+    let a = start-of (c .before .before .before) .args in
     HeldSpan (a .s .now) (second (a .s .now) (a .kind)) (c .held2 .result)
 second-held c =
     let first = c .before .before .before in
-    let a = first .before .before .before .before .args in
+    let a = start-of first .args in
     subst (λ (n : ℕ). HeldSpan (a .s .now) n (c .held2 .result)) (first-held first .end-is) (c .held2 .ensures)
-
-opening-bytes-requires : tie.Need-opening-bytes-requires
-opening-bytes-requires c κs = search needs
 
 held-requires : tie.Need-held-requires
 held-requires c κs =
     let start = c .before .before .before in
     let noad = noad-of c in
     rw (c .opening-bytes .ensures) (noad .x, omega (arith, noad .first-in, noad .second-in, noad .third-in, noad .end-in), start .pre .1)
-
-first-style-requires : tie.Need-first-style-requires
-first-style-requires c κs = search needs
-
-entered-requires : tie.Need-entered-requires
-entered-requires c κs = search needs
 
 returns-2 : tie.Need-returns-2
 returns-2 c =
@@ -71,15 +65,9 @@ returns-2 c =
 held-requires-2 : tie.Need-held-requires-2
 held-requires-2 c κs =
     let held = c .before .before in
-    let start = held .before .before .before .before in
+    let start = start-of held in
     let noad = noad-of (held .before) in
     rw (first-held held .end-is) (noad .y, omega (arith, noad .second-in, noad .third-in, noad .end-in), start .pre .1)
-
-second-style-requires : tie.Need-second-style-requires
-second-style-requires c κs = search needs
-
-entered-requires-2 : tie.Need-entered-requires-2
-entered-requires-2 c κs = search needs
 
 returns-3 : tie.Need-returns-3
 returns-3 c =
@@ -97,12 +85,6 @@ returns-3 c =
     (fields-second (a .style) (a .s .now) (a .kind) (start .pre .2) (start .pre .0) (a .place) (omega (arith, opened .before .if1 .left)) low inside)
     (c .entered2 .ensures ∙ ap (λ (v : Style). enteredOf v (held .held2 .result) (a .place)) (c .before .second-style .ensures))
 
-has-third-requires : tie.Need-has-third-requires
-has-third-requires c κs = search needs
-
-third-style-requires : tie.Need-third-style-requires
-third-style-requires c κs = search needs
-
 held-requires-3 : tie.Need-held-requires-3
 held-requires-3 c κs =
     let tested = c .before in
@@ -113,9 +95,6 @@ held-requires-3 c κs =
     let noad = noad-of opened in
     let has = sym (tested .before .has-third .ensures) ∙ tested .if4 .taken in
     rw (second-held held .end-is) (third-good (a .s .now) _ _ has (noad .z), omega (arith, noad .third-in, noad .end-in), start .pre .1)
-
-entered-requires-3 : tie.Need-entered-requires-3
-entered-requires-3 c κs = search needs
 
 returns-4 : tie.Need-returns-4
 returns-4 c =
@@ -139,7 +118,7 @@ returns-4 c =
 returns-5 : tie.Need-returns-5
 returns-5 c =
     let held = c .before .before .before .before in
-    let start = held .before .before .before .before .before .before .before in
+    let start = start-of (held .before .before .before) in
     let a = start .args in
     let none = sym (c .before .has-third .ensures) ∙ c .if4 .left in
     let inside = rw none at (start .pre .3) in
@@ -150,18 +129,18 @@ step-from-spec =
     tie.close
     (tie.spec
     returns
-    opening-bytes-requires
+    (λ c κs. search needs)
     held-requires
-    first-style-requires
-    entered-requires
+    (λ c κs. search needs)
+    (λ c κs. search needs)
     returns-2
     held-requires-2
-    second-style-requires
-    entered-requires-2
+    (λ c κs. search needs)
+    (λ c κs. search needs)
     returns-3
-    has-third-requires
-    third-style-requires
+    (λ c κs. search needs)
+    (λ c κs. search needs)
     held-requires-3
-    entered-requires-3
+    (λ c κs. search needs)
     returns-4
     returns-5)

@@ -21,6 +21,10 @@ Inv-loop place s at₀ current₀ at current = Along current₀ place s at curre
 abbrev μ-loop : tie.MeasureT-loop
 μ-loop place s at₀ current₀ at current = length s - at
 
+-- the round in which an item was looked at
+abbrev turn-of : tie.After-look-at Inv-loop μ-loop → tie.In-loop Inv-loop μ-loop
+turn-of c = c .before .before
+
 loop-holds : tie.Need-loop-holds Inv-loop μ-loop
 loop-holds c = along-start _ _ _ (c .before .pre .0)
 
@@ -52,21 +56,21 @@ add-next c =
     omega (arith, next-between (along .between) more (c .before .look-at .ensures) .inside, start .pre .1)
 
 sub-step-at : tie.Need-sub-step-at Inv-loop μ-loop
-sub-step-at c = omega (arith, c .before .before .before .before .before .loop .inv .low)
+sub-step-at c = omega (arith, turn-of (c .before .before) .before .loop .inv .low)
 
 sub-step-at-2 : tie.Need-sub-step-at-2 Inv-loop μ-loop
-sub-step-at-2 c = omega (arith, c .before .before .before .before .before .loop .inv .between .inside)
+sub-step-at-2 c = omega (arith, turn-of (c .before .before) .before .loop .inv .between .inside)
 
 part-step-at-start : tie.Need-part-step-at-start Inv-loop μ-loop
-part-step-at-start c = omega (arith, c .before .before .before .before .before .loop .inv .between .inside)
+part-step-at-start c = omega (arith, turn-of (c .before .before) .before .loop .inv .between .inside)
 
 part-step-at-end : tie.Need-part-step-at-end Inv-loop μ-loop
-part-step-at-end c = omega (arith, c .before .before .before .before .before .loop .inv .between .inside)
+part-step-at-end c = omega (arith, turn-of (c .before .before) .before .loop .inv .between .inside)
 
 step-at-requires : tie.Need-step-at-requires Inv-loop μ-loop
 step-at-requires c κs =
     let looked = c .before .before .before in
-    let turn = looked .before .before in
+    let turn = turn-of looked in
     let along = turn .before .loop .inv in
     let more = turn .loop-test .taken in
     let start = turn .before .before .before in
@@ -76,7 +80,7 @@ step-at-requires c κs =
 
 behind-requires : tie.Need-behind-requires Inv-loop μ-loop
 behind-requires c κs =
-    let turn = c .before .before .before .before .before .before in
+    let turn = turn-of (c .before .before .before .before) in
     let along = turn .before .loop .inv in
     let more = turn .loop-test .taken in
     let start = turn .before .before .before in
@@ -90,7 +94,7 @@ returns c =
     let stepped = c .before in
     let tested = stepped .before .before in
     let looked = tested .before .before in
-    let turn = looked .before .before in
+    let turn = turn-of looked in
     let along = turn .before .loop .inv in
     let more = turn .loop-test .taken in
     let start = turn .before .before .before in
@@ -106,7 +110,7 @@ returns c =
 loop-less : tie.Need-loop-less Inv-loop μ-loop
 loop-less c =
     let looked = c .before .before .before in
-    let turn = looked .before .before in
+    let turn = turn-of looked in
     let along = turn .before .loop .inv in
     let more = turn .loop-test .taken in
     let start = turn .before .before .before in
@@ -116,7 +120,7 @@ loop-less c =
 loop-again : tie.Need-loop-again Inv-loop μ-loop
 loop-again c =
     let looked = c .before .before .before in
-    let turn = looked .before .before in
+    let turn = turn-of looked in
     let along = turn .before .loop .inv in
     let more = turn .loop-test .taken in
     let start = turn .before .before .before in

@@ -6,9 +6,6 @@ use Rattle.reasons.specs.Reasons.{corrected}
 use Rattle.reasons.proofs.corrected.Statement.{statement}
 use Rattle.reasons.proofs.corrected.Tie as tie
 
-differs-requires : tie.Need-differs-requires
-differs-requires c κs = search needs
-
 returns : tie.Need-returns
 unfolding corrected
 returns c = rw (sym (c .before .differs .ensures) ∙ c .if1 .taken) refl
@@ -18,4 +15,4 @@ unfolding corrected
 returns-2 c = rw (sym (c .before .differs .ensures) ∙ c .if1 .left) refl
 
 pub corrected-spec : {M : Type 1} → statement M
-corrected-spec = tie.close (tie.spec differs-requires returns returns-2)
+corrected-spec = tie.close (tie.spec (λ c κs. search needs) returns returns-2)

@@ -5,14 +5,8 @@ use borrow.Author.Needs.{needs}
 use Rattle.reasons.proofs.differs.Statement.{statement}
 use Rattle.reasons.proofs.differs.Tie as tie
 
-less-requires : tie.Need-less-requires
-less-requires c κs = search needs
-
 returns : tie.Need-returns
 returns c = rw (sym (c .before .less .ensures .is) ∙ c .if1 .taken) refl
-
-less-requires-2 : tie.Need-less-requires-2
-less-requires-2 c κs = search needs
 
 returns-2 : tie.Need-returns-2
 returns-2 c =
@@ -20,4 +14,4 @@ returns-2 c =
     rw (sym (tested .before .less .ensures .is) ∙ tested .if1 .left) (c .less2 .ensures .is)
 
 pub differs-spec : {M : Type 1} → statement M
-differs-spec = tie.close (tie.spec less-requires returns less-requires-2 returns-2)
+differs-spec = tie.close (tie.spec (λ c κs. search needs) returns (λ c κs. search needs) returns-2)

@@ -6,21 +6,6 @@ use Rattle.scripts.specs.Scripts.{reach}
 use Rattle.scripts.proofs.alone.Statement.{statement}
 use Rattle.scripts.proofs.alone.Tie as tie
 
-plus-requires : tie.Need-plus-requires
-plus-requires c κs = search needs
-
-plus-requires-2 : tie.Need-plus-requires-2
-plus-requires-2 c κs = search needs
-
-max-requires : tie.Need-max-requires
-max-requires c κs = search needs
-
-minus-requires : tie.Need-minus-requires
-minus-requires c κs = search needs
-
-max-requires-2 : tie.Need-max-requires-2
-max-requires-2 c κs = search needs
-
 assembled-requires : tie.Need-assembled-requires
 assembled-requires c κs =
     let top = c .before .before in
@@ -48,10 +33,10 @@ pub alone-spec : {M : Type 1} → statement M
 alone-spec =
     tie.close
     (tie.spec
-    plus-requires
-    plus-requires-2
-    max-requires
-    minus-requires
-    max-requires-2
+    (λ c κs. search needs)
+    (λ c κs. search needs)
+    (λ c κs. search needs)
+    (λ c κs. search needs)
+    (λ c κs. search needs)
     assembled-requires
     returns)

@@ -4,15 +4,6 @@ use borrow.Author.Needs.{needs}
 use Rattle.scripts.proofs.assembled.Statement.{statement}
 use Rattle.scripts.proofs.assembled.Tie as tie
 
-plus-requires : tie.Need-plus-requires
-plus-requires c κs = search needs
-
-max-requires : tie.Need-max-requires
-max-requires c κs = search needs
-
-max-requires-2 : tie.Need-max-requires-2
-max-requires-2 c κs = search needs
-
 returns : tie.Need-returns
 returns c =
     let high = c .before in
@@ -31,4 +22,4 @@ returns c =
     )
 
 pub assembled-spec : {M : Type 1} → statement M
-assembled-spec = tie.close (tie.spec plus-requires max-requires max-requires-2 returns)
+assembled-spec = tie.close (tie.spec (λ c κs. search needs) (λ c κs. search needs) (λ c κs. search needs) returns)

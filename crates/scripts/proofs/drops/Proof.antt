@@ -11,24 +11,6 @@ returns : tie.Need-returns
 unfolding drops
 returns c = (rw (c .if1 .taken) refl, search needs)
 
-superscript-style-requires : tie.Need-superscript-style-requires
-superscript-style-requires c κs = search needs
-
-font-size-requires : tie.Need-font-size-requires
-font-size-requires c κs = search needs
-
-parameter-requires : tie.Need-parameter-requires
-parameter-requires c κs = search needs
-
-minus-requires : tie.Need-minus-requires
-minus-requires c κs = search needs
-
-parameter-requires-2 : tie.Need-parameter-requires-2
-parameter-requires-2 c κs = search needs
-
-plus-requires : tie.Need-plus-requires
-plus-requires c κs = search needs
-
 returns-2 : tie.Need-returns-2
 unfolding drops
 returns-2 c =
@@ -45,10 +27,10 @@ drops-spec =
     tie.close
     (tie.spec
     returns
-    superscript-style-requires
-    font-size-requires
-    parameter-requires
-    minus-requires
-    parameter-requires-2
-    plus-requires
+    (λ c κs. search needs)
+    (λ c κs. search needs)
+    (λ c κs. search needs)
+    (λ c κs. search needs)
+    (λ c κs. search needs)
+    (λ c κs. search needs)
     returns-2)

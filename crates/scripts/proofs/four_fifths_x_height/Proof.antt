@@ -4,18 +4,9 @@ use borrow.Author.Needs.{needs}
 use Rattle.scripts.proofs.four_fifths_x_height.Statement.{statement}
 use Rattle.scripts.proofs.four_fifths_x_height.Tie as tie
 
-parameter-requires : tie.Need-parameter-requires
-parameter-requires c κs = search needs
-
-times-requires : tie.Need-times-requires
-times-requires c κs = search needs
-
-fifth-requires : tie.Need-fifth-requires
-fifth-requires c κs = search needs
-
 returns : tie.Need-returns
 returns c = (rw (c .fifth .ensures .is, c .before .times .ensures .is, c .before .before .parameter .ensures .0 .is), search needs)
 
 pub four-fifths-x-height-spec : {M : Type 1} → statement M
 four-fifths-x-height-spec =
-    tie.close (tie.spec parameter-requires times-requires fifth-requires returns)
+    tie.close (tie.spec (λ c κs. search needs) (λ c κs. search needs) (λ c κs. search needs) returns)

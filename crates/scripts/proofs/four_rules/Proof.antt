@@ -4,14 +4,8 @@ use borrow.Author.Needs.{needs}
 use Rattle.scripts.proofs.four_rules.Statement.{statement}
 use Rattle.scripts.proofs.four_rules.Tie as tie
 
-parameter-requires : tie.Need-parameter-requires
-parameter-requires c κs = search needs
-
-times-requires : tie.Need-times-requires
-times-requires c κs = search needs
-
 returns : tie.Need-returns
 returns c = (rw (c .times .ensures .is, c .before .parameter .ensures .0 .is), search needs)
 
 pub four-rules-spec : {M : Type 1} → statement M
-four-rules-spec = tie.close (tie.spec parameter-requires times-requires returns)
+four-rules-spec = tie.close (tie.spec (λ c κs. search needs) (λ c κs. search needs) returns)

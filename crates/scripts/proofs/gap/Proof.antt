@@ -4,17 +4,8 @@ use borrow.Author.Needs.{needs}
 use Rattle.scripts.proofs.gap.Statement.{statement}
 use Rattle.scripts.proofs.gap.Tie as tie
 
-minus-requires : tie.Need-minus-requires
-minus-requires c κs = search needs
-
-minus-requires-2 : tie.Need-minus-requires-2
-minus-requires-2 c κs = search needs
-
-minus-requires-3 : tie.Need-minus-requires-3
-minus-requires-3 c κs = search needs
-
 returns : tie.Need-returns
 returns c = rw (c .minus3 .ensures .is, c .before .minus2 .ensures .is, c .before .before .minus .ensures .is)
 
 pub gap-spec : {M : Type 1} → statement M
-gap-spec = tie.close (tie.spec minus-requires minus-requires-2 minus-requires-3 returns)
+gap-spec = tie.close (tie.spec (λ c κs. search needs) (λ c κs. search needs) (λ c κs. search needs) returns)

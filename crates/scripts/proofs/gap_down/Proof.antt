@@ -5,18 +5,6 @@ use Rattle.scripts.specs.Scripts.{gapDown}
 use Rattle.scripts.proofs.gap_down.Statement.{statement}
 use Rattle.scripts.proofs.gap_down.Tie as tie
 
-four-rules-requires : tie.Need-four-rules-requires
-four-rules-requires c κs = search needs
-
-minus-requires : tie.Need-minus-requires
-minus-requires c κs = search needs
-
-minus-requires-2 : tie.Need-minus-requires-2
-minus-requires-2 c κs = search needs
-
-plus-requires : tie.Need-plus-requires
-plus-requires c κs = search needs
-
 returns : tie.Need-returns
 unfolding gapDown
 returns c =
@@ -27,4 +15,4 @@ returns c =
 
 pub gap-down-spec : {M : Type 1} → statement M
 gap-down-spec =
-    tie.close (tie.spec four-rules-requires minus-requires minus-requires-2 plus-requires returns)
+    tie.close (tie.spec (λ c κs. search needs) (λ c κs. search needs) (λ c κs. search needs) (λ c κs. search needs) returns)

@@ -6,18 +6,6 @@ use Rattle.scripts.specs.Scripts.{greatest}
 use Rattle.scripts.proofs.greatest.Statement.{statement}
 use Rattle.scripts.proofs.greatest.Tie as tie
 
-max-requires : tie.Need-max-requires
-max-requires c κs = search needs
-
-enum-told : tie.Need-enum-told
-enum-told c = search needs
-
-enum-known-free : tie.Need-enum-known-free
-enum-known-free c = search needs
-
-max-requires-2 : tie.Need-max-requires-2
-max-requires-2 c κs = search needs
-
 returns : tie.Need-returns
 unfolding greatest
 returns c =
@@ -35,4 +23,4 @@ returns-2 c =
 
 pub greatest-spec : {M : Type 1} → statement M
 greatest-spec =
-    tie.close (tie.spec max-requires enum-told enum-known-free max-requires-2 returns returns-2)
+    tie.close (tie.spec (λ c κs. search needs) (λ c. search needs) (λ c. search needs) (λ c κs. search needs) returns returns-2)

@@ -7,23 +7,11 @@ use Rattle.scripts.specs.Scripts.{leastUp}
 use Rattle.scripts.proofs.least_up.Statement.{statement}
 use Rattle.scripts.proofs.least_up.Tie as tie
 
-font-size-requires : tie.Need-font-size-requires
-font-size-requires c κs = search needs
-
-parameter-requires : tie.Need-parameter-requires
-parameter-requires c κs = search needs
-
 returns : tie.Need-returns
 unfolding leastUp
 returns c =
     let tested = c .before in
     (pick-yes _ (tested .if1 .taken) (rw (c .parameter .ensures .0 .is, tested .before .font-size .ensures .0)), search needs)
-
-is-display-requires : tie.Need-is-display-requires
-is-display-requires c κs = search needs
-
-parameter-requires-2 : tie.Need-parameter-requires-2
-parameter-requires-2 c κs = search needs
 
 returns-2 : tie.Need-returns-2
 unfolding leastUp
@@ -35,9 +23,6 @@ returns-2 c =
           (rw (c .parameter2 .ensures .0 .is, tested .before .font-size .ensures .0))),
       search needs,
     )
-
-parameter-requires-3 : tie.Need-parameter-requires-3
-parameter-requires-3 c κs = search needs
 
 returns-3 : tie.Need-returns-3
 unfolding leastUp
@@ -54,11 +39,11 @@ pub least-up-spec : {M : Type 1} → statement M
 least-up-spec =
     tie.close
     (tie.spec
-    font-size-requires
-    parameter-requires
+    (λ c κs. search needs)
+    (λ c κs. search needs)
     returns
-    is-display-requires
-    parameter-requires-2
+    (λ c κs. search needs)
+    (λ c κs. search needs)
     returns-2
-    parameter-requires-3
+    (λ c κs. search needs)
     returns-3)

@@ -6,15 +6,6 @@ use Rattle.scripts.specs.Scripts.{lifted}
 use Rattle.scripts.proofs.lifted.Statement.{statement}
 use Rattle.scripts.proofs.lifted.Tie as tie
 
-less-requires : tie.Need-less-requires
-less-requires c κs = search needs
-
-plus-requires : tie.Need-plus-requires
-plus-requires c κs = search needs
-
-minus-requires : tie.Need-minus-requires
-minus-requires c κs = search needs
-
 returns : tie.Need-returns
 unfolding lifted
 returns c =
@@ -30,4 +21,4 @@ returns-2 c =
     (rw no refl, search needs)
 
 pub lifted-spec : {M : Type 1} → statement M
-lifted-spec = tie.close (tie.spec less-requires plus-requires minus-requires returns returns-2)
+lifted-spec = tie.close (tie.spec (λ c κs. search needs) (λ c κs. search needs) (λ c κs. search needs) returns returns-2)

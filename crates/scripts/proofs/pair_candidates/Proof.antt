@@ -7,15 +7,6 @@ use Rattle.scripts.specs.Scripts.{pairCandidates}
 use Rattle.scripts.proofs.pair_candidates.Statement.{statement}
 use Rattle.scripts.proofs.pair_candidates.Tie as tie
 
-drops-requires : tie.Need-drops-requires
-drops-requires c κs = search needs
-
-font-size-requires : tie.Need-font-size-requires
-font-size-requires c κs = search needs
-
-parameter-requires : tie.Need-parameter-requires
-parameter-requires c κs = search needs
-
 returns : tie.Need-returns
 unfolding pairCandidates
 returns c =
@@ -27,4 +18,4 @@ returns c =
 
 pub pair-candidates-spec : {M : Type 1} → statement M
 pair-candidates-spec =
-    tie.close (tie.spec drops-requires font-size-requires parameter-requires returns)
+    tie.close (tie.spec (λ c κs. search needs) (λ c κs. search needs) (λ c κs. search needs) returns)

@@ -6,21 +6,6 @@ use Rattle.scripts.specs.Scripts.{greatest, pairShifts}
 use Rattle.scripts.proofs.pair_shifts.Statement.{statement}
 use Rattle.scripts.proofs.pair_shifts.Tie as tie
 
-superscript-candidates-requires : tie.Need-superscript-candidates-requires
-superscript-candidates-requires c κs = search needs
-
-greatest-requires : tie.Need-greatest-requires
-greatest-requires c κs = search needs
-
-pair-candidates-requires : tie.Need-pair-candidates-requires
-pair-candidates-requires c κs = search needs
-
-greatest-requires-2 : tie.Need-greatest-requires-2
-greatest-requires-2 c κs = search needs
-
-font-size-requires : tie.Need-font-size-requires
-font-size-requires c κs = search needs
-
 spread-requires : tie.Need-spread-requires
 spread-requires c κs =
     let down = c .before in
@@ -49,10 +34,10 @@ pub pair-shifts-spec : {M : Type 1} → statement M
 pair-shifts-spec =
     tie.close
     (tie.spec
-    superscript-candidates-requires
-    greatest-requires
-    pair-candidates-requires
-    greatest-requires-2
-    font-size-requires
+    (λ c κs. search needs)
+    (λ c κs. search needs)
+    (λ c κs. search needs)
+    (λ c κs. search needs)
+    (λ c κs. search needs)
     spread-requires
     returns)

@@ -4,18 +4,6 @@ use borrow.Author.Needs.{needs}
 use Rattle.scripts.proofs.pair_width.Statement.{statement}
 use Rattle.scripts.proofs.pair_width.Tie as tie
 
-plus-requires : tie.Need-plus-requires
-plus-requires c κs = search needs
-
-plus-requires-2 : tie.Need-plus-requires-2
-plus-requires-2 c κs = search needs
-
-plus-requires-3 : tie.Need-plus-requires-3
-plus-requires-3 c κs = search needs
-
-max-requires : tie.Need-max-requires
-max-requires c κs = search needs
-
 returns : tie.Need-returns
 returns c =
     let y = c .before in
@@ -24,4 +12,4 @@ returns c =
 
 pub pair-width-spec : {M : Type 1} → statement M
 pair-width-spec =
-    tie.close (tie.spec plus-requires plus-requires-2 plus-requires-3 max-requires returns)
+    tie.close (tie.spec (λ c κs. search needs) (λ c κs. search needs) (λ c κs. search needs) (λ c κs. search needs) returns)

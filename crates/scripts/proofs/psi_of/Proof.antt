@@ -5,15 +5,6 @@ use Rattle.scripts.specs.Scripts.{ψOf}
 use Rattle.scripts.proofs.psi_of.Statement.{statement}
 use Rattle.scripts.proofs.psi_of.Tie as tie
 
-four-fifths-x-height-requires : tie.Need-four-fifths-x-height-requires
-four-fifths-x-height-requires c κs = search needs
-
-minus-requires : tie.Need-minus-requires
-minus-requires c κs = search needs
-
-minus-requires-2 : tie.Need-minus-requires-2
-minus-requires-2 c κs = search needs
-
 returns : tie.Need-returns
 unfolding ψOf
 returns c =
@@ -22,4 +13,4 @@ returns c =
 
 pub psi-of-spec : {M : Type 1} → statement M
 psi-of-spec =
-    tie.close (tie.spec four-fifths-x-height-requires minus-requires minus-requires-2 returns)
+    tie.close (tie.spec (λ c κs. search needs) (λ c κs. search needs) (λ c κs. search needs) returns)

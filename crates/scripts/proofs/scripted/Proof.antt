@@ -5,38 +5,17 @@ use Rattle.scripts.specs.Scripts.{scripted}
 use Rattle.scripts.proofs.scripted.Statement.{statement}
 use Rattle.scripts.proofs.scripted.Tie as tie
 
-enum-told : tie.Need-enum-told
-enum-told c = search needs
-
-enum-told-2 : tie.Need-enum-told-2
-enum-told-2 c = search needs
-
-without-scripts-requires : tie.Need-without-scripts-requires
-without-scripts-requires c κs = search needs
-
-enum-known-subscript : tie.Need-enum-known-subscript
-enum-known-subscript c = search needs
-
 with-subscript-requires : tie.Need-with-subscript-requires
 with-subscript-requires c κs =
     let arm = c .before in
     let pre = arm .before .before .before .before .pre in
     (pre .0, rw (arm .subscript .given .1) at (pre .2))
 
-enum-known-superscript : tie.Need-enum-known-superscript
-enum-known-superscript c = search needs
-
-enum-told-3 : tie.Need-enum-told-3
-enum-told-3 c = search needs
-
 with-superscript-requires : tie.Need-with-superscript-requires
 with-superscript-requires c κs =
     let arm = c .before .before .before in
     let pre = arm .before .before .pre in
     (pre .0, rw (arm .superscript .given .1) at (pre .1))
-
-enum-known-subscript-2 : tie.Need-enum-known-subscript-2
-enum-known-subscript-2 c = search needs
 
 with-pair-requires : tie.Need-with-pair-requires
 with-pair-requires c κs =
@@ -74,15 +53,15 @@ pub scripted-spec : {M : Type 1} → statement M
 scripted-spec =
     tie.close
     (tie.spec
-    enum-told
-    enum-told-2
-    without-scripts-requires
-    enum-known-subscript
+    (λ c. search needs)
+    (λ c. search needs)
+    (λ c κs. search needs)
+    (λ c. search needs)
     with-subscript-requires
-    enum-known-superscript
-    enum-told-3
+    (λ c. search needs)
+    (λ c. search needs)
     with-superscript-requires
-    enum-known-subscript-2
+    (λ c. search needs)
     with-pair-requires
     returns
     returns-2

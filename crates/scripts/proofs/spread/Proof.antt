@@ -6,24 +6,6 @@ use Rattle.scripts.specs.Scripts.{spread}
 use Rattle.scripts.proofs.spread.Statement.{statement}
 use Rattle.scripts.proofs.spread.Tie as tie
 
-four-rules-requires : tie.Need-four-rules-requires
-four-rules-requires c κs = search needs
-
-gap-requires : tie.Need-gap-requires
-gap-requires c κs = search needs
-
-less-requires : tie.Need-less-requires
-less-requires c κs = search needs
-
-psi-of-requires : tie.Need-psi-of-requires
-psi-of-requires c κs = search needs
-
-gap-down-requires : tie.Need-gap-down-requires
-gap-down-requires c κs = search needs
-
-lifted-requires : tie.Need-lifted-requires
-lifted-requires c κs = search needs
-
 returns : tie.Need-returns
 unfolding spread
 returns c =
@@ -45,11 +27,11 @@ pub spread-spec : {M : Type 1} → statement M
 spread-spec =
     tie.close
     (tie.spec
-    four-rules-requires
-    gap-requires
-    less-requires
-    psi-of-requires
-    gap-down-requires
-    lifted-requires
+    (λ c κs. search needs)
+    (λ c κs. search needs)
+    (λ c κs. search needs)
+    (λ c κs. search needs)
+    (λ c κs. search needs)
+    (λ c κs. search needs)
     returns
     returns-2)

@@ -8,21 +8,6 @@ use Rattle.scripts.specs.Scripts.{subscriptCandidates}
 use Rattle.scripts.proofs.subscript_candidates.Statement.{statement}
 use Rattle.scripts.proofs.subscript_candidates.Tie as tie
 
-font-size-requires : tie.Need-font-size-requires
-font-size-requires c κs = search needs
-
-drops-requires : tie.Need-drops-requires
-drops-requires c κs = search needs
-
-parameter-requires : tie.Need-parameter-requires
-parameter-requires c κs = search needs
-
-four-fifths-x-height-requires : tie.Need-four-fifths-x-height-requires
-four-fifths-x-height-requires c κs = search needs
-
-minus-requires : tie.Need-minus-requires
-minus-requires c κs = search needs
-
 returns : tie.Need-returns
 unfolding subscriptCandidates
 returns c =
@@ -40,9 +25,9 @@ pub subscript-candidates-spec : {M : Type 1} → statement M
 subscript-candidates-spec =
     tie.close
     (tie.spec
-    font-size-requires
-    drops-requires
-    parameter-requires
-    four-fifths-x-height-requires
-    minus-requires
+    (λ c κs. search needs)
+    (λ c κs. search needs)
+    (λ c κs. search needs)
+    (λ c κs. search needs)
+    (λ c κs. search needs)
     returns)

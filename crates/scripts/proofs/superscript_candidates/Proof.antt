@@ -8,21 +8,6 @@ use Rattle.scripts.specs.Scripts.{superscriptCandidates}
 use Rattle.scripts.proofs.superscript_candidates.Statement.{statement}
 use Rattle.scripts.proofs.superscript_candidates.Tie as tie
 
-drops-requires : tie.Need-drops-requires
-drops-requires c κs = search needs
-
-least-up-requires : tie.Need-least-up-requires
-least-up-requires c κs = search needs
-
-font-size-requires : tie.Need-font-size-requires
-font-size-requires c κs = search needs
-
-quarter-x-height-requires : tie.Need-quarter-x-height-requires
-quarter-x-height-requires c κs = search needs
-
-plus-requires : tie.Need-plus-requires
-plus-requires c κs = search needs
-
 returns : tie.Need-returns
 unfolding superscriptCandidates
 returns c =
@@ -41,9 +26,9 @@ pub superscript-candidates-spec : {M : Type 1} → statement M
 superscript-candidates-spec =
     tie.close
     (tie.spec
-    drops-requires
-    least-up-requires
-    font-size-requires
-    quarter-x-height-requires
-    plus-requires
+    (λ c κs. search needs)
+    (λ c κs. search needs)
+    (λ c κs. search needs)
+    (λ c κs. search needs)
+    (λ c κs. search needs)
     returns)

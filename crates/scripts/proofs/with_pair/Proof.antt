@@ -9,24 +9,6 @@ use Rattle.scripts.specs.Scripts.{withPair}
 use Rattle.scripts.proofs.with_pair.Statement.{statement}
 use Rattle.scripts.proofs.with_pair.Tie as tie
 
-pair-shifts-requires : tie.Need-pair-shifts-requires
-pair-shifts-requires c κs = search needs
-
-plus-requires : tie.Need-plus-requires
-plus-requires c κs = search needs
-
-negated-requires : tie.Need-negated-requires
-negated-requires c κs = search needs
-
-pair-width-requires : tie.Need-pair-width-requires
-pair-width-requires c κs = search needs
-
-pair-reach-requires : tie.Need-pair-reach-requires
-pair-reach-requires c κs = search needs
-
-pair-reach-requires-2 : tie.Need-pair-reach-requires-2
-pair-reach-requires-2 c κs = search needs
-
 assembled-requires : tie.Need-assembled-requires
 assembled-requires c κs =
     let top = c .before in
@@ -62,11 +44,11 @@ pub with-pair-spec : {M : Type 1} → statement M
 with-pair-spec =
     tie.close
     (tie.spec
-    pair-shifts-requires
-    plus-requires
-    negated-requires
-    pair-width-requires
-    pair-reach-requires
-    pair-reach-requires-2
+    (λ c κs. search needs)
+    (λ c κs. search needs)
+    (λ c κs. search needs)
+    (λ c κs. search needs)
+    (λ c κs. search needs)
+    (λ c κs. search needs)
     assembled-requires
     returns)

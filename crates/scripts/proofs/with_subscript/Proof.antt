@@ -7,17 +7,8 @@ use Rattle.scripts.specs.Scripts.{greatest}
 use Rattle.scripts.proofs.with_subscript.Statement.{statement}
 use Rattle.scripts.proofs.with_subscript.Tie as tie
 
-subscript-candidates-requires : tie.Need-subscript-candidates-requires
-subscript-candidates-requires c κs = search needs
-
-greatest-requires : tie.Need-greatest-requires
-greatest-requires c κs = search needs
-
 negated-requires : tie.Need-negated-requires
 negated-requires c κs = omega (arith, c .greatest .ensures .1 (c .before .subscript-candidates .ensures .1))
-
-origin-requires : tie.Need-origin-requires
-origin-requires c κs = search needs
 
 alone-requires : tie.Need-alone-requires
 alone-requires c κs =
@@ -44,9 +35,9 @@ pub with-subscript-spec : {M : Type 1} → statement M
 with-subscript-spec =
     tie.close
     (tie.spec
-    subscript-candidates-requires
-    greatest-requires
+    (λ c κs. search needs)
+    (λ c κs. search needs)
     negated-requires
-    origin-requires
+    (λ c κs. search needs)
     alone-requires
     returns)

@@ -7,15 +7,6 @@ use Rattle.scripts.specs.Scripts.{greatest}
 use Rattle.scripts.proofs.with_superscript.Statement.{statement}
 use Rattle.scripts.proofs.with_superscript.Tie as tie
 
-superscript-candidates-requires : tie.Need-superscript-candidates-requires
-superscript-candidates-requires c κs = search needs
-
-greatest-requires : tie.Need-greatest-requires
-greatest-requires c κs = search needs
-
-origin-requires : tie.Need-origin-requires
-origin-requires c κs = search needs
-
 alone-requires : tie.Need-alone-requires
 alone-requires c κs =
     let up = c .before .before in
@@ -34,8 +25,8 @@ pub with-superscript-spec : {M : Type 1} → statement M
 with-superscript-spec =
     tie.close
     (tie.spec
-    superscript-candidates-requires
-    greatest-requires
-    origin-requires
+    (λ c κs. search needs)
+    (λ c κs. search needs)
+    (λ c κs. search needs)
     alone-requires
     returns)

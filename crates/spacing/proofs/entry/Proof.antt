@@ -21,21 +21,6 @@ table =
     ∷ (30 ∷ 33 ∷ 40 ∷ 50 ∷ 30 ∷ 0 ∷ 30 ∷ 30 ∷ [])
     ∷ []
 
-column-requires : tie.Need-column-requires
-column-requires c κs = search needs
-
-column-requires-2 : tie.Need-column-requires-2
-column-requires-2 c κs = search needs
-
-mul-result : tie.Need-mul-result
-mul-result c = search needs
-
-index-1-result : tie.Need-index-1-result
-index-1-result c = search needs
-
-index-2-result : tie.Need-index-2-result
-index-2-result c = search needs
-
 returns : tie.Need-returns
 unfolding table row chart
 returns c =
@@ -46,4 +31,4 @@ returns c =
 pub entry-spec : {M : Type 1} → statement M
 entry-spec =
     tie.close
-    (tie.spec column-requires column-requires-2 mul-result index-1-result index-2-result returns)
+    (tie.spec (λ c κs. search needs) (λ c κs. search needs) (λ c. search needs) (λ c. search needs) (λ c. search needs) returns)

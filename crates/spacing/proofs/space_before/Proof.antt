@@ -11,27 +11,6 @@ use Rattle.spacing.specs.Spacing.{spaceBefore}
 use Rattle.spacing.proofs.space_before.Statement.{statement}
 use Rattle.spacing.proofs.space_before.Tie as tie
 
-enum-told : tie.Need-enum-told
-enum-told c = search needs
-
-enum-known-left : tie.Need-enum-known-left
-enum-known-left c = search needs
-
-font-size-requires : tie.Need-font-size-requires
-font-size-requires c κs = search needs
-
-parameter-requires : tie.Need-parameter-requires
-parameter-requires c κs = search needs
-
-is-large-requires : tie.Need-is-large-requires
-is-large-requires c κs = search needs
-
-units-requires : tie.Need-units-requires
-units-requires c κs = search needs
-
-cast-t11 : tie.Need-cast-t11
-cast-t11 c = search needs
-
 at-requires : tie.Need-at-requires
 at-requires c κs =
     let units : toZ w64 (c .units .result) ≡ pos (c .units .result) = toZ-pos w64 (c .units .result) (omega arith) in
@@ -56,13 +35,13 @@ pub space-before-spec : {M : Type 1} → statement M
 space-before-spec =
     tie.close
     (tie.spec
-    enum-told
-    enum-known-left
-    font-size-requires
-    parameter-requires
-    is-large-requires
-    units-requires
-    cast-t11
+    (λ c. search needs)
+    (λ c. search needs)
+    (λ c κs. search needs)
+    (λ c κs. search needs)
+    (λ c κs. search needs)
+    (λ c κs. search needs)
+    (λ c. search needs)
     at-requires
     returns
     returns-2)

@@ -10,12 +10,6 @@ use Rattle.words.specs.WordLaws.{signed-small, signed-great}
 use Rattle.words.proofs.signed.Statement.{statement}
 use Rattle.words.proofs.signed.Tie as tie
 
-cast-t4 : tie.Need-cast-t4
-cast-t4 c = search needs
-
-cast-t5 : tie.Need-cast-t5
-cast-t5 c = search needs
-
 sub-t6 : tie.Need-sub-t6
 sub-t6 c = fits-by (word (c .before .args .w) ⊖ # (pos wordRange)) (omega arith)
 
@@ -31,4 +25,4 @@ returns-2 c =
     eq-by (stored great) (# (pos w) ⊖ # (pos wordRange)) (omega arith) ∙ sym (signed-great w (c .if1 .left))
 
 pub signed-spec : {M : Type 1} → statement M
-signed-spec = tie.close (tie.spec cast-t4 cast-t5 sub-t6 returns returns-2)
+signed-spec = tie.close (tie.spec (λ c. search needs) (λ c. search needs) sub-t6 returns returns-2)

@@ -9,41 +9,14 @@ use Rattle.words.proofs.Stores.{four-stores}
 use Rattle.words.proofs.store.Statement.{statement}
 use Rattle.words.proofs.store.Tie as tie
 
-low-requires : tie.Need-low-requires
-low-requires c κs = search needs
-
-slice-write-b : tie.Need-slice-write-b
-slice-write-b c = search needs
-
-low-requires-2 : tie.Need-low-requires-2
-low-requires-2 c κs = search needs
-
-add-b : tie.Need-add-b
-add-b c = search needs
-
 slice-write-b-2 : tie.Need-slice-write-b-2
 slice-write-b-2 c = simp length-set (omega arith)
-
-low-requires-3 : tie.Need-low-requires-3
-low-requires-3 c κs = search needs
-
-add-b-2 : tie.Need-add-b-2
-add-b-2 c = search needs
 
 slice-write-b-3 : tie.Need-slice-write-b-3
 slice-write-b-3 c = simp length-set (omega arith)
 
-low-requires-4 : tie.Need-low-requires-4
-low-requires-4 c κs = search needs
-
-add-b-3 : tie.Need-add-b-3
-add-b-3 c = search needs
-
 slice-write-b-4 : tie.Need-slice-write-b-4
 slice-write-b-4 c = simp length-set (omega arith)
-
-same-length : tie.Need-same-length
-same-length c = search needs
 
 returns : tie.Need-returns
 unfolding fourBytes
@@ -55,16 +28,16 @@ pub store-spec : {M : Type 1} → statement M
 store-spec =
     tie.close
     (tie.spec
-    low-requires
-    slice-write-b
-    low-requires-2
-    add-b
+    (λ c κs. search needs)
+    (λ c. search needs)
+    (λ c κs. search needs)
+    (λ c. search needs)
     slice-write-b-2
-    low-requires-3
-    add-b-2
+    (λ c κs. search needs)
+    (λ c. search needs)
     slice-write-b-3
-    low-requires-4
-    add-b-3
+    (λ c κs. search needs)
+    (λ c. search needs)
     slice-write-b-4
-    same-length
+    (λ c. search needs)
     returns)

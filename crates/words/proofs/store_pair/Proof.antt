@@ -6,18 +6,6 @@ use Rattle.words.proofs.Stores.{pair-stores}
 use Rattle.words.proofs.store_pair.Statement.{statement}
 use Rattle.words.proofs.store_pair.Tie as tie
 
-store-requires : tie.Need-store-requires
-store-requires c κs = search needs
-
-add-store : tie.Need-add-store
-add-store c = search needs
-
-store-requires-2 : tie.Need-store-requires-2
-store-requires-2 c κs = search needs
-
-same-length : tie.Need-same-length
-same-length c = search needs
-
 returns : tie.Need-returns
 returns c =
     let second = c .before .before in
@@ -27,4 +15,4 @@ returns c =
 
 pub store-pair-spec : {M : Type 1} → statement M
 store-pair-spec =
-    tie.close (tie.spec store-requires add-store store-requires-2 same-length returns)
+    tie.close (tie.spec (λ c κs. search needs) (λ c. search needs) (λ c κs. search needs) (λ c. search needs) returns)

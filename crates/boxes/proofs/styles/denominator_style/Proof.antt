@@ -6,15 +6,9 @@ use Rattle.boxes.specs.Styles.{crampedStyle}
 use Rattle.boxes.proofs.styles.denominator_style.Statement.{statement}
 use Rattle.boxes.proofs.styles.denominator_style.Tie as tie
 
-numerator-style-requires : tie.Need-numerator-style-requires
-numerator-style-requires c κs = search needs
-
-cramped-style-requires : tie.Need-cramped-style-requires
-cramped-style-requires c κs = search needs
-
 returns : tie.Need-returns
 returns c = c .cramped-style .ensures ∙ ap crampedStyle (c .before .numerator-style .ensures)
 
 pub denominator-style-spec : {M : Type 1} → statement M
 denominator-style-spec =
-    tie.close (tie.spec numerator-style-requires cramped-style-requires returns)
+    tie.close (tie.spec (λ c κs. search needs) (λ c κs. search needs) returns)

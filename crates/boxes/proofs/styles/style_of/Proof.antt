@@ -22,30 +22,6 @@ past (s ∷ l) (suc i) h = past l i (omega arith)
 four : (k n : ℕ) → k ≤ n → (n ≡ k → ⊥) → (n ≡ k + 1 → ⊥) → (n ≡ k + 2 → ⊥) → (n ≡ k + 3 → ⊥) → k + 4 ≤ n
 four k n h a b c d = omega arith
 
-styled-requires : tie.Need-styled-requires
-styled-requires c κs = search needs
-
-styled-requires-2 : tie.Need-styled-requires-2
-styled-requires-2 c κs = search needs
-
-styled-requires-3 : tie.Need-styled-requires-3
-styled-requires-3 c κs = search needs
-
-styled-requires-4 : tie.Need-styled-requires-4
-styled-requires-4 c κs = search needs
-
-styled-requires-5 : tie.Need-styled-requires-5
-styled-requires-5 c κs = search needs
-
-styled-requires-6 : tie.Need-styled-requires-6
-styled-requires-6 c κs = search needs
-
-styled-requires-7 : tie.Need-styled-requires-7
-styled-requires-7 c κs = search needs
-
-styled-requires-8 : tie.Need-styled-requires-8
-styled-requires-8 c κs = search needs
-
 returns : tie.Need-returns
 unfolding styleOf
 returns c = rw (c .before .match .keys1, c .styled .ensures)
@@ -92,14 +68,14 @@ pub style-of-spec : {M : Type 1} → statement M
 style-of-spec =
     tie.close
     (tie.spec
-    styled-requires
-    styled-requires-2
-    styled-requires-3
-    styled-requires-4
-    styled-requires-5
-    styled-requires-6
-    styled-requires-7
-    styled-requires-8
+    (λ c κs. search needs)
+    (λ c κs. search needs)
+    (λ c κs. search needs)
+    (λ c κs. search needs)
+    (λ c κs. search needs)
+    (λ c κs. search needs)
+    (λ c κs. search needs)
+    (λ c κs. search needs)
     returns
     returns-2
     returns-3

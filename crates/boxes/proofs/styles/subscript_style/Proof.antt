@@ -6,15 +6,9 @@ use Rattle.boxes.specs.Styles.{crampedStyle}
 use Rattle.boxes.proofs.styles.subscript_style.Statement.{statement}
 use Rattle.boxes.proofs.styles.subscript_style.Tie as tie
 
-superscript-style-requires : tie.Need-superscript-style-requires
-superscript-style-requires c κs = search needs
-
-cramped-style-requires : tie.Need-cramped-style-requires
-cramped-style-requires c κs = search needs
-
 returns : tie.Need-returns
 returns c = c .cramped-style .ensures ∙ ap crampedStyle (c .before .superscript-style .ensures)
 
 pub subscript-style-spec : {M : Type 1} → statement M
 subscript-style-spec =
-    tie.close (tie.spec superscript-style-requires cramped-style-requires returns)
+    tie.close (tie.spec (λ c κs. search needs) (λ c κs. search needs) returns)

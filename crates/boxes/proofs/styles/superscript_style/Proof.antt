@@ -4,11 +4,8 @@ use borrow.Author.Needs.{needs}
 use Rattle.boxes.proofs.styles.superscript_style.Statement.{statement}
 use Rattle.boxes.proofs.styles.superscript_style.Tie as tie
 
-script-level-requires : tie.Need-script-level-requires
-script-level-requires c κs = search needs
-
 returns : tie.Need-returns
 returns c = cc
 
 pub superscript-style-spec : {M : Type 1} → statement M
-superscript-style-spec = tie.close (tie.spec script-level-requires returns)
+superscript-style-spec = tie.close (tie.spec (λ c κs. search needs) returns)

@@ -14,28 +14,13 @@ returns c =
     let s = c .before .before .args .s .now in
     front-short Body s (omega (arith, body-least (looksLike Body s)))
 
-shared-slice-read-if2 : tie.Need-shared-slice-read-if2
-shared-slice-read-if2 c = search needs
-
-rule-front-requires : tie.Need-rule-front-requires
-rule-front-requires c κs = search needs
-
-returns-2 : tie.Need-returns-2
-returns-2 c = search needs
-
-glyph-front-requires : tie.Need-glyph-front-requires
-glyph-front-requires c κs = search needs
-
-returns-3 : tie.Need-returns-3
-returns-3 c = search needs
-
 pub front-spec : {M : Type 1} → statement M
 front-spec =
     tie.close
     (tie.spec
     returns
-    shared-slice-read-if2
-    rule-front-requires
-    returns-2
-    glyph-front-requires
-    returns-3)
+    (λ c. search needs)
+    (λ c κs. search needs)
+    (λ c. search needs)
+    (λ c κs. search needs)
+    (λ c. search needs))

@@ -10,38 +10,11 @@ use Rattle.dvi.proofs.LeadLaws.{low-opcode}
 use Rattle.dvi.proofs.body.glyph_front.Statement.{statement}
 use Rattle.dvi.proofs.body.glyph_front.Tie as tie
 
-shared-slice-read-if1 : tie.Need-shared-slice-read-if1
-shared-slice-read-if1 c = search needs
-
 returns : tie.Need-returns
 returns c =
     let start = c .before .before .before in
     let s = start .args .s .now in
     front-by Body s false (looks-body-glyph s (start .pre .1)) (λ good. low-opcode s (c .before .shared-slice-known2 .given) (start .pre .0) (c .if1 .taken))
-
-shared-slice-read-font : tie.Need-shared-slice-read-font
-shared-slice-read-font c = search needs
-
-sub-font : tie.Need-sub-font
-sub-font c = search needs
-
-number-requires : tie.Need-number-requires
-number-requires c κs = search needs
-
-negated-requires : tie.Need-negated-requires
-negated-requires c κs = search needs
-
-is-glyph-requires : tie.Need-is-glyph-requires
-is-glyph-requires c κs = search needs
-
-number-requires-2 : tie.Need-number-requires-2
-number-requires-2 c κs = search needs
-
-shared-slice-read-t11 : tie.Need-shared-slice-read-t11
-shared-slice-read-t11 c = search needs
-
-found-requires : tie.Need-found-requires
-found-requires c κs = search needs
 
 returns-2 : tie.Need-returns-2
 returns-2 c =
@@ -59,14 +32,14 @@ pub glyph-front-spec : {M : Type 1} → statement M
 glyph-front-spec =
     tie.close
     (tie.spec
-    shared-slice-read-if1
+    (λ c. search needs)
     returns
-    shared-slice-read-font
-    sub-font
-    number-requires
-    negated-requires
-    is-glyph-requires
-    number-requires-2
-    shared-slice-read-t11
-    found-requires
+    (λ c. search needs)
+    (λ c. search needs)
+    (λ c κs. search needs)
+    (λ c κs. search needs)
+    (λ c κs. search needs)
+    (λ c κs. search needs)
+    (λ c. search needs)
+    (λ c κs. search needs)
     returns-2)

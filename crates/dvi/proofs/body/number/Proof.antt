@@ -13,15 +13,6 @@ use Rattle.dvi.specs.Forms.{bodyNumber}
 use Rattle.dvi.proofs.body.number.Statement.{statement}
 use Rattle.dvi.proofs.body.number.Tie as tie
 
-word-requires : tie.Need-word-requires
-word-requires c κs = search needs
-
-turned-requires : tie.Need-turned-requires
-turned-requires c κs = search needs
-
-signed-requires : tie.Need-signed-requires
-signed-requires c κs = search needs
-
 returns : tie.Need-returns
 returns c =
     let start = c .before .before .before .before in
@@ -35,4 +26,4 @@ returns c =
     (is, rw is (omega arith))
 
 pub number-spec : {M : Type 1} → statement M
-number-spec = tie.close (tie.spec word-requires turned-requires signed-requires returns)
+number-spec = tie.close (tie.spec (λ c κs. search needs) (λ c κs. search needs) (λ c κs. search needs) returns)

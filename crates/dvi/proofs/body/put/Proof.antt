@@ -6,17 +6,11 @@ use Rattle.dvi.proofs.Stores.{glyph-asks, rule-asks}
 use Rattle.dvi.proofs.body.put.Statement.{statement}
 use Rattle.dvi.proofs.body.put.Tie as tie
 
-enum-known-node : tie.Need-enum-known-node
-enum-known-node c = search needs
-
 put-glyph-requires : tie.Need-put-glyph-requires
 put-glyph-requires c κs =
     let node = c .before .before in
     let pre = rw (node .node .given .1) at (node .before .before .before .pre) in
     glyph-asks (facts _ (pre .0)) (pre .1)
-
-enum-known-node-2 : tie.Need-enum-known-node-2
-enum-known-node-2 c = search needs
 
 put-rule-requires : tie.Need-put-rule-requires
 put-rule-requires c κs =
@@ -24,16 +18,10 @@ put-rule-requires c κs =
     let pre = rw (node .node2 .given .1) at (node .before .before .before .pre) in
     rule-asks (facts _ (pre .0)) (pre .1)
 
-same-length : tie.Need-same-length
-same-length c = search needs
-
 returns : tie.Need-returns
 returns c =
     let put = c .before .before in
     rw (put .before .before .before .node .given .1) (put .put-glyph .ensures)
-
-same-length-2 : tie.Need-same-length-2
-same-length-2 c = search needs
 
 returns-2 : tie.Need-returns-2
 returns-2 c =
@@ -44,11 +32,11 @@ pub put-spec : {M : Type 1} → statement M
 put-spec =
     tie.close
     (tie.spec
-    enum-known-node
+    (λ c. search needs)
     put-glyph-requires
-    enum-known-node-2
+    (λ c. search needs)
     put-rule-requires
-    same-length
+    (λ c. search needs)
     returns
-    same-length-2
+    (λ c. search needs)
     returns-2)

@@ -8,18 +8,6 @@ use Rattle.dvi.proofs.Stores.{glyph-stores}
 use Rattle.dvi.proofs.body.put_glyph.Statement.{statement}
 use Rattle.dvi.proofs.body.put_glyph.Tie as tie
 
-mul-out : tie.Need-mul-out
-mul-out c = search needs
-
-add-out : tie.Need-add-out
-add-out c = search needs
-
-add-out-2 : tie.Need-add-out-2
-add-out-2 c = search needs
-
-slice-write-out : tie.Need-slice-write-out
-slice-write-out c = search needs
-
 put-place-requires : tie.Need-put-place-requires
 put-place-requires c κs = simp length-set (omega arith)
 
@@ -45,10 +33,10 @@ pub put-glyph-spec : {M : Type 1} → statement M
 put-glyph-spec =
     tie.close
     (tie.spec
-    mul-out
-    add-out
-    add-out-2
-    slice-write-out
+    (λ c. search needs)
+    (λ c. search needs)
+    (λ c. search needs)
+    (λ c. search needs)
     put-place-requires
     slice-write-out-2
     slice-write-out-3

@@ -8,32 +8,14 @@ use Rattle.dvi.proofs.Stores.{place-stores}
 use Rattle.dvi.proofs.body.put_place.Statement.{statement}
 use Rattle.dvi.proofs.body.put_place.Tie as tie
 
-negated-requires : tie.Need-negated-requires
-negated-requires c κs = search needs
-
-slice-write-out : tie.Need-slice-write-out
-slice-write-out c = search needs
-
-add-out : tie.Need-add-out
-add-out c = search needs
-
 slice-write-out-2 : tie.Need-slice-write-out-2
 slice-write-out-2 c = simp length-set (omega arith)
-
-add-put-number : tie.Need-add-put-number
-add-put-number c = search needs
 
 put-number-requires : tie.Need-put-number-requires
 put-number-requires c κs = simp length-set (omega arith)
 
-add-out-2 : tie.Need-add-out-2
-add-out-2 c = search needs
-
 slice-write-out-3 : tie.Need-slice-write-out-3
 slice-write-out-3 c = omega (arith, simp length-set at (c .before .before .put-number .kept .1 .0))
-
-add-put-number-2 : tie.Need-add-put-number-2
-add-put-number-2 c = search needs
 
 put-number-requires-2 : tie.Need-put-number-requires-2
 put-number-requires-2 c κs = simp length-set (omega (arith, simp length-set at (c .before .before .before .put-number .kept .1 .0)))
@@ -57,15 +39,15 @@ pub put-place-spec : {M : Type 1} → statement M
 put-place-spec =
     tie.close
     (tie.spec
-    negated-requires
-    slice-write-out
-    add-out
+    (λ c κs. search needs)
+    (λ c. search needs)
+    (λ c. search needs)
     slice-write-out-2
-    add-put-number
+    (λ c. search needs)
     put-number-requires
-    add-out-2
+    (λ c. search needs)
     slice-write-out-3
-    add-put-number-2
+    (λ c. search needs)
     put-number-requires-2
     same-length
     returns)

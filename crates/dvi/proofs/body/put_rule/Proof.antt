@@ -8,12 +8,6 @@ use Rattle.dvi.proofs.Stores.{rule-stores}
 use Rattle.dvi.proofs.body.put_rule.Statement.{statement}
 use Rattle.dvi.proofs.body.put_rule.Tie as tie
 
-put-place-requires : tie.Need-put-place-requires
-put-place-requires c κs = search needs
-
-slice-write-out : tie.Need-slice-write-out
-slice-write-out c = search needs
-
 put-number-requires : tie.Need-put-number-requires
 put-number-requires c κs = simp length-set (omega (arith, c .before .before .before .put-place .kept .1 .1 .0))
 
@@ -47,8 +41,8 @@ pub put-rule-spec : {M : Type 1} → statement M
 put-rule-spec =
     tie.close
     (tie.spec
-    put-place-requires
-    slice-write-out
+    (λ c κs. search needs)
+    (λ c. search needs)
     put-number-requires
     put-number-requires-2
     slice-write-out-2

@@ -15,27 +15,6 @@ returns c =
     let s = start .args .s .now in
     front-short Body s (rw (looks-body-rule s (start .pre), rule-size) (omega arith))
 
-number-requires : tie.Need-number-requires
-number-requires c κs = search needs
-
-negated-requires : tie.Need-negated-requires
-negated-requires c κs = search needs
-
-is-rule-requires : tie.Need-is-rule-requires
-is-rule-requires c κs = search needs
-
-number-requires-2 : tie.Need-number-requires-2
-number-requires-2 c κs = search needs
-
-number-requires-3 : tie.Need-number-requires-3
-number-requires-3 c κs = search needs
-
-number-requires-4 : tie.Need-number-requires-4
-number-requires-4 c κs = search needs
-
-found-requires : tie.Need-found-requires
-found-requires c κs = search needs
-
 returns-2 : tie.Need-returns-2
 returns-2 c =
     let thickness = c .before in
@@ -55,11 +34,11 @@ rule-front-spec =
     tie.close
     (tie.spec
     returns
-    number-requires
-    negated-requires
-    is-rule-requires
-    number-requires-2
-    number-requires-3
-    number-requires-4
-    found-requires
+    (λ c κs. search needs)
+    (λ c κs. search needs)
+    (λ c κs. search needs)
+    (λ c κs. search needs)
+    (λ c κs. search needs)
+    (λ c κs. search needs)
+    (λ c κs. search needs)
     returns-2)

@@ -6,12 +6,6 @@ use Rattle.dvi.specs.BodyLaws.{glyph-size, rule-size}
 use Rattle.dvi.proofs.body.size.Statement.{statement}
 use Rattle.dvi.proofs.body.size.Tie as tie
 
-enum-told : tie.Need-enum-told
-enum-told c = search needs
-
-enum-told-2 : tie.Need-enum-told-2
-enum-told-2 c = search needs
-
 returns : tie.Need-returns
 returns c =
     let fields = c .enum-told .given .0 in
@@ -23,4 +17,4 @@ returns-2 c =
     rw (c .enum-told2 .given .1) (sym (rule-size (fields .0 .0) (fields .1 .0 .0) (fields .1 .1 .0 .0) (fields .1 .1 .1 .0 .0)))
 
 pub size-spec : {M : Type 1} → statement M
-size-spec = tie.close (tie.spec enum-told enum-told-2 returns returns-2)
+size-spec = tie.close (tie.spec (λ c. search needs) (λ c. search needs) returns returns-2)

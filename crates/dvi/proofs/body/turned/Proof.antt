@@ -9,21 +9,6 @@ use Rattle.dvi.specs.Commands.{turnedWord}
 use Rattle.dvi.proofs.body.turned.Statement.{statement}
 use Rattle.dvi.proofs.body.turned.Tie as tie
 
-cast-a : tie.Need-cast-a
-cast-a c = search needs
-
-cast-b : tie.Need-cast-b
-cast-b c = search needs
-
-cast-c : tie.Need-cast-c
-cast-c c = search needs
-
-cast-d : tie.Need-cast-d
-cast-d c = search needs
-
-of-bytes-requires : tie.Need-of-bytes-requires
-of-bytes-requires c κs = search needs
-
 returns : tie.Need-returns
 unfolding turnedWord littleEndian fourBytes
 returns c =
@@ -32,4 +17,4 @@ returns c =
     c .of-bytes .ensures ∙ rw top (omega arith)
 
 pub turned-spec : {M : Type 1} → statement M
-turned-spec = tie.close (tie.spec cast-a cast-b cast-c cast-d of-bytes-requires returns)
+turned-spec = tie.close (tie.spec (λ c. search needs) (λ c. search needs) (λ c. search needs) (λ c. search needs) (λ c κs. search needs) returns)

@@ -7,9 +7,6 @@ use Rattle.dvi.specs.Values.{nodeAs}
 use Rattle.dvi.proofs.forms.put.Statement.{statement}
 use Rattle.dvi.proofs.forms.put.Tie as tie
 
-enum-told : tie.Need-enum-told
-enum-told c = search needs
-
 put-requires : tie.Need-put-requires
 put-requires c κs =
     let form = c .before in
@@ -17,24 +14,15 @@ put-requires c κs =
     let pre = rw (form .enum-told .given .1) at (start .pre) in
     omega (arith, pre .1, length-node-bytes (nodeAs (start .args .node)))
 
-enum-told-2 : tie.Need-enum-told-2
-enum-told-2 c = search needs
-
 put-requires-2 : tie.Need-put-requires-2
 put-requires-2 c κs =
     let form = c .before in
     rw (form .enum-told2 .given .1) at (form .before .before .before .pre)
 
-same-length : tie.Need-same-length
-same-length c = search needs
-
 returns : tie.Need-returns
 returns c =
     let put = c .before .before in
     rw (put .before .before .enum-told .given .1) (put .put .ensures)
-
-same-length-2 : tie.Need-same-length-2
-same-length-2 c = search needs
 
 returns-2 : tie.Need-returns-2
 returns-2 c =
@@ -45,11 +33,11 @@ pub put-spec : {M : Type 1} → statement M
 put-spec =
     tie.close
     (tie.spec
-    enum-told
+    (λ c. search needs)
     put-requires
-    enum-told-2
+    (λ c. search needs)
     put-requires-2
-    same-length
+    (λ c. search needs)
     returns
-    same-length-2
+    (λ c. search needs)
     returns-2)

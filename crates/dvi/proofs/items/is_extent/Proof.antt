@@ -5,14 +5,8 @@ use Rattle.dvi.proofs.ItemLaws.{extent-tests}
 use Rattle.dvi.proofs.items.is_extent.Statement.{statement}
 use Rattle.dvi.proofs.items.is_extent.Tie as tie
 
-within-requires : tie.Need-within-requires
-within-requires c κs = search needs
-
-less-requires : tie.Need-less-requires
-less-requires c κs = search needs
-
 returns : tie.Need-returns
 returns c = rw (c .before .within .ensures, c .less .ensures .is) (extent-tests (c .before .before .args .z .0))
 
 pub is-extent-spec : {M : Type 1} → statement M
-is-extent-spec = tie.close (tie.spec within-requires less-requires returns)
+is-extent-spec = tie.close (tie.spec (λ c κs. search needs) (λ c κs. search needs) returns)

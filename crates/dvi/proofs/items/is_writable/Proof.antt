@@ -6,30 +6,6 @@ use Rattle.dvi.proofs.ItemLaws.{glyph-tests, rule-tests}
 use Rattle.dvi.proofs.items.is_writable.Statement.{statement}
 use Rattle.dvi.proofs.items.is_writable.Tie as tie
 
-enum-known-node : tie.Need-enum-known-node
-enum-known-node c = search needs
-
-within-requires : tie.Need-within-requires
-within-requires c κs = search needs
-
-within-requires-2 : tie.Need-within-requires-2
-within-requires-2 c κs = search needs
-
-enum-known-node-2 : tie.Need-enum-known-node-2
-enum-known-node-2 c = search needs
-
-within-requires-3 : tie.Need-within-requires-3
-within-requires-3 c κs = search needs
-
-within-requires-4 : tie.Need-within-requires-4
-within-requires-4 c κs = search needs
-
-is-extent-requires : tie.Need-is-extent-requires
-is-extent-requires c κs = search needs
-
-is-extent-requires-2 : tie.Need-is-extent-requires-2
-is-extent-requires-2 c κs = search needs
-
 returns : tie.Need-returns
 returns c =
     let first = c .before in
@@ -52,13 +28,13 @@ pub is-writable-spec : {M : Type 1} → statement M
 is-writable-spec =
     tie.close
     (tie.spec
-    enum-known-node
-    within-requires
-    within-requires-2
-    enum-known-node-2
-    within-requires-3
-    within-requires-4
-    is-extent-requires
-    is-extent-requires-2
+    (λ c. search needs)
+    (λ c κs. search needs)
+    (λ c κs. search needs)
+    (λ c. search needs)
+    (λ c κs. search needs)
+    (λ c κs. search needs)
+    (λ c κs. search needs)
+    (λ c κs. search needs)
     returns
     returns-2)

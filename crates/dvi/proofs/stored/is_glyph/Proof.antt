@@ -5,18 +5,6 @@ use Rattle.dvi.proofs.LeadLaws.{stored-glyph}
 use Rattle.dvi.proofs.stored.is_glyph.Statement.{statement}
 use Rattle.dvi.proofs.stored.is_glyph.Tie as tie
 
-shared-slice-read-result : tie.Need-shared-slice-read-result
-shared-slice-read-result c = search needs
-
-shared-slice-read-result-2 : tie.Need-shared-slice-read-result-2
-shared-slice-read-result-2 c = search needs
-
-shared-slice-read-result-3 : tie.Need-shared-slice-read-result-3
-shared-slice-read-result-3 c = search needs
-
-word-requires : tie.Need-word-requires
-word-requires c κs = search needs
-
 returns : tie.Need-returns
 returns c =
     λ good.
@@ -27,8 +15,8 @@ pub is-glyph-spec : {M : Type 1} → statement M
 is-glyph-spec =
     tie.close
     (tie.spec
-    shared-slice-read-result
-    shared-slice-read-result-2
-    shared-slice-read-result-3
-    word-requires
+    (λ c. search needs)
+    (λ c. search needs)
+    (λ c. search needs)
+    (λ c κs. search needs)
     returns)

@@ -5,14 +5,8 @@ use Rattle.dvi.proofs.LeadLaws.{stored-rule}
 use Rattle.dvi.proofs.stored.is_rule.Statement.{statement}
 use Rattle.dvi.proofs.stored.is_rule.Tie as tie
 
-shared-slice-read-result : tie.Need-shared-slice-read-result
-shared-slice-read-result c = search needs
-
-shared-slice-read-result-2 : tie.Need-shared-slice-read-result-2
-shared-slice-read-result-2 c = search needs
-
 returns : tie.Need-returns
 returns c = stored-rule (c .before .before .args .s .now) (c .before .before .pre) (c .shared-slice-known2 .given)
 
 pub is-rule-spec : {M : Type 1} → statement M
-is-rule-spec = tie.close (tie.spec shared-slice-read-result shared-slice-read-result-2 returns)
+is-rule-spec = tie.close (tie.spec (λ c. search needs) (λ c. search needs) returns)

@@ -6,9 +6,6 @@ use Rattle.scaled.proofs.Stored.{units-kept}
 use Rattle.scaled.proofs.Mu.at.Statement.{statement}
 use Rattle.scaled.proofs.Mu.at.Tie as tie
 
-part-requires : tie.Need-part-requires
-part-requires c κs = search needs
-
 mul-t4 : tie.Need-mul-t4
 mul-t4 c =
     let called = c .before .before .before .before in
@@ -23,4 +20,4 @@ returns c =
     (units-kept (pre .0) (pre .1) (search needs) (search needs) (called .part .ensures .is) .1)
 
 pub at-spec : {M : Type 1} → statement M
-at-spec = tie.close (tie.spec part-requires mul-t4 returns)
+at-spec = tie.close (tie.spec (λ c κs. search needs) mul-t4 returns)

@@ -7,9 +7,6 @@ use Rattle.scaled.specs.Made.{made-parts}
 use Rattle.scaled.proofs.Sp.half.Statement.{statement}
 use Rattle.scaled.proofs.Sp.half.Tie as tie
 
-plus-requires : tie.Need-plus-requires
-plus-requires c κs = search needs
-
 returns : tie.Need-returns
 returns c =
     let up = # (c .before .before .plus .result .0) in
@@ -17,4 +14,4 @@ returns c =
     made-parts (omega arith)
 
 pub half-spec : {M : Type 1} → statement M
-half-spec = tie.close (tie.spec plus-requires returns)
+half-spec = tie.close (tie.spec (λ c κs. search needs) returns)

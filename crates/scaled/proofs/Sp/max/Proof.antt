@@ -6,9 +6,6 @@ use Rattle.scaled.specs.Made.{made-parts}
 use Rattle.scaled.proofs.Sp.max.Statement.{statement}
 use Rattle.scaled.proofs.Sp.max.Tie as tie
 
-less-requires : tie.Need-less-requires
-less-requires c κs = search needs
-
 returns : tie.Need-returns
 returns c = made-parts (omega (arith, c .before .less .ensures .yes))
 
@@ -16,4 +13,4 @@ returns-2 : tie.Need-returns-2
 returns-2 c = made-parts (omega (arith, c .before .less .ensures .no))
 
 pub max-spec : {M : Type 1} → statement M
-max-spec = tie.close (tie.spec less-requires returns returns-2)
+max-spec = tie.close (tie.spec (λ c κs. search needs) returns returns-2)

@@ -6,11 +6,8 @@ use Rattle.scaled.specs.Made.{made-parts}
 use Rattle.scaled.proofs.Sp.negated.Statement.{statement}
 use Rattle.scaled.proofs.Sp.negated.Tie as tie
 
-minus-requires : tie.Need-minus-requires
-minus-requires c κs = search needs
-
 returns : tie.Need-returns
 returns c = made-parts (omega arith)
 
 pub negated-spec : {M : Type 1} → statement M
-negated-spec = tie.close (tie.spec minus-requires returns)
+negated-spec = tie.close (tie.spec (λ c κs. search needs) returns)

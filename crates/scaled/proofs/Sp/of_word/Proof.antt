@@ -8,11 +8,8 @@ use Rattle.scaled.specs.Made.{made}
 use Rattle.scaled.proofs.Sp.of_word.Statement.{statement}
 use Rattle.scaled.proofs.Sp.of_word.Tie as tie
 
-cast-t2 : tie.Need-cast-t2
-cast-t2 c = search needs
-
 returns : tie.Need-returns
 returns c = (made tt (toZ-pos w64 _ (omega arith)), omega arith)
 
 pub of-word-spec : {M : Type 1} → statement M
-of-word-spec = tie.close (tie.spec cast-t2 returns)
+of-word-spec = tie.close (tie.spec (λ c. search needs) returns)

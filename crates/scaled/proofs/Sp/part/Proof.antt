@@ -6,9 +6,6 @@ use Rattle.scaled.proofs.Stored.{part-kept}
 use Rattle.scaled.proofs.Sp.part.Statement.{statement}
 use Rattle.scaled.proofs.Sp.part.Tie as tie
 
-cast-t3 : tie.Need-cast-t3
-cast-t3 c = search needs
-
 div-t4 : tie.Need-div-t4
 div-t4 c =
     let start = c .before .before in
@@ -20,4 +17,4 @@ returns c =
     made (tt, start .pre .1) (part-kept (start .pre .0) (search needs) (start .fits .k) .1)
 
 pub part-spec : {M : Type 1} → statement M
-part-spec = tie.close (tie.spec cast-t3 div-t4 returns)
+part-spec = tie.close (tie.spec (λ c. search needs) div-t4 returns)

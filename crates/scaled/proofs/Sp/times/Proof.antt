@@ -6,9 +6,6 @@ use Rattle.scaled.proofs.Stored.{multiple-kept}
 use Rattle.scaled.proofs.Sp.times.Statement.{statement}
 use Rattle.scaled.proofs.Sp.times.Tie as tie
 
-cast-t3 : tie.Need-cast-t3
-cast-t3 c = search needs
-
 mul-t4 : tie.Need-mul-t4
 mul-t4 c =
     let start = c .before .before in
@@ -20,4 +17,4 @@ returns c =
     made tt (multiple-kept (start .pre) (start .fits .k) .1)
 
 pub times-spec : {M : Type 1} → statement M
-times-spec = tie.close (tie.spec cast-t3 mul-t4 returns)
+times-spec = tie.close (tie.spec (λ c. search needs) mul-t4 returns)

@@ -13,8 +13,8 @@ use Rattle.walk.proofs.current.taken_span.Statement.{statement}
 use Rattle.walk.proofs.current.taken_span.Tie as tie
 use Rattle.walk.proofs.current.taken_span.Reads as reads
 use Rattle.walk.proofs.current.taken_span.Lts as lts
-use Rattle.formula.proofs.heads.field_head.Reads as field-head-reads
-use Rattle.formula.proofs.heads.list_place.Reads as list-place-reads
+use Rattle.formula_fields.proofs.field_head.Reads as field-head-reads
+use Rattle.formula_fields.proofs.list_place.Reads as list-place-reads
 use Rattle.walk.proofs.current.lists_before.Reads as lists-before-reads
 
 abbrev claims : lts.Claims
@@ -44,22 +44,23 @@ returns c =
 
 -- its head is that of a list
 abbrev Listed : Type 0
-Listed = lts.After-known-told claims reads.Pre reads.Post
+Listed = lts.After-head claims reads.Pre reads.Post
 
 abbrev placed-of : Listed → Placed
-placed-of c = c .before .before .before .before .before
+placed-of c = c .before .before .before .before
 
-ends-in : (c : Listed) → placed-of c .list-place .result + (c .before .head .given .0 .0 + c .before .head .given .0 .1 .0) ≤ length (start-of (placed-of c) .args .s .now)
+ends-in : (c : Listed) → placed-of c .list-place .result + (c .head .given .0 .0 + c .head .given .0 .1 .0) ≤ length (start-of (placed-of c) .args .s .now)
 ends-in c =
     let placed = placed-of c in
     let a = start-of placed .args in
-    span-in (a .style) (a .s .now) (choice-of placed) (place-is placed) (c .before .before .before .field-head .ensures) (c .before .head .given .1)
+    span-in (a .style) (a .s .now) (choice-of placed) (place-is placed) (c .before .before .field-head .ensures) (c .head .given .1)
 
 returns-2 : tie.Need-returns-2
 returns-2 c =
-    let placed = placed-of c in
+    let listed = c .before in
+    let placed = placed-of listed in
     let a = start-of placed .args in
-    span-taken (a .style) (a .s .now) (choice-of placed) (place-is placed) (c .before .before .before .field-head .ensures) (c .before .head .given .1)
+    span-taken (a .style) (a .s .now) (choice-of placed) (place-is placed) (listed .before .before .field-head .ensures) (listed .head .given .1)
 
 pub taken-span-spec : {M : Type 1} → statement M
 taken-span-spec =
@@ -73,6 +74,6 @@ taken-span-spec =
     (λ c κs. search needs)
     (λ c. search needs)
     returns
-    (λ c. omega (arith, ends-in c))
-    (λ c. omega (arith, ends-in c))
+    (λ c. omega (arith, ends-in (c .before)))
+    (λ c. omega (arith, ends-in (c .before)))
     returns-2)

@@ -5,11 +5,8 @@ use borrow.Author.Needs.{needs}
 use Rattle.walk.proofs.growing.kerned.Statement.{statement}
 use Rattle.walk.proofs.growing.kerned.Tie as tie
 
-plus-requires : tie.Need-plus-requires
-plus-requires c κs = search needs
-
 returns : tie.Need-returns
 returns c = record { left-is = refl; style-is = refl; size-is = rw (c .plus .ensures .is); run-is = refl }
 
 pub kerned-spec : {M : Type 1} → statement M
-kerned-spec = tie.close (tie.spec plus-requires returns)
+kerned-spec = tie.close (tie.spec (λ c κs. search needs) returns)

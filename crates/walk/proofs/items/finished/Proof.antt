@@ -23,9 +23,6 @@ use Rattle.walk.proofs.items.finished.Tie as tie
 x-near : {x width space : ℤ} → Within (stride longest) width → Within (words 1) space → x ≡ width +ℤ space → Within (2 ^ 54) x
 x-near {width} {space} far near at = rw at (within-by (# width ⊕ # space) (2 ^ 54) (omega arith))
 
-placing-of-requires : tie.Need-placing-of-requires
-placing-of-requires c κs = search needs
-
 put-item-requires : tie.Need-put-item-requires
 put-item-requires c κs =
     let set = c .before .before .before in
@@ -69,9 +66,6 @@ extended-requires c κs =
           );
     }
 
-same-length : tie.Need-same-length
-same-length c = search needs
-
 returns : tie.Need-returns
 returns c =
     let at-put = c .before .before .before in
@@ -108,4 +102,4 @@ returns c =
 pub finished-spec : {M : Type 1} → statement M
 finished-spec =
     tie.close
-    (tie.spec placing-of-requires put-item-requires extended-requires same-length returns)
+    (tie.spec (λ c κs. search needs) put-item-requires extended-requires (λ c. search needs) returns)

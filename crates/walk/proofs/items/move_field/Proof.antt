@@ -9,23 +9,11 @@ use Rattle.nodes.specs.Values.{hullOf}
 use Rattle.walk.proofs.items.move_field.Statement.{statement}
 use Rattle.walk.proofs.items.move_field.Tie as tie
 
-plus-requires : tie.Need-plus-requires
-plus-requires c κs = search needs
-
-move-nodes-requires : tie.Need-move-nodes-requires
-move-nodes-requires c κs = search needs
-
 moved-requires : tie.Need-moved-requires
 moved-requires c κs =
-    let sum = c .before .before .before .before .before in
-    let start = sum .before .before .before in
+    let distances = c .before .before .before .before in
+    let start = distances .before .before .before .before in
     (within-more greatestLength reach (hullOf (start .args .field)) (omega arith) (start .pre .hull), omega arith, omega arith)
-
-joined-requires : tie.Need-joined-requires
-joined-requires c κs = search needs
-
-same-length : tie.Need-same-length
-same-length c = search needs
 
 returns : tie.Need-returns
 returns c = record { count-is = search needs; large-is = cc; hull-is = cc; buffer-is = cc }
@@ -33,4 +21,4 @@ returns c = record { count-is = search needs; large-is = cc; hull-is = cc; buffe
 pub move-field-spec : {M : Type 1} → statement M
 move-field-spec =
     tie.close
-    (tie.spec plus-requires move-nodes-requires moved-requires joined-requires same-length returns)
+    (tie.spec (λ c κs. search needs) (λ c κs. search needs) moved-requires (λ c κs. search needs) (λ c. search needs) returns)

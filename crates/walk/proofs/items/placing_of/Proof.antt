@@ -4,21 +4,6 @@ use borrow.Author.Needs.{needs}
 use Rattle.walk.proofs.items.placing_of.Statement.{statement}
 use Rattle.walk.proofs.items.placing_of.Tie as tie
 
-class-of-requires : tie.Need-class-of-requires
-class-of-requires c κs = search needs
-
-changed-class-requires : tie.Need-changed-class-requires
-changed-class-requires c κs = search needs
-
-space-before-requires : tie.Need-space-before-requires
-space-before-requires c κs = search needs
-
-plus-requires : tie.Need-plus-requires
-plus-requires c κs = search needs
-
-arrange-requires : tie.Need-arrange-requires
-arrange-requires c κs = search needs
-
 returns : tie.Need-returns
 returns c =
     let sum = c .before in
@@ -36,9 +21,9 @@ pub placing-of-spec : {M : Type 1} → statement M
 placing-of-spec =
     tie.close
     (tie.spec
-    class-of-requires
-    changed-class-requires
-    space-before-requires
-    plus-requires
-    arrange-requires
+    (λ c κs. search needs)
+    (λ c κs. search needs)
+    (λ c κs. search needs)
+    (λ c κs. search needs)
+    (λ c κs. search needs)
     returns)

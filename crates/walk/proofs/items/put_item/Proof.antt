@@ -19,18 +19,15 @@ use Rattle.walk.proofs.ItemLaws.{few-owned}
 use Rattle.walk.proofs.items.put_item.Statement.{statement}
 use Rattle.walk.proofs.items.put_item.Tie as tie
 
-empty-requires : tie.Need-empty-requires
-empty-requires c κs = search needs
-
-put-own-requires : tie.Need-put-own-requires
-put-own-requires c κs = search needs
+abbrev start-of : tie.After-behind → tie.Start
+start-of c = c .before .before .before .before
 
 -- each proof goes back from step to step: `ahead`, `first`, `owned`, `second` and `third` are the places behind them
 move-field-requires : tie.Need-move-field-requires
 move-field-requires c κs =
     let ahead = c .before .before .before in
     let empty = ahead .before .before in
-    let start = empty .before .before .before .before .before in
+    let start = start-of (empty .before) in
     let g = start .pre in
     let few = few-owned (start .args .arranged .own .before) in
     let n₀ = empty .empty .ensures .count-is in
@@ -42,7 +39,7 @@ put-own-requires-2 c κs =
     let first = c .before .before .before in
     let ahead = first .before .before .before .before in
     let empty = ahead .before .before in
-    let start = empty .before .before .before .before .before in
+    let start = start-of (empty .before) in
     let g = start .pre in
     let few = few-owned (start .args .arranged .own .before) in
     let n₀ = empty .empty .ensures .count-is in
@@ -56,7 +53,7 @@ move-field-requires-2 c κs =
     let first = owned .before .before .before .before in
     let ahead = first .before .before .before .before in
     let empty = ahead .before .before in
-    let start = empty .before .before .before .before .before in
+    let start = start-of (empty .before) in
     let g = start .pre in
     let few = few-owned (start .args .arranged .own .before) in
     let few-2 = few-owned (start .args .arranged .own .behind) in
@@ -73,7 +70,7 @@ move-field-requires-3 c κs =
     let first = owned .before .before .before .before in
     let ahead = first .before .before .before .before in
     let empty = ahead .before .before in
-    let start = empty .before .before .before .before .before in
+    let start = start-of (empty .before) in
     let g = start .pre in
     let few = few-owned (start .args .arranged .own .before) in
     let few-2 = few-owned (start .args .arranged .own .behind) in
@@ -105,7 +102,7 @@ returns c =
     let at-first = at-owned .before .before .before .before in
     let at-ahead = at-first .before .before .before .before in
     let at-none = at-ahead .before .before in
-    let start = at-none .before .before .before .before .before in
+    let start = start-of (at-none .before) in
     let x = start .args .x .0 in
     let A = arrangedAs (start .args .arranged) in
     let i = start .args .a .count in
@@ -148,8 +145,8 @@ pub put-item-spec : {M : Type 1} → statement M
 put-item-spec =
     tie.close
     (tie.spec
-    empty-requires
-    put-own-requires
+    (λ c κs. search needs)
+    (λ c κs. search needs)
     move-field-requires
     put-own-requires-2
     move-field-requires-2

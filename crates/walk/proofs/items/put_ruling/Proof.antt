@@ -19,26 +19,11 @@ use Rattle.walk.proofs.ItemLaws.{rule-moved}
 use Rattle.walk.proofs.items.put_ruling.Statement.{statement}
 use Rattle.walk.proofs.items.put_ruling.Tie as tie
 
-enum-told : tie.Need-enum-told
-enum-told c = search needs
-
-enum-known-ruling : tie.Need-enum-known-ruling
-enum-known-ruling c = search needs
-
 plus-requires : tie.Need-plus-requires
 plus-requires c κs =
     let arm = c .before .before .before in
     let small = rw (arm .ruling .given .1) at (arm .before .before .before .pre .rules) in
     (omega arith, omega arith)
-
-put-rule-requires : tie.Need-put-rule-requires
-put-rule-requires c κs = search needs
-
-point-requires : tie.Need-point-requires
-point-requires c κs = search needs
-
-joined-requires : tie.Need-joined-requires
-joined-requires c κs = search needs
 
 returns : tie.Need-returns
 unfolding ownPut ownNodes moved hull
@@ -51,9 +36,6 @@ returns c =
       hull-is = sym (join-none (hullOf (start .args .before)));
       buffer-is = refl;
     })
-
-same-length : tie.Need-same-length
-same-length c = search needs
 
 returns-2 : tie.Need-returns-2
 unfolding ownPut ownNodes moved
@@ -82,12 +64,12 @@ pub put-ruling-spec : {M : Type 1} → statement M
 put-ruling-spec =
     tie.close
     (tie.spec
-    enum-told
-    enum-known-ruling
+    (λ c. search needs)
+    (λ c. search needs)
     plus-requires
-    put-rule-requires
-    point-requires
-    joined-requires
+    (λ c κs. search needs)
+    (λ c κs. search needs)
+    (λ c κs. search needs)
     returns
-    same-length
+    (λ c. search needs)
     returns-2)

@@ -6,17 +6,11 @@ use borrow.Author.Needs.{needs}
 use Rattle.walk.proofs.lines.list_fits.Statement.{statement}
 use Rattle.walk.proofs.lines.list_fits.Tie as tie
 
-fits-requires : tie.Need-fits-requires
-fits-requires c κs = search needs
-
 returns : tie.Need-returns
 returns c = rw (sym (c .before .fits2 .ensures) ∙ not-true _ (c .if1 .taken))
-
-size-fits-requires : tie.Need-size-fits-requires
-size-fits-requires c κs = search needs
 
 returns-2 : tie.Need-returns-2
 returns-2 c = rw (sym (c .before .before .fits2 .ensures) ∙ not-false _ (c .before .if1 .left)) (c .size-fits .ensures)
 
 pub list-fits-spec : {M : Type 1} → statement M
-list-fits-spec = tie.close (tie.spec fits-requires returns size-fits-requires returns-2)
+list-fits-spec = tie.close (tie.spec (λ c κs. search needs) returns (λ c κs. search needs) returns-2)

@@ -6,22 +6,13 @@ use borrow.Author.Needs.{needs}
 use Rattle.walk.proofs.lines.size_fits.Statement.{statement}
 use Rattle.walk.proofs.lines.size_fits.Tie as tie
 
-within-requires : tie.Need-within-requires
-within-requires c κs = search needs
-
 returns : tie.Need-returns
 returns c = rw (sym (c .before .within .ensures) ∙ not-true _ (c .if1 .taken))
-
-within-requires-2 : tie.Need-within-requires-2
-within-requires-2 c κs = search needs
 
 returns-2 : tie.Need-returns-2
 returns-2 c =
     let width = sym (c .before .before .before .within .ensures) ∙ not-false _ (c .before .before .if1 .left) in
     rw (width, sym (c .before .within2 .ensures) ∙ not-true _ (c .if2 .taken))
-
-within-requires-3 : tie.Need-within-requires-3
-within-requires-3 c κs = search needs
 
 returns-3 : tie.Need-returns-3
 returns-3 c =
@@ -32,4 +23,4 @@ returns-3 c =
 pub size-fits-spec : {M : Type 1} → statement M
 size-fits-spec =
     tie.close
-    (tie.spec within-requires returns within-requires-2 returns-2 within-requires-3 returns-3)
+    (tie.spec (λ c κs. search needs) returns (λ c κs. search needs) returns-2 (λ c κs. search needs) returns-3)

@@ -7,8 +7,8 @@ use Rattle.walk.specs.Walked.{ListGoes}
 use Rattle.walk.proofs.lists.list_field.Statement.{statement}
 use Rattle.walk.proofs.lists.list_field.Tie as tie
 
-closed-part-requires : tie.Need-closed-part-requires
-closed-part-requires c κs =
+closed-field-requires : tie.Need-closed-field-requires
+closed-field-requires c κs =
     let start = c .before .before .before in subst (ListGoes (start .args .first)) (c .before .set .given .1) (start .pre)
 
 add-place : tie.Need-add-t11
@@ -17,7 +17,7 @@ add-place c =
     omega (arith, subst (ListGoes (start .args .first)) (c .before .set2 .given .1) (start .pre))
 
 returns : tie.Need-returns
-returns c = rw (c .before .before .set .given .1) (c .closed-part .ensures)
+returns c = rw (c .before .before .set .given .1) (c .closed-field .ensures)
 
 returns-2 : tie.Need-returns-2
 returns-2 c = rw (c .before .set2 .given .1) refl
@@ -27,7 +27,7 @@ list-field-spec =
     tie.close
     (tie.spec
     (λ c. search needs)
-    closed-part-requires
+    closed-field-requires
     (λ c. search needs)
     add-place
     returns

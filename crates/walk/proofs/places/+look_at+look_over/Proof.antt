@@ -2,12 +2,13 @@
 -- shorter one. The measure is twice the length of what is looked at, and one more for a list. The loop's invariant is `Looked`.
 -- Assumes nothing.
 use mathlib.Core.Path.{_≡_, refl, sym, ap, _∙_}
-use Prim.Native.Nat.{ℕ, _+_, _-_, _*_, _≤_, _<_}
+use Prim.Native.Nat.{ℕ, _+_, _-_, _*_, _≤_}
 use native.Mathlib.Omega.{arith}
 use lib.ListN.{length}
 use borrow.Author.Needs.{needs}
 use borrow.Fn.Kinds.{In}
-use borrow.Fn.PlainCycle.{Measures, is, falls, and}
+use borrow.Fn.PlainCycle.{Measures}
+use Rattle.laws.specs.Cycles.{at, below}
 use Rattle.formula.specs.declared.Opening.{Opening}
 use Rattle.formula.specs.declared.Opening.the-variants.{NoItem}
 use Rattle.formula.specs.Heads.{openingOf}
@@ -23,9 +24,9 @@ use Rattle.walk.proofs.places.+look_at+look_over.Lts-look_at as look-at
 use Rattle.walk.proofs.places.look_over.Reads as look-over
 use Rattle.walk.proofs.places.look_over.Kinds as look-over-kinds
 use Rattle.walk.proofs.places.+look_at+look_over.Lts-look_over as look-over-lts
-use Rattle.formula.proofs.heads.fields_end.Reads as fields-end-reads
-use Rattle.formula.proofs.heads.list_place.Reads as list-place-reads
-use Rattle.formula.proofs.heads.opening.Reads as opening-reads
+use Rattle.formula_fields.proofs.fields_end.Reads as fields-end-reads
+use Rattle.formula_fields.proofs.list_place.Reads as list-place-reads
+use Rattle.formula_openings.proofs.opening.Reads as opening-reads
 use Rattle.spacing.proofs.classes.class_of.Reads as class-of-reads
 use Rattle.walk.proofs.current.restyled.Reads as restyled-reads
 use Rattle.walk.proofs.current.taken_span.Reads as taken-span-reads
@@ -40,155 +41,160 @@ abbrev μ-look-at : Measures 1 look-at-kinds.ps ℕ
 abbrev μ-look-over : Measures 1 look-over-kinds.ps ℕ
 μ-look-over κs a = 2 * length (a .1 .0 .now) + 1
 
-abbrev look-at-at : ℕ → In 1 look-at-kinds.ps
-look-at-at t = and 1 look-at-kinds.ps (is 1 look-at-kinds.ps μ-look-at t) look-at.Pre
+-- ---- both, at the measure t
+module _ (t : ℕ) where
+  abbrev look-at-at : In 1 look-at-kinds.ps
+  look-at-at = at 1 look-at-kinds.ps μ-look-at look-at.Pre t
 
-abbrev look-at-below : ℕ → In 1 look-at-kinds.ps
-look-at-below t = and 1 look-at-kinds.ps (falls 1 look-at-kinds.ps _<_ μ-look-at t) look-at.Pre
+  abbrev look-over-at : In 1 look-over-kinds.ps
+  look-over-at = at 1 look-over-kinds.ps μ-look-over look-over.Pre t
 
-abbrev look-over-at : ℕ → In 1 look-over-kinds.ps
-look-over-at t = and 1 look-over-kinds.ps (is 1 look-over-kinds.ps μ-look-over t) look-over.Pre
+  abbrev look-at-claims : look-at-lts.Claims
+  look-at-claims = (opening-reads.Asked, opening-reads.Learnt, passed-reads.Asked, passed-reads.Learnt, fields-end-reads.Asked, fields-end-reads.Learnt, class-of-reads.Asked, class-of-reads.Learnt, restyled-reads.Asked, restyled-reads.Learnt, taken-span-reads.Asked, taken-span-reads.Learnt, below 1 look-over-kinds.ps μ-look-over look-over.Pre t, look-over.Post, list-place-reads.Asked, list-place-reads.Learnt)
 
-abbrev look-over-below : ℕ → In 1 look-over-kinds.ps
-look-over-below t = and 1 look-over-kinds.ps (falls 1 look-over-kinds.ps _<_ μ-look-over t) look-over.Pre
+  abbrev look-over-claims : look-over-lts.Claims
+  look-over-claims = (below 1 look-at-kinds.ps μ-look-at look-at.Pre t, look-at.Post, first-of-reads.Asked, first-of-reads.Learnt)
 
-abbrev look-at-claims : ℕ → look-at-lts.Claims
-look-at-claims t = (opening-reads.Asked, opening-reads.Learnt, passed-reads.Asked, passed-reads.Learnt, fields-end-reads.Asked, fields-end-reads.Learnt, class-of-reads.Asked, class-of-reads.Learnt, restyled-reads.Asked, restyled-reads.Learnt, taken-span-reads.Asked, taken-span-reads.Learnt, look-over-below t, look-over.Post, list-place-reads.Asked, list-place-reads.Learnt)
+  -- ---- look_at, by what opens
 
-abbrev look-over-claims : ℕ → look-over-lts.Claims
-look-over-claims t = (look-at-below t, look-at.Post, first-of-reads.Asked, first-of-reads.Learnt)
+  abbrev Opened : Type 0
+  Opened = look-at-lts.After-opening look-at-claims look-at-at look-at.Post
 
--- ---- look_at, by what opens
+  abbrev opened-start : Opened → look-at-lts.Start look-at-claims look-at-at look-at.Post
+  opened-start c = c .before .before
 
-abbrev Opened : ℕ → Type 0
-Opened t = look-at-lts.After-opening (look-at-claims t) (look-at-at t) look-at.Post
+  opens : (c : Opened) {o : Opening} → c .opening .result ≡ o → openingOf (opened-start c .args .s .now) ≡ o
+  opens c is = sym (c .opening .ensures) ∙ is
 
-abbrev opened-start : (t : ℕ) → Opened t → look-at-lts.Start (look-at-claims t) (look-at-at t) look-at.Post
-opened-start t c = c .before .before
+  -- a choice, and its taken list
+  abbrev Taken : Type 0
+  Taken = look-at-lts.After-taken-span look-at-claims look-at-at look-at.Post
 
-opens : (t : ℕ) (c : Opened t) {o : Opening} → c .opening .result ≡ o → openingOf (opened-start t c .args .s .now) ≡ o
-opens t c is = sym (c .opening .ensures) ∙ is
+  abbrev opened-of : Taken → Opened
+  opened-of c = c .before .before .before
 
--- a choice, and its taken list
-abbrev Taken : ℕ → Type 0
-Taken t = look-at-lts.After-taken-span (look-at-claims t) (look-at-at t) look-at.Post
+  span-in : (c : Taken) → c .taken-span .result .end ≤ length (opened-start (opened-of c) .args .s .now)
+  span-in c =
+      let opened = opened-of c in
+      let start = opened-start opened in
+      let chosen = choice-at (start .args .s .now) (opens opened (c .before .enum-told3 .given .1)) (start .pre .1 .0) in
+      omega (arith, c .taken-span .ensures .inside, chosen .places-in choiceLists)
 
-abbrev opened-of : (t : ℕ) → Taken t → Opened t
-opened-of t c = c .before .before .before
+  look-at-look-over-requires : look-at-lts.Need-look-over-requires look-at-claims look-at-at look-at.Post
+  look-at-look-over-requires c κs =
+      let taken = c .before in
+      let start = opened-start (opened-of taken) in
+      let span = taken .taken-span .ensures in
+      let shorter = span .shorter in
+      (omega (arith, start .pre .0), (span .readable, omega (arith, start .pre .1 .1)))
 
-span-in : (t : ℕ) (c : Taken t) → c .taken-span .result .end ≤ length (opened-start t (opened-of t c) .args .s .now)
-span-in t c =
-    let opened = opened-of t c in
-    let start = opened-start t opened in
-    let chosen = choice-at (start .args .s .now) (opens t opened (c .before .enum-told3 .given .1)) (start .pre .1 .0) in
-    omega (arith, c .taken-span .ensures .inside, chosen .places-in choiceLists)
+  look-at-returns : look-at-lts.Need-returns look-at-claims look-at-at look-at.Post
+  look-at-returns c =
+      let opened = c .before .before .before in
+      let start = opened-start opened in
+      let p = start .pre .1 in
+      absurd (step (start .args .s .now) NoItem (opens opened (c .before .enum-told .given .1)) (p .0) (p .2) .item)
 
-look-at-look-over-requires : (t : ℕ) → look-at-lts.Need-look-over-requires (look-at-claims t) (look-at-at t) look-at.Post
-look-at-look-over-requires t c κs =
-    let taken = c .before in
-    let start = opened-start t (opened-of t taken) in
-    let span = taken .taken-span .ensures in
-    let shorter = span .shorter in
-    (omega (arith, start .pre .0), (span .readable, omega (arith, start .pre .1 .1)))
+  look-at-returns-2 : look-at-lts.Need-returns-2 look-at-claims look-at-at look-at.Post
+  look-at-returns-2 c =
+      let arm = c .before .before .before in
+      atom-seen (opens (arm .before .before) (arm .o .given .1)) (c .before .fields-end .ensures) (ap Atom (c .class-of .ensures)) refl
 
-look-at-returns : (t : ℕ) → look-at-lts.Need-returns (look-at-claims t) (look-at-at t) look-at.Post
-look-at-returns t c =
-    let opened = c .before .before .before in
-    let start = opened-start t opened in
-    let p = start .pre .1 in
-    absurd (step (start .args .s .now) NoItem (opens t opened (c .before .enum-told .given .1)) (p .0) (p .2) .item)
+  look-at-returns-3 : look-at-lts.Need-returns-3 look-at-claims look-at-at look-at.Post
+  look-at-returns-3 c =
+      let opened = c .before .before .before in
+      kern-seen (opens opened (c .before .enum-told2 .given .1)) (c .passed2 .ensures)
 
-look-at-returns-2 : (t : ℕ) → look-at-lts.Need-returns-2 (look-at-claims t) (look-at-at t) look-at.Post
-look-at-returns-2 t c =
-    let opened = c .before .before .before .before .before in
-    atom-seen (opens t opened (c .before .before .before .o .given .1)) (c .before .fields-end .ensures) (ap Atom (c .class-of .ensures)) refl
+  look-at-returns-4 : look-at-lts.Need-returns-4 look-at-claims look-at-at look-at.Post
+  look-at-returns-4 c =
+      let arm = c .before .before .before in
+      style-seen (opens (arm .before .before) (arm .o2 .given .1)) (c .passed3 .ensures ∙ rw (c .before .restyled .ensures))
 
-look-at-returns-3 : (t : ℕ) → look-at-lts.Need-returns-3 (look-at-claims t) (look-at-at t) look-at.Post
-look-at-returns-3 t c =
-    let opened = c .before .before .before in
-    kern-seen (opens t opened (c .before .enum-told2 .given .1)) (c .passed2 .ensures)
+  look-at-returns-5 : look-at-lts.Need-returns-5 look-at-claims look-at-at look-at.Post
+  look-at-returns-5 c =
+      let inside = c .before .before in
+      let taken = inside .before .before in
+      choice-seen (opens (opened-of taken) (taken .before .enum-told3 .given .1)) (taken .taken-span .ensures) (inside .look-over .ensures) (c .list-place .ensures)
 
-look-at-returns-4 : (t : ℕ) → look-at-lts.Need-returns-4 (look-at-claims t) (look-at-at t) look-at.Post
-look-at-returns-4 t c =
-    let opened = c .before .before .before .before .before in
-    style-seen (opens t opened (c .before .before .before .o2 .given .1)) (c .passed3 .ensures ∙ rw (c .before .restyled .ensures))
+  look-at-proved : {M : Type 1} → look-at-lts.Closed look-at-claims look-at-at look-at.Post M
+  look-at-proved =
+      look-at-lts.spec look-at-claims look-at-at look-at.Post
+      (λ c κs. search needs)
+      (λ c. search needs)
+      (λ c κs. search needs)
+      (λ c. search needs)
+      (λ c κs. opens (c .before .before .before) (c .before .o .given .1))
+      (λ c κs. search needs)
+      (λ c. search needs)
+      (λ c κs. search needs)
+      (λ c. search needs)
+      (λ c κs. search needs)
+      (λ c κs. search needs)
+      (λ c. search needs)
+      (λ c κs. let opened = c .before .before in (opened-start opened .pre .1 .0, opens opened (c .enum-told3 .given .1)))
+      (λ c. omega (arith, c .taken-span .ensures .ordered))
+      (λ c. omega (arith, c .taken-span .ensures .ordered, span-in c))
+      (λ c. omega (arith, c .taken-span .ensures .ordered, span-in c))
+      look-at-look-over-requires
+      (λ c κs. let taken = c .before .before .before in opens (opened-of taken) (taken .before .enum-told3 .given .1))
+      look-at-returns
+      look-at-returns-2
+      look-at-returns-3
+      look-at-returns-4
+      look-at-returns-5
 
-look-at-returns-5 : (t : ℕ) → look-at-lts.Need-returns-5 (look-at-claims t) (look-at-at t) look-at.Post
-look-at-returns-5 t c =
-    let inside = c .before .before in
-    let taken = inside .before .before in
-    choice-seen (opens t (opened-of t taken) (taken .before .enum-told3 .given .1)) (taken .taken-span .ensures) (inside .look-over .ensures) (c .list-place .ensures)
+  -- ---- look_over
 
--- ---- look_over
+  abbrev look-over-Inv-loop : look-over-lts.InvT-loop
+  look-over-Inv-loop s at₀ first₀ current₀ at first current = Looked current₀ s at (neighbourAs first) current
 
-abbrev look-over-Inv-loop : look-over-lts.InvT-loop
-look-over-Inv-loop s at₀ first₀ current₀ at first current = Looked current₀ s at (neighbourAs first) current
+  abbrev look-over-μ-loop : look-over-lts.MeasureT-loop
+  look-over-μ-loop s at₀ first₀ current₀ at first current = length s - at
 
-abbrev look-over-μ-loop : look-over-lts.MeasureT-loop
-look-over-μ-loop s at₀ first₀ current₀ at first current = length s - at
+  abbrev Turn : Type 0
+  Turn = look-over-lts.In-loop look-over-claims look-over-at look-over.Post look-over-Inv-loop look-over-μ-loop
 
-abbrev Turn : ℕ → Type 0
-Turn t = look-over-lts.In-loop (look-over-claims t) (look-over-at t) look-over.Post look-over-Inv-loop look-over-μ-loop
+  abbrev turn-start : Turn → look-over-lts.Start look-over-claims look-over-at look-over.Post look-over-Inv-loop look-over-μ-loop
+  turn-start c = c .before .before .before
 
-abbrev turn-start : (t : ℕ) → Turn t → look-over-lts.Start (look-over-claims t) (look-over-at t) look-over.Post look-over-Inv-loop look-over-μ-loop
-turn-start t c = c .before .before .before
+  look-over-look-at-requires : look-over-lts.Need-look-at-requires look-over-claims look-over-at look-over.Post look-over-Inv-loop look-over-μ-loop
+  look-over-look-at-requires c κs =
+      let turn = c .before in
+      let start = turn-start turn in
+      let g = rest-opens (turn .before .loop .inv .place) (turn .loop-test .taken) (start .pre .1 .1) in
+      (omega (arith, g .1, start .pre .0), g .0)
 
-look-over-look-at-requires : (t : ℕ) → look-over-lts.Need-look-at-requires (look-over-claims t) (look-over-at t) look-over.Post look-over-Inv-loop look-over-μ-loop
-look-over-look-at-requires t c κs =
-    let turn = c .before in
-    let start = turn-start t turn in
-    let g = rest-opens (turn .before .loop .inv .place) (turn .loop-test .taken) (start .pre .1 .1) in
-    (omega (arith, g .1, start .pre .0), g .0)
+  -- once the item is seen
+  abbrev Turned : Type 0
+  Turned = look-over-lts.After-struct-known look-over-claims look-over-at look-over.Post look-over-Inv-loop look-over-μ-loop
 
--- once the item is seen
-abbrev Turned : ℕ → Type 0
-Turned t = look-over-lts.After-struct-known (look-over-claims t) (look-over-at t) look-over.Post look-over-Inv-loop look-over-μ-loop
+  abbrev seen-of : Turned → look-over-lts.After-look-at look-over-claims look-over-at look-over.Post look-over-Inv-loop look-over-μ-loop
+  seen-of c = c .before .before .before
 
-abbrev turn-of : (t : ℕ) → Turned t → Turn t
-turn-of t c = c .before .before .before .before .before
+  abbrev turn-of : Turned → Turn
+  turn-of c = seen-of c .before .before
 
-turned : (t : ℕ) (c : Turned t) →
-    let turn = turn-of t c in
-    let sight = c .before .before .before .look-at .result in
-    Looked (turn-start t turn .args .style) (turn-start t turn .args .s .now) (turn .before .loop .at + sight .bytes) (neighbourAs (c .before .first-of .result)) (sight .style)
-turned t c =
-    let turn = turn-of t c in
-    looked-step (turn .before .loop .inv) (turn .loop-test .taken) (c .before .before .before .look-at .ensures) (c .before .first-of .ensures)
+  turned : (c : Turned) →
+      let turn = turn-of c in
+      let sight = seen-of c .look-at .result in
+      Looked (turn-start turn .args .style) (turn-start turn .args .s .now) (turn .before .loop .at + sight .bytes) (neighbourAs (c .before .first-of .result)) (sight .style)
+  turned c =
+      let turn = turn-of c in
+      looked-step (turn .before .loop .inv) (turn .loop-test .taken) (seen-of c .look-at .ensures) (c .before .first-of .ensures)
+
+  look-over-proved : {M : Type 1} → look-over-lts.Closed look-over-claims look-over-at look-over.Post M
+  look-over-proved =
+      look-over-lts.spec look-over-claims look-over-at look-over.Post look-over-Inv-loop look-over-μ-loop
+      (λ c. looked-start _ _ (c .before .pre .1 .0))
+      (λ c. search needs)
+      (λ c. search needs)
+      (λ c. search needs)
+      look-over-look-at-requires
+      (λ c κs. search needs)
+      (λ c. omega (arith, turned c .place .inside, turn-start (turn-of c) .pre .1 .1))
+      (λ c. let turn = turn-of c in omega (arith, next-some (turn .before .loop .inv .place) (turn .loop-test .taken) (seen-of c .look-at .ensures), turn .loop-test .taken))
+      (λ c. turned c)
+      (λ c. let d = looked-done (c .before .loop .inv) (c .loop-test .left) in record { bytes-is = d .0; class-is = d .1; style-is = d .2 })
 
 pub +look-at+look-over-spec : {M : Type 1} → statement M
-+look-at+look-over-spec =
-    close μ-look-at μ-look-over (λ t. look-at-lts.spec (look-at-claims t) (look-at-at t) look-at.Post
-    (λ c κs. search needs)
-    (λ c. search needs)
-    (λ c κs. search needs)
-    (λ c. search needs)
-    (λ c κs. opens t (c .before .before .before) (c .before .o .given .1))
-    (λ c κs. search needs)
-    (λ c. search needs)
-    (λ c κs. search needs)
-    (λ c. search needs)
-    (λ c κs. search needs)
-    (λ c κs. search needs)
-    (λ c. search needs)
-    (λ c κs. let opened = c .before .before in (opened-start t opened .pre .1 .0, opens t opened (c .enum-told3 .given .1)))
-    (λ c. omega (arith, c .taken-span .ensures .ordered))
-    (λ c. omega (arith, c .taken-span .ensures .ordered, span-in t c))
-    (λ c. omega (arith, c .taken-span .ensures .ordered, span-in t c))
-    (look-at-look-over-requires t)
-    (λ c κs. let taken = c .before .before .before in opens t (opened-of t taken) (taken .before .enum-told3 .given .1))
-    (look-at-returns t)
-    (look-at-returns-2 t)
-    (look-at-returns-3 t)
-    (look-at-returns-4 t)
-    (look-at-returns-5 t))
-    λ t. look-over-lts.spec (look-over-claims t) (look-over-at t) look-over.Post look-over-Inv-loop look-over-μ-loop
-    (λ c. looked-start _ _ (c .before .pre .1 .0))
-    (λ c. search needs)
-    (λ c. search needs)
-    (λ c. search needs)
-    (look-over-look-at-requires t)
-    (λ c κs. search needs)
-    (λ c. omega (arith, turned t c .place .inside, turn-start t (turn-of t c) .pre .1 .1))
-    (λ c. let turn = turn-of t c in omega (arith, next-some (turn .before .loop .inv .place) (turn .loop-test .taken) (c .before .before .before .look-at .ensures), turn .loop-test .taken))
-    (λ c. turned t c)
-    (λ c. let d = looked-done (c .before .loop .inv) (c .loop-test .left) in record { bytes-is = d .0; class-is = d .1; style-is = d .2 })
++look-at+look-over-spec = close μ-look-at μ-look-over (λ t. look-at-proved t) λ t. look-over-proved t

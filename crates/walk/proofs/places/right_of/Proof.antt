@@ -28,15 +28,6 @@ others-alike Close other left right right′ = refl
 others-alike Punct other left right right′ = refl
 others-alike Inner other left right right′ = refl
 
-class-of-requires : tie.Need-class-of-requires
-class-of-requires c κs = search needs
-
-enum-told : tie.Need-enum-told
-enum-told c = search needs
-
-next-class-requires : tie.Need-next-class-requires
-next-class-requires c κs = search needs
-
 returns : tie.Need-returns
 returns c left = ap (changedClass left _) (c .next-class .ensures)
 
@@ -44,4 +35,4 @@ returns-2 : tie.Need-returns-2
 returns-2 c left = rw (← c .before .class-of .ensures) (others-alike (c .before .class-of .result) (c .match .keys2) left _ _)
 
 pub right-of-spec : {M : Type 1} → statement M
-right-of-spec = tie.close (tie.spec class-of-requires enum-told next-class-requires returns returns-2)
+right-of-spec = tie.close (tie.spec (λ c κs. search needs) (λ c. search needs) (λ c κs. search needs) returns returns-2)

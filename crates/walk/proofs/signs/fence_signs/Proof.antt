@@ -10,12 +10,16 @@ use Rattle.fences.specs.Fences.{fenceExtent}
 use Rattle.walk.proofs.signs.fence_signs.Statement.{statement}
 use Rattle.walk.proofs.signs.fence_signs.Tie as tie
 
+-- once the four tables are known
+abbrev start-of : tie.After-shared-slice-known4 → tie.Start
+start-of c = c .before .before .before .before
+
 returns : tie.Need-returns
 returns c =
     let left = c .before in
     let size = left .before in
     let extent = size .before in
-    let start = extent .before .before .before .before .before .before in
+    let start = start-of (extent .before .before) in
     let a = start .args in
     let F = fontWith (a .table .now) (a .client .now) in
     let needed : extent .fence-extent .result .0 ≡ fenceExtent (F .parameter) (a .style) (sizeOf (shapeAs (a .list))) =
@@ -28,7 +32,7 @@ fence-signs-spec =
     tie.close
     (tie.spec
     (λ c κs. search needs)
-    (λ c κs. c .size-of .ensures .1 (c .before .before .before .before .before .pre .2))
+    (λ c κs. c .size-of .ensures .1 (start-of (c .before) .pre .2))
     (λ c κs. search needs)
     (λ c. search needs)
     (λ c κs. search needs)

@@ -13,10 +13,14 @@ use Rattle.roots.specs.Roots.{signExtent}
 use Rattle.walk.proofs.signs.root_sign.Statement.{statement}
 use Rattle.walk.proofs.signs.root_sign.Tie as tie
 
+-- once the four tables are known
+abbrev start-of : tie.After-shared-slice-known4 → tie.Start
+start-of c = c .before .before .before .before
+
 returns : tie.Need-returns
 returns c =
     let extent = c .before .before in
-    let start = extent .before .before .before .before .before .before in
+    let start = start-of (extent .before .before) in
     let a = start .args in
     let F = fontWith (a .table .now) (a .client .now) in
     let needed : extent .sign-extent .result .0 ≡ signExtent (F .parameter) (a .style) (sizeOf (shapeAs (a .nucleus))) =
@@ -29,7 +33,7 @@ root-sign-spec =
     tie.close
     (tie.spec
     (λ c κs. search needs)
-    (λ c κs. c .size-of .ensures .1 (c .before .before .before .before .before .pre .2))
+    (λ c κs. c .size-of .ensures .1 (start-of (c .before) .pre .2))
     (λ c κs. search needs)
     (λ c. search needs)
     (λ c κs. search needs)

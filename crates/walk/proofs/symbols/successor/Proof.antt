@@ -6,18 +6,6 @@ use Rattle.setting.specs.Setting.{found, successor}
 use Rattle.walk.proofs.symbols.successor.Statement.{statement}
 use Rattle.walk.proofs.symbols.successor.Tie as tie
 
-enum-told : tie.Need-enum-told
-enum-told c = search needs
-
-enum-known-next : tie.Need-enum-known-next
-enum-known-next c = search needs
-
-symbol-requires : tie.Need-symbol-requires
-symbol-requires c κs = search needs
-
-symbol-of-requires : tie.Need-symbol-of-requires
-symbol-of-requires c κs = search needs
-
 returns : tie.Need-returns
 unfolding successor
 returns c = rw (c .enum-told .given .1)
@@ -29,4 +17,4 @@ returns-2 c = rw (c .before .before .before .next .given .1) (c .symbol-of .ensu
 pub successor-spec : {M : Type 1} → statement M
 successor-spec =
     tie.close
-    (tie.spec enum-told enum-known-next symbol-requires symbol-of-requires returns returns-2)
+    (tie.spec (λ c. search needs) (λ c. search needs) (λ c κs. search needs) (λ c κs. search needs) returns returns-2)

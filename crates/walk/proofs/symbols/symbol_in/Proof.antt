@@ -7,24 +7,12 @@ use Rattle.setting.specs.Setting.{found, enlarged, symbolIn}
 use Rattle.walk.proofs.symbols.symbol_in.Statement.{statement}
 use Rattle.walk.proofs.symbols.symbol_in.Tie as tie
 
-symbol-requires : tie.Need-symbol-requires
-symbol-requires c κs = search needs
-
-enum-known-found : tie.Need-enum-known-found
-enum-known-found c = search needs
-
-successor-requires : tie.Need-successor-requires
-successor-requires c κs = search needs
-
 returns : tie.Need-returns
 unfolding found enlarged symbolIn
 returns c =
     let known = c .before .before .before in
     let is = sym (known .before .before .symbol .ensures) ∙ ap foundAs (known .found .given .1) in
     rw (is, c .before .if1 .taken) (c .successor .ensures)
-
-enum-told : tie.Need-enum-told
-enum-told c = search needs
 
 returns-2 : tie.Need-returns-2
 unfolding found enlarged symbolIn
@@ -43,10 +31,10 @@ pub symbol-in-spec : {M : Type 1} → statement M
 symbol-in-spec =
     tie.close
     (tie.spec
-    symbol-requires
-    enum-known-found
-    successor-requires
+    (λ c κs. search needs)
+    (λ c. search needs)
+    (λ c κs. search needs)
     returns
-    enum-told
+    (λ c. search needs)
     returns-2
     returns-3)

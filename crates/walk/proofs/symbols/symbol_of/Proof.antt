@@ -5,12 +5,6 @@ use Rattle.setting.specs.Setting.{found}
 use Rattle.walk.proofs.symbols.symbol_of.Statement.{statement}
 use Rattle.walk.proofs.symbols.symbol_of.Tie as tie
 
-enum-known-found : tie.Need-enum-known-found
-enum-known-found c = search needs
-
-enum-told : tie.Need-enum-told
-enum-told c = search needs
-
 returns : tie.Need-returns
 unfolding found
 returns c = rw (c .before .found .given .1)
@@ -20,4 +14,4 @@ unfolding found
 returns-2 c = rw (c .enum-told .given .1)
 
 pub symbol-of-spec : {M : Type 1} → statement M
-symbol-of-spec = tie.close (tie.spec enum-known-found enum-told returns returns-2)
+symbol-of-spec = tie.close (tie.spec (λ c. search needs) (λ c. search needs) returns returns-2)

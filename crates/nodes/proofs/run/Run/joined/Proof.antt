@@ -9,9 +9,6 @@ use Rattle.nodes.proofs.RunCases.{some-count, of-none, of-some}
 use Rattle.nodes.proofs.run.Run.joined.Statement.{statement}
 use Rattle.nodes.proofs.run.Run.joined.Tie as tie
 
-either-requires : tie.Need-either-requires
-either-requires c κs = search needs
-
 returns : tie.Need-returns
 unfolding joined
 returns c =
@@ -27,21 +24,6 @@ returns-2 c =
     let a = either .before .args in
     let self = of-some (a .self) (past-self .if1 .left) in
     record { count-is = omega arith; large-is = either .either .ensures; hull-is = rw (self, of-none (a .o) (c .if2 .taken)) }
-
-add-t5 : tie.Need-add-t5
-add-t5 c = search needs
-
-min-requires : tie.Need-min-requires
-min-requires c κs = search needs
-
-max-requires : tie.Need-max-requires
-max-requires c κs = search needs
-
-min-requires-2 : tie.Need-min-requires-2
-min-requires-2 c κs = search needs
-
-max-requires-2 : tie.Need-max-requires-2
-max-requires-2 c κs = search needs
 
 returns-3 : tie.Need-returns-3
 unfolding joined
@@ -68,12 +50,12 @@ pub joined-spec : {M : Type 1} → statement M
 joined-spec =
     tie.close
     (tie.spec
-    either-requires
+    (λ c κs. search needs)
     returns
     returns-2
-    add-t5
-    min-requires
-    max-requires
-    min-requires-2
-    max-requires-2
+    (λ c. search needs)
+    (λ c κs. search needs)
+    (λ c κs. search needs)
+    (λ c κs. search needs)
+    (λ c κs. search needs)
     returns-3)

@@ -1,0 +1,2 @@
+-- What the proofs of both calls use. Assumes nothing.
+mod Reported

@@ -1,3 +1,0 @@
--- What a C caller is given of typed text.
--- Assumes nothing.
-pub mod TypedWords

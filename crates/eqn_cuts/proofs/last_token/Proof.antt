@@ -1,0 +1,105 @@
+-- `last_token` meets its contract. The loop's invariant: the tokens before the last one found are those passed, without the last of them.
+-- Assumes nothing.
+use mathlib.Core.Path.{_≡_, refl, sym, ap, _∙_}
+use mathlib.Core.List.{List, [], _∷_, _++_, append-nil, dropLast}
+use mathlib.Core.Logic.{⊎-elim}
+use Prim.Native.Nat.{ℕ, _≤_, _<_, _-_}
+use native.Mathlib.Nat.{sub-zero}
+use native.Mathlib.Omega.{arith}
+use borrow.Author.Needs.{needs}
+use types.Run.{miss}
+use lib.ListN.{length, take, drop}
+use Rattle.eqn_tokens.specs.declared.tokens.TokenKind.the-variants.{End}
+use Rattle.eqn_tokens.specs.declared.tokens.Token as code
+use Rattle.eqn_tokens.specs.Values.{TokenAt}
+use Rattle.eqn_tokens.specs.PlacesLaws.{token-separators, token-moves}
+use Rattle.eqn_tokens.specs.Tokens.{Token, tokensFrom, tokensIn}
+use Rattle.eqn_cuts.specs.Values.{LastStarts}
+use Rattle.eqn_cuts.specs.CutLaws.{between, Boundary, boundary-first, boundary-tokens, none-behind, taken-tokens, turn-boundary, turn}
+use Rattle.eqn_cuts.proofs.last_token.Statement.{statement}
+use Rattle.eqn_cuts.proofs.last_token.Tie as tie
+
+drop-last : (ts : List Token) (t : Token) → dropLast (ts ++ (t ∷ [])) ≡ ts
+drop-last [] t = refl
+drop-last (u ∷ []) t = refl
+drop-last (u ∷ v ∷ ts) t = ap (λ (us : List Token). u ∷ us) (drop-last (v ∷ ts) t)
+
+record LastBefore (s : List ℕ) (at last : ℕ) : Type 0 where
+  boundary : Boundary s 0 at
+  within : last ≤ length s
+  before : dropLast (tokensIn (between s 0 at)) ≡ tokensIn (take last s)
+
+last-first : (s : List ℕ) → LastBefore s 0 0
+unfolding tokensFrom
+last-first s = record { boundary = boundary-first s (omega arith); within = omega arith; before = refl }
+
+last-next : {s : List ℕ} {at last : ℕ} {t : code.Token} → LastBefore s at last → TokenAt s at t → at < length s → (t .kind ≡ End → ⊥) →
+    LastBefore s (t .end) (t .start)
+last-next {s} {at} {last} {t} b f l no-end =
+    record {
+      boundary = turn-boundary (b .boundary) f l;
+      within = token-separators f .within;
+      before =
+          ⊎-elim
+          (λ p.
+          ap dropLast (p .front) ∙ drop-last (tokensIn (between s 0 at)) _
+          ∙ ap tokensIn (ap (λ (n : ℕ). take n s) (sub-zero at))
+          ∙ sym (taken-tokens (token-separators f)))
+          (λ p. absurd (no-end (p .is)))
+          (turn (b .boundary) f l);
+    }
+
+last-ended : {s : List ℕ} {at last : ℕ} → LastBefore s at last → tokensIn (drop at s) ≡ [] → LastStarts s last
+last-ended {s} {at} {last} b e =
+    record {
+      within = b .within;
+      before =
+          λ t ts is.
+          let all : tokensIn s ≡ tokensIn (between s 0 at) = boundary-tokens (b .boundary) ∙ rw (e, append-nil) in
+          sym (b .before) ∙ ap dropLast (sym all ∙ is) ∙ drop-last ts t;
+    }
+
+abbrev Inv-loop : tie.InvT-loop
+Inv-loop s at₀ last₀ at last = LastBefore s at last
+
+abbrev μ-loop : tie.MeasureT-loop
+μ-loop s at₀ last₀ at last = length s - at
+
+loop-holds : tie.Need-loop-holds Inv-loop μ-loop
+loop-holds c = last-first _
+
+loop-less : tie.Need-loop-less Inv-loop μ-loop
+loop-less c =
+    let called = c .before in
+    let test = called .before in
+    omega (arith, token-moves (called .token-at .ensures) (test .loop-test .taken))
+
+loop-again : tie.Need-loop-again Inv-loop μ-loop
+loop-again c =
+    let called = c .before in
+    let test = called .before in
+    last-next (test .before .loop .inv) (called .token-at .ensures) (test .loop-test .taken)
+    (λ is. miss (0 ∷ 1 ∷ 2 ∷ 3 ∷ 4 ∷ []) 5 tt (rw is at (c .match .keys2)))
+
+returns : tie.Need-returns Inv-loop μ-loop
+returns c =
+    let called = c .before .before in
+    let loop = called .before .before in
+    last-ended (loop .loop .inv) (rw (c .enum-told .given .1) at (called .token-at .ensures .tokens))
+
+returns-2 : tie.Need-returns-2 Inv-loop μ-loop
+returns-2 c = last-ended (c .before .loop .inv) (none-behind _ (c .loop-test .left))
+
+pub last-token-spec : {M : Type 1} → statement M
+last-token-spec =
+    tie.close
+    (tie.spec
+    Inv-loop
+    μ-loop
+    loop-holds
+    (λ c κs. omega arith)
+    (λ c. search needs)
+    loop-less
+    loop-again
+    returns
+    returns-2)

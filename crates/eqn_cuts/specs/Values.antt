@@ -1,0 +1,43 @@
+-- What the code's values stand for, and what its functions promise.
+--     kindToken                a token of a kind
+--     SplitAt                  a text is cut at the last of a keyword outside braces
+--     ExpressionEnds, LastStarts     where the first expression ends, and the last token starts
+-- Assumes nothing.
+use mathlib.Core.Path.{_≡_}
+use mathlib.Core.Logic.{_⊎_}
+use mathlib.Core.List.{List, [], _∷_, _++_}
+use mathlib.Core.Option.{none, some}
+use Prim.Native.Nat.{ℕ, _-_, _≤_, _<_}
+use lib.ListN.{length, take, drop}
+use Rattle.eqn_tokens.specs.Tokens.{Token, tokensIn}
+use Rattle.eqn_tokens.specs.declared.tokens.TokenKind.{TokenKind}
+use Rattle.eqn_tokens.specs.Values.{kindAs}
+use Rattle.eqn_grammar.specs.Splits.{lastOutside, firstExpression}
+use Rattle.eqn_cuts.specs.declared.Split.{Split}
+use Rattle.eqn_tokens.specs.declared.tokens.Keyword.{Keyword}
+
+abbrev pub kindToken : TokenKind → Token
+kindToken kind = kindAs kind []
+
+pub record Cut (s : List ℕ) (j : Keyword) (r : Split) : Type 0 where
+  pub there : r .start < length s
+  pub parts : lastOutside j (tokensIn s) ≡ some (tokensIn (take (r .start) s), tokensIn (drop (r .end) s))
+
+pub record Uncut (s : List ℕ) (j : Keyword) (r : Split) : Type 0 where
+  pub nowhere : r .start ≡ length s
+  pub none-is : lastOutside j (tokensIn s) ≡ none
+
+pub record SplitAt (s : List ℕ) (j : Keyword) (r : Split) : Type 0 where
+  pub ordered : r .start ≤ r .end
+  pub within : r .end ≤ length s
+  pub split : Cut s j r ⊎ Uncut s j r
+
+pub record ExpressionEnds (s : List ℕ) (from r : ℕ) : Type 0 where
+  pub behind : from ≤ r
+  pub within : r ≤ length s
+  pub onward : (t : Token) (ts : List Token) → tokensIn (drop from s) ≡ t ∷ ts → from < r
+  pub parts : firstExpression (tokensIn (drop from s)) ≡ (tokensIn (take (r - from) (drop from s)), tokensIn (drop r s))
+
+pub record LastStarts (s : List ℕ) (r : ℕ) : Type 0 where
+  pub within : r ≤ length s
+  pub before : (t : Token) (ts : List Token) → tokensIn s ≡ ts ++ (t ∷ []) → tokensIn (take r s) ≡ ts

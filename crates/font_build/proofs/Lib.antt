@@ -1,0 +1,3 @@
+-- How an index comes about. Assumes nothing.
+mod BitLaws
+mod BuildLaws

@@ -1,0 +1,2 @@
+-- Chains, as the code follows them. Assumes nothing.
+mod ChainLaws

@@ -1,0 +1,5 @@
+-- A lookup by the index, and a worked index. Assumes nothing.
+mod BitLaws
+mod RankLaws
+mod ReadingLaws
+mod Examples

@@ -1,0 +1,2 @@
+-- The rules for CH records, test by test. Assumes nothing.
+mod RuleLaws

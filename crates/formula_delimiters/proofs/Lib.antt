@@ -1,0 +1,2 @@
+-- What the proofs of roots and fences use. Assumes nothing.
+mod DelimiterLaws

@@ -1,0 +1,2 @@
+-- What the proofs of the reading use. Assumes nothing.
+mod VerdictLaws

@@ -1,0 +1,2 @@
+-- What the reader says of a part of a formula. Assumes nothing.
+pub mod Values

@@ -1,1 +1,0 @@
-// The grammar of typed text (request 10) as definitions, and the laws of it. The crate has no code: `tester` tests a text against it.

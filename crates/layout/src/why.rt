@@ -1,0 +1,100 @@
+// Why a shift is what it is: what decided the shifts of an item that is picked by its place.
+
+ghost use mathlib.Core.Path.{_≡_};
+ghost use Rattle.answers.specs.Lent.{lentOf, indexAfter, clientIndexAfter};
+ghost use Rattle.answers.specs.Why.{whyOf, ifPicked};
+ghost use Rattle.answers.specs.Why as answers;
+ghost use Rattle.reasons.specs.Values.{itemReasonsAs};
+ghost use Rattle.layout.specs.Values.{whyAnswerAs};
+ghost use Rattle.layout.specs.Reports.{whyReportAs};
+use crate::Answer;
+use crate::Finding;
+use crate::find;
+use crate::report::report_of;
+use picking::why::why_at;
+use reasons::ItemReasons;
+use reasons::Reasons;
+use reasons::ShiftReason;
+use reasons::unshifted;
+
+pub enum WhyAnswer {
+    By(Reasons),
+    // No fraction, and no item whose scripts are set beside it, starts at the place.
+    Unpicked,
+    // What measuring refuses.
+    Refused(Answer),
+}
+
+pub fn why<'a>(
+    style: u8,
+    table: &'a [u8],
+    client: &'a [u8],
+    formula: &[u8],
+    place: usize,
+    index: &mut [u64],
+    client_index: &mut [u64],
+) -> WhyAnswer
+    ensures { λ r. ⌜ whyAnswerAs r ≡ whyOf style (now (table .entry)) (now (client .entry)) (lentOf (now (index .entry)) (now («client_index» .entry))) (now (formula .entry)) place ⌝ }
+    ensures { λ _. ⌜ now (index .exit) ≡ indexAfter style (now (table .entry)) (now (client .entry)) (now (index .entry)) (now («client_index» .entry)) ⌝ }
+    ensures { λ _. ⌜ now («client_index» .exit) ≡ clientIndexAfter style (now (table .entry)) (now (client .entry)) (now (index .entry)) (now («client_index» .entry)) ⌝ }
+{
+    let finding = find(style, table, client, formula, index, client_index);
+    match finding {
+        Finding::Boxed(s, _, _) => {
+            let p = font::parameters(table);
+            answer_by(why_at(table, client, index, client_index, &p, s, place, formula))
+        }
+        Finding::Refused(answer) => WhyAnswer::Refused(answer),
+    }
+}
+
+// What is found of an item in a formula that is accepted.
+fn answer_by(found: ItemReasons) -> WhyAnswer
+    ensures { λ r. ⌜ whyAnswerAs r ≡ ifPicked (itemReasonsAs found) ⌝ }
+{
+    match found {
+        ItemReasons::Nothing => WhyAnswer::Unpicked,
+        ItemReasons::By(reasons) => WhyAnswer::By(reasons),
+    }
+}
+
+// An answer in numbers, for those who show it or hand it on: a shift that is not there is 0, and so are both on a refusal.
+pub struct WhyReport {
+    pub number: u8,
+    pub place: usize,
+    pub up: ShiftReason,
+    pub down: ShiftReason,
+}
+
+pub fn why_report(answer: WhyAnswer) -> WhyReport
+    ensures { λ r. ⌜ whyReportAs r ≡ whyAnswerAs answer ⌝ }
+{
+    match answer {
+        WhyAnswer::By(reasons) => {
+            let up = reasons.up;
+            let down = reasons.down;
+            WhyReport {
+                number: 0,
+                place: 0,
+                up,
+                down,
+            }
+        }
+        WhyAnswer::Unpicked => why_refusal(9, 0),
+        WhyAnswer::Refused(answer) => {
+            let report = report_of(answer);
+            why_refusal(report.number, report.place)
+        }
+    }
+}
+
+fn why_refusal(number: u8, place: usize) -> WhyReport
+    ensures { λ r. ⌜ whyReportAs r ≡ answers.whyRefusal number place ⌝ }
+{
+    WhyReport {
+        number,
+        place,
+        up: unshifted(),
+        down: unshifted(),
+    }
+}

@@ -1,2 +1,0 @@
-// What typed text means (request 10), without code: the formula of a derivation, the text that a formula is written as, and the answers
-// of the reader and the writer. Beside them stands what follows for any bytes.

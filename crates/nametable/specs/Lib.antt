@@ -1,3 +1,0 @@
--- What the answers of the code stand for.
--- Assumes nothing.
-pub mod Values

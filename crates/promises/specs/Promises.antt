@@ -1,0 +1,72 @@
+-- What is promised of the setter, on one page: for each demand and each change request the theorem that states it, under its own name. They
+-- speak of the definitions, `measured`, `setting`, `bufferAfter` and `whyOf` (crate answers). That the code gives what these define, for
+-- any bytes, is what `measure`, `set` and `why` ensure (crate layout), and with it each of these holds of the code.
+-- Assumes nothing.
+
+-- ---- demand 1: any bytes
+
+-- every answer is a refusal, with sizes and count 0 and the node buffer as it was, or an acceptance, which changes the bytes of the nodes that
+-- it counts and no others
+pub use Rattle.promises.specs.Demand1.{Leaves, demand-1}
+-- a refusal is one of the papers' numbers, in their order: a law for each test, of a list between any two sides
+pub use Rattle.answers.specs.AnswersLaws.{no-style, bad-table, bad-client, few-words, read-is, missing-refused, large-refused, no-room-is}
+-- no place and no count is greater than the longest formula has bytes
+pub use Rattle.answers.specs.Small.{measured-small, setting-small, why-small}
+-- ---- demand 2: sizes and nodes are those of the rules
+
+-- the worked examples P1 to P12, from bytes, sizes and nodes whole
+pub use Rattle.promises.specs.Examples.{examples-hold}
+-- the underlined a, measured, set, and in the buffer byte by byte
+pub use Rattle.promises.specs.Examples.{underlined-measured, underlined-set, underlined-buffer}
+-- ---- demand 3: measuring and setting, a list field and the whole
+
+-- setting refuses 7 exactly where measuring accepts and the nodes have no room, and answers as measuring does otherwise
+pub use Rattle.promises.specs.Agreement.{Agrees, measuring-and-setting-agree}
+-- every list field of what is set, by the place of its kind byte: set alone it gives the nodes that it has in the whole, moved by one distance;
+-- the rules take it for a box of the size that it measures alone; another list of that size changes no node outside
+pub use Rattle.promises.specs.Demand3.{ListFieldAsAlone, demand-3-at}
+-- the same of a list field that is named by its path
+pub use Rattle.promises.specs.Demand3.{FieldAsAlone, demand-3}
+-- instances, from bytes: in a taken list behind a style change, the nucleus of a root, the list of a fence
+pub use Rattle.promises.specs.FieldExample.{chosen-by-place, nucleus-by-place, inside-by-place}
+-- ---- request 1: blanks beside fractions. The fractions of the worked examples, P10 and P11, have them
+-- ---- request 2: style changes and choices
+
+-- a formula without style changes, choices and fences is answered as it was before there were any
+pub use Rattle.promises.specs.AsBefore.{measured-as-before, set-as-before}
+-- a style change in the list that a choice takes holds behind the choice
+pub use Rattle.promises.specs.Examples.{display-from-here}
+-- ---- requests 3 and 4: roots and fences
+
+pub use Rattle.promises.specs.Examples.{roots-hold, fences-hold}
+-- in good tables no chain of successors has more than sixteen steps
+pub use Rattle.font.specs.FontLaws.{chains-end}
+-- ---- request 6: a client's table
+
+-- with an empty one every formula is answered as by our table alone
+pub use Rattle.promises.specs.OursAlone.{measured-by-ours, set-by-ours}
+pub use Rattle.promises.specs.Examples.{client-set, client-refused}
+-- ---- request 7: why a shift is what it is
+
+-- of every acceptance: what is named is the shift that the setter used, none of its stage is larger, and of equals it is the first
+pub use Rattle.promises.specs.WhyLaws.{WhyTrue, why-true}
+pub use Rattle.promises.specs.Examples.{why-hold}
+-- ---- request 8: long formulas
+
+-- what document 01's format accepts is answered as before, and a field of kind 3 is refused by it
+pub use Rattle.promises.specs.Formats.{accepted-on, measured-on, set-on, kind-answered}
+-- ---- request 9: words for the indexes
+
+-- the words after a call: unchanged on 1, 2, 8 and 19, else with each table's index at the front
+pub use Rattle.answers.specs.LentLaws.{measuring-leaves}
+pub use Rattle.promises.specs.LentWords.{setting-leaves, words-last, words-settle, few-refused, only-few, only-few-set, same-result, same-measured, same-set}
+pub use Rattle.promises.specs.Examples.{words-refused, client-index}
+-- ---- request 14: nodes as the body of a page
+
+-- what is written reads back to the same bytes, and what reads is what the writer writes
+pub use Rattle.dvi.specs.RoundTrip.{there-and-back, made-by, made-is, only-nodes}
+-- the nodes of every accepted formula can be written
+pub use Rattle.promises.specs.PageNodes.{accepted-written}
+
+-- Requests 5 and 9 change how a symbol is found and no answer: `record_in` and `record_of` ensure the record that the definition has. Request 10,
+-- typed text, has its page in crate eqn_promises.
