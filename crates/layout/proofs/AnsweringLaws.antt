@@ -34,10 +34,10 @@ use Rattle.answers.specs.Lent.{Lent, lentOf, builds, builtIf, indexAfter, clien
 use Rattle.answers.specs.Answers.{refusal, styleNumber, tableNumber, clientNumber, indexNumber, faultNumber, missingNumber, tooLargeNumber, ifRead, resultOf, measured}
 use Rattle.answers.specs.AnswersLaws.{no-style, bad-table, bad-client, few-words, read-is, missing-refused, box-is, large-refused, measured-refused}
 use Rattle.answers.specs.LentLaws.{index-in-front, enough-is, Few, few-is, early, measuring-leaves}
-use Rattle.walk.specs.declared.lines.Line as lines
-use Rattle.walk.specs.Values.{lineFits}
-use Rattle.walk.specs.Walked.{ListWhole, ListGiven}
-use Rattle.walk.specs.WalkedLaws.{line-fits}
+use Rattle.walk_fields.specs.declared.lines.Line as lines
+use Rattle.walk_fields.specs.Values.{lineFits}
+use Rattle.walk_fields.specs.Lists.{ListWhole, ListGiven}
+use Rattle.walk_fields.specs.ListLaws.{line-fits}
 use Rattle.layout.specs.declared.Answer.{Answer}
 use Rattle.layout.specs.declared.Answer.the-variants.{NoStyle, BadTable, BadClient, FewWords, Missing}
 use Rattle.layout.specs.declared.Finding.{Finding}

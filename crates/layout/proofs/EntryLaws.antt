@@ -29,9 +29,9 @@ use Rattle.answers.specs.Answers.{Result, boxed, resultOf, Answered, accepted, 
 use Rattle.answers.specs.AnswersLaws as answers
 use Rattle.answers.specs.Why.{whyRefusal, ifPicked, whyBy, reasonsIn, whyOf}
 use Rattle.picking.specs.Picking.{PlaceReasonsAre}
-use Rattle.walk.specs.declared.lists.ItemsSet.{ItemsSet}
-use Rattle.walk.specs.declared.lists.ItemsSet.the-variants.{Whole, Missing}
-use Rattle.walk.specs.Walked.{ListDone}
+use Rattle.walk_fields.specs.declared.lines.ItemsSet.{ItemsSet}
+use Rattle.walk_fields.specs.declared.lines.ItemsSet.the-variants.{Whole, Missing}
+use Rattle.walk_fields.specs.Lists.{ListDone}
 use Rattle.layout.specs.declared.Answer.{Answer}
 use Rattle.layout.specs.declared.Answer.the-variants.{Accepted, NoRoom}
 use Rattle.layout.specs.declared.why.WhyAnswer.the-variants as answer

@@ -27,8 +27,8 @@ use Rattle.setting.specs.Fitting.{itemsFit}
 use Rattle.answers.specs.Lent.{Lent, enough}
 use Rattle.answers.specs.Answers.{refusal, Result, boxed, refused, ifPresent, resultOf}
 use Rattle.answers.specs.LentLaws.{early}
-use Rattle.walk.specs.declared.lines.Line.{Line}
-use Rattle.walk.specs.Values.{lineFits}
+use Rattle.walk_fields.specs.declared.lines.Line.{Line}
+use Rattle.walk_fields.specs.Values.{lineFits}
 use Rattle.layout.specs.declared.Answer.{Answer}
 use Rattle.layout.specs.declared.Answer.the-variants.{TooLarge}
 use Rattle.layout.specs.Values.{answeredAs}

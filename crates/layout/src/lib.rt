@@ -6,7 +6,7 @@ ghost use mathlib.Core.Path.{_≡_};
 ghost use lib.ListN.{length};
 ghost use Rattle.answers.specs.Lent.{lends, lentOf, indexAfter, clientIndexAfter};
 ghost use Rattle.answers.specs.Answers.{faultNumber, refusal, measured, setting, bufferAfter};
-ghost use Rattle.walk.specs.Walked.{ListGiven};
+ghost use Rattle.walk_fields.specs.Lists.{ListGiven};
 ghost use Rattle.layout.specs.Values.{answeredAs};
 ghost use Rattle.layout.specs.Answering.{Tested, FindingOf, Examined, Weighed};
 
@@ -23,10 +23,10 @@ use formula::Fault;
 use formula::Verdict;
 use formula_reading::read_formula;
 use nodes::BYTES_IN_NODE;
-use walk::lines::Line;
-use walk::lines::list_fits;
-use walk::lists::ItemsSet;
 use walk::lists::set_list;
+use walk_fields::lines::ItemsSet;
+use walk_fields::lines::Line;
+use walk_fields::lines::list_fits;
 
 // One constructor for each answer number. A refusal that has a place has it here.
 pub enum Answer {
