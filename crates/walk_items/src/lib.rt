@@ -34,10 +34,10 @@ use walk_fields::growing::extended;
 use walk_fields::lines::Line;
 
 // Where an item goes: its class after its change, x in the list, and how it is arranged.
-pub struct Placing {
-    pub class: Class,
-    pub x: Sp,
-    pub arranged: Arranged,
+struct Placing {
+    class: Class,
+    x: Sp,
+    arranged: Arranged,
 }
 
 // The item's class is changed between its neighbours, and space goes before it.
