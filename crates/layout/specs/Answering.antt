@@ -14,9 +14,9 @@ use lib.ListN.{length}
 use Rattle.font.specs.Table.{goodTable, goodClient}
 use Rattle.font.specs.Font.{fontWith}
 use Rattle.font_index.specs.Index.{Indexed}
-use Rattle.formula.specs.Format.{formulaLimit}
 use Rattle.formula.specs.Reading.{good, readFormula}
 use Rattle.formula.specs.Places.{Readable, treeOf}
+use Rattle.formula.specs.Format.{formulaLimit}
 use Rattle.boxes.specs.declared.styles.Style.{Style}
 use Rattle.boxes.specs.declared.Size.{Size}
 use Rattle.boxes.specs.Styles.{styleOf}

@@ -32,6 +32,7 @@ use Rattle.formula.specs.Places.{Readable, treeOf, headBytes, contents, fieldOf
 use Rattle.formula.specs.Slices.{tail-part}
 use Rattle.formula.specs.HeadLaws.{head-fits, list-opening, opening-some, contents-shorter}
 use Rattle.formula.specs.PlacesLaws.{tree-none, Noad, noad-at, choice-at, good-some, items-bytes, item-bytes, field-bytes, second-field, third-field}
+use Rattle.formula.specs.Format.{formulaLimit}
 use Rattle.boxes.specs.declared.styles.Style.{Style}
 use Rattle.arrange.specs.Arrange.{firstStyle, secondStyle, thirdStyle}
 use Rattle.setting.specs.Setting.{taken, takenStart}
@@ -39,7 +40,6 @@ use Rattle.setting.specs.Picked.{Picked, _orIn_, ifReached, pickIn, pickAt, pic
 use Rattle.setting.specs.PickedLaws.{pickIn-here, pickIn-later, pickField-before, pickField-past, pickAt-choice}
 use Rattle.walk_looks.specs.declared.current.Span.{Span}
 use Rattle.walk_looks.specs.declared.places.Sight.{Sight}
-use Rattle.formula.specs.Format.{formulaLimit}
 use Rattle.walk_looks.specs.Seen.{part, listsBefore, TakenSpan, ItemSeen}
 use Rattle.walk_looks.specs.PlaceLaws.{Between, stepped, here, tree-is, next-between}
 use Rattle.walk_looks.specs.TakenLaws.{place-taken}

@@ -19,6 +19,7 @@ use Rattle.formula.specs.declared.Opening.the-variants.{Fields}
 use Rattle.formula.specs.Tree.{Items, Field, openingBytes}
 use Rattle.formula.specs.Heads.{openingOf}
 use Rattle.formula.specs.Places.{Readable, treeOf, hasThird, second, third, fieldEnd, fieldIn, thirdIn, itemOf, GoodThird}
+use Rattle.formula.specs.Format.{formulaLimit}
 use Rattle.boxes.specs.declared.styles.Style.{Style}
 use Rattle.boxes.specs.declared.Shape.{Shape}
 use Rattle.boxes.specs.Values.{parametersIn, shapeAs}
@@ -32,7 +33,6 @@ use Rattle.setting.specs.Fitting.{fieldFits, itemsFit}
 use Rattle.setting.specs.Picked.{Picked, picked, ifReached, pickIn, pickAt, pickField, pickedReasons, reasonsAt}
 use Rattle.setting.specs.PickedLaws.{Sound}
 use Rattle.walk_looks.specs.declared.current.Span.{Span}
-use Rattle.formula.specs.Format.{formulaLimit}
 use Rattle.walk_looks.specs.Seen.{part}
 use Rattle.picking.specs.declared.Step.{Step}
 use Rattle.picking.specs.declared.Step.the-variants as step

@@ -29,6 +29,7 @@ use Rattle.formula.specs.Places.{Readable, treeOf, itemSize, itemOf}
 use Rattle.formula.specs.Slices.{tail-part}
 use Rattle.formula.specs.HeadLaws.{kern-small}
 use Rattle.formula.specs.PlacesLaws.{Stepped, step, tree-none, item-bytes}
+use Rattle.formula.specs.Format.{formulaLimit}
 use Rattle.boxes.specs.declared.styles.Style.{Style}
 use Rattle.spacing.specs.Classes.{Neighbour}
 use Rattle.boxes.specs.Boxes.{Size}
@@ -49,17 +50,16 @@ use Rattle.setting.specs.Fitting.{itemFits, itemsFit}
 use Rattle.setting.specs.FieldInPlace.{afterNodes, sized, setItems-after}
 use Rattle.walk_fields.specs.declared.lines.Line as lines
 use Rattle.walk_fields.specs.declared.lines.ItemsSet.the-variants as items
+use Rattle.walk_fields.specs.Values.{bareLine}
+use Rattle.walk_fields.specs.Bounds.{stride}
+use Rattle.walk_fields.specs.Lines.{KernedLine, StyledLine}
+use Rattle.walk_fields.specs.Lists.{Added, ItemsGiven, ItemsDone}
+use Rattle.walk_fields.specs.ListLaws.{line-more}
 use Rattle.walk.specs.declared.lists.ItemSet.{ItemSet}
 use Rattle.walk.specs.declared.lists.ItemSet.the-variants as steps
 use Rattle.walk.specs.declared.lists.StretchSet.{StretchSet}
 use Rattle.walk.specs.declared.lists.StretchSet.the-variants as stretches
-use Rattle.walk_fields.specs.Values.{bareLine}
-use Rattle.formula.specs.Format.{formulaLimit}
-use Rattle.walk_fields.specs.Bounds.{stride}
-use Rattle.walk_fields.specs.Lines.{KernedLine, StyledLine}
-use Rattle.walk_fields.specs.Lists.{Added, ItemsGiven, ItemsDone}
 use Rattle.walk.specs.Walked.{Along, classBehind, OpenedDone, ItemDone, StretchDone}
-use Rattle.walk_fields.specs.ListLaws.{line-more}
 
 -- ---- what goes behind a line
 

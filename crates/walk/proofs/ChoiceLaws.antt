@@ -22,15 +22,15 @@ use Rattle.setting.specs.Missing.{later, missingItem, missingItems}
 use Rattle.setting.specs.Fitting.{itemFits, itemsFit}
 use Rattle.setting.specs.SettingLaws.{styleBehind-choice, setItem-choice, missingItem-choice, itemFits-choice}
 use Rattle.walk_looks.specs.declared.current.Span.{Span}
-use Rattle.walk_fields.specs.declared.lines.Line as lines
-use Rattle.walk_fields.specs.declared.lines.ItemsSet.the-variants as all
-use Rattle.walk.specs.declared.lists.ItemSet.the-variants as step
-use Rattle.walk_fields.specs.Values.{bareLine}
 use Rattle.walk_looks.specs.Seen.{part, listsBefore, TakenSpan, SetsAlike}
 use Rattle.walk_looks.specs.TakenLaws.{place-taken}
+use Rattle.walk_fields.specs.declared.lines.Line as lines
+use Rattle.walk_fields.specs.declared.lines.ItemsSet.the-variants as all
+use Rattle.walk_fields.specs.Values.{bareLine}
 use Rattle.walk_fields.specs.Lists.{ItemsGiven, ItemsDone}
-use Rattle.walk.specs.Walked.{OpenedGiven, classBehind, ItemDone}
 use Rattle.walk_fields.specs.ListLaws.{line-more}
+use Rattle.walk.specs.declared.lists.ItemSet.the-variants as step
+use Rattle.walk.specs.Walked.{OpenedGiven, classBehind, ItemDone}
 use Rattle.walk.proofs.AlongLaws.{item-as, added-like}
 
 pub choice-given : {t u i j : List ℕ} {p : List (List ℕ)} {s : List ℕ} {l : lines.Line} {style : Style} {c : Span} →

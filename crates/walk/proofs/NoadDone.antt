@@ -14,16 +14,16 @@ use Rattle.formula.specs.Heads.{openingOf}
 use Rattle.formula.specs.Places.{treeOf, end, itemOf}
 use Rattle.spacing.specs.Classes.{Neighbour}
 use Rattle.nodes.specs.Kept.{Kept}
-use Rattle.setting.specs.Setting.{FieldBox, styleBehind, nextClass, setItem}
+use Rattle.setting.specs.Setting.{styleBehind, nextClass, setItem}
 use Rattle.setting.specs.Missing.{missingItem}
 use Rattle.setting.specs.Fitting.{itemFits}
 use Rattle.walk_fields.specs.declared.fields.FieldBox as fields
 use Rattle.walk_fields.specs.declared.lines.Line as lines
-use Rattle.walk.specs.declared.lists.ItemSet.the-variants as step
 use Rattle.walk_fields.specs.Values.{bareLine}
 use Rattle.walk_fields.specs.Lists.{Added}
-use Rattle.walk.specs.Walked.{classBehind, ItemDone}
 use Rattle.walk_items.specs.NoadLaws.{third-lacks, NoadSet, noad-added}
+use Rattle.walk.specs.declared.lists.ItemSet.the-variants as step
+use Rattle.walk.specs.Walked.{classBehind, ItemDone}
 use Rattle.walk.proofs.AlongLaws.{item-as}
 
 -- what the item at the head of some bytes comes to, behind the line l

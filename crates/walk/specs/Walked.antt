@@ -1,5 +1,6 @@
 -- What the setters of the cycle ask and promise beside those of lists and fields: an item (`ItemDone`), the items up to a choice
--- (`StretchDone`), a choice (`ChoiceDone`), and an item whose first fields stand in the buffer (`SecondDone`, `ThirdDone`).
+-- (`StretchDone`), a choice (`ChoiceDone`), and an item whose first field, or first two, stand in the buffer (`SecondDone`, `ThirdDone`): it is
+-- what it comes to from the buffer before its first field.
 -- Assumes nothing.
 use mathlib.Core.Path.{_≡_}
 use mathlib.Core.Bool.{Bool, true, _&&_}
@@ -16,20 +17,20 @@ use Rattle.formula.specs.Places.{Readable, treeOf, itemSize, itemOf}
 use Rattle.boxes.specs.declared.styles.Style.{Style}
 use Rattle.spacing.specs.Classes.{Neighbour}
 use Rattle.nodes.specs.Kept.{Kept}
-use Rattle.setting.specs.Setting.{Line, styleAfter, styleBehind, nextClass, setItem, setItems, FieldBox}
+use Rattle.setting.specs.Setting.{Line, styleAfter, styleBehind, nextClass, setItem, setItems}
 use Rattle.setting.specs.Missing.{later, missingItem, missingItems}
 use Rattle.setting.specs.Fitting.{itemFits, itemsFit}
+use Rattle.arrange.specs.declared.OwnCounts.{OwnCounts}
 use Rattle.walk_fields.specs.declared.fields.FieldBox as fields
 use Rattle.walk_fields.specs.declared.lines.Line as lines
 use Rattle.walk_fields.specs.declared.lines.ItemsSet.the-variants as items
+use Rattle.walk_fields.specs.Values.{bareLine}
+use Rattle.walk_fields.specs.Lists.{ItemsGiven, Added, ItemsDone}
+use Rattle.walk_items.specs.Standing.{One, Two}
 use Rattle.walk.specs.declared.lists.ItemSet.{ItemSet}
 use Rattle.walk.specs.declared.lists.ItemSet.the-variants as step
 use Rattle.walk.specs.declared.lists.StretchSet.{StretchSet}
 use Rattle.walk.specs.declared.lists.StretchSet.the-variants as stretch
-use Rattle.walk_fields.specs.Values.{bareLine}
-use Rattle.arrange.specs.declared.OwnCounts.{OwnCounts}
-use Rattle.walk_fields.specs.Lists.{ItemsGiven, Added, ItemsDone}
-use Rattle.walk_items.specs.Standing.{One, Two}
 
 -- and what opens at its head
 pub record OpenedGiven (t u i j : List ℕ) (p : List (List ℕ)) (s : List ℕ) (o : Opening) (l : lines.Line) : Type 0 where

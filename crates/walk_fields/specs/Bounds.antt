@@ -3,7 +3,6 @@
 -- Assumes nothing.
 use Prim.Native.Nat.{ℕ, _*_, _^_, _≤_}
 use Rattle.scaled.specs.Signed.{Within}
-use Rattle.formula.specs.Format.{formulaLimit}
 use Rattle.boxes.specs.Bounds.{words, itemWords}
 use Rattle.nodes.specs.Hull.{HullWithin}
 use Rattle.nodes.specs.Values.{hullOf}

@@ -32,11 +32,11 @@ use Rattle.setting.specs.Setting.{FieldBox, symbolIn, symbolFieldBox, isEnlarge
 use Rattle.setting.specs.Missing.{later, absentAt, missingField}
 use Rattle.setting.specs.Fitting.{fieldFits, itemsFit, boxFits}
 use Rattle.walk_symbols.specs.declared.symbols.Symbol as symbols
+use Rattle.walk_symbols.specs.Values.{symbolAs}
 use Rattle.walk_fields.specs.declared.fields.FieldBox as fields
 use Rattle.walk_fields.specs.declared.fields.FieldSet.the-variants.{Whole, Missing}
 use Rattle.walk_fields.specs.declared.lines.Line as lines
 use Rattle.walk_fields.specs.declared.lines.ItemsSet.the-variants as items
-use Rattle.walk_symbols.specs.Values.{symbolAs}
 use Rattle.walk_fields.specs.Values.{lineFits}
 use Rattle.walk_fields.specs.Fields.{EmptyField, FieldDone, LineField}
 use Rattle.walk_fields.specs.Lists.{ListDone}

@@ -20,6 +20,7 @@ use Rattle.formula.specs.Places.{treeOf, headBytes, headAt, contents, fieldOf, 
 use Rattle.formula.specs.Slices.{tail-part, field-part}
 use Rattle.formula.specs.HeadLaws.{head-fits, list-opening, contents-shorter}
 use Rattle.formula.specs.PlacesLaws.{items-bytes}
+use Rattle.formula.specs.Format.{formulaLimit}
 use Rattle.boxes.specs.declared.styles.Style.{Style}
 use Rattle.boxes.specs.Parameters.{Parameters}
 use Rattle.spacing.specs.Classes.{Neighbour}
@@ -31,7 +32,6 @@ use Rattle.walk_fields.specs.declared.fields.FieldSet.the-variants.{Whol
 use Rattle.walk_fields.specs.declared.lines.Line as lines
 use Rattle.walk_fields.specs.declared.lines.ItemsSet.{ItemsSet}
 use Rattle.walk_fields.specs.declared.lines.ItemsSet.the-variants as items
-use Rattle.formula.specs.Format.{formulaLimit}
 use Rattle.walk_fields.specs.Bounds.{LineWithin}
 use Rattle.walk_fields.specs.Fields.{EmptyField, FieldDone, ClosedField, ListGoes, ListField}
 use Rattle.walk_fields.specs.Lists.{ListGiven, FieldGiven, HeadDone, ItemsGiven, ItemsDone, ListDone}

@@ -8,6 +8,7 @@ use mathlib.Core.Option.{none, some}
 use Prim.Native.Nat.{ℕ, _+_, _-_, _^_, _≤_, _<_}
 use Rattle.font.specs.Font.{Font}
 use Rattle.formula.specs.Tree.{Field}
+use Rattle.formula.specs.Format.{formulaLimit}
 use Rattle.boxes.specs.declared.styles.Style.{Style}
 use Rattle.boxes.specs.declared.Shape.the-variants.{Nothing, Box}
 use Rattle.boxes.specs.Parameters.{Parameters}
@@ -19,7 +20,7 @@ use Rattle.nodes.specs.Drawn.{Drawn}
 use Rattle.nodes.specs.Kept.{Kept}
 use Rattle.nodes.specs.Hull.{hull, HullWithin}
 use Rattle.nodes.specs.Values.{hullOf, isLarge, EmptyRun}
-use Rattle.setting.specs.Setting.{Line, setField}
+use Rattle.setting.specs.Setting.{setField}
 use Rattle.setting.specs.Missing.{missingField}
 use Rattle.setting.specs.Fitting.{fieldFits}
 use Rattle.walk_fields.specs.declared.fields.FieldBox as fields
@@ -29,7 +30,6 @@ use Rattle.walk_fields.specs.declared.lines.Line as lines
 use Rattle.walk_fields.specs.declared.lines.ItemsSet.{ItemsSet}
 use Rattle.walk_fields.specs.declared.lines.ItemsSet.the-variants as items
 use Rattle.walk_fields.specs.Values.{FieldBoxIs, lineFits}
-use Rattle.formula.specs.Format.{formulaLimit}
 use Rattle.walk_fields.specs.Bounds.{LineWithin}
 use Rattle.walk_fields.specs.Lines.{ClosedLine}
 

@@ -19,7 +19,6 @@ use Rattle.spacing.specs.Values.{neighbourAs}
 use Rattle.boxes.specs.Bounds.{words, itemWords}
 use Rattle.nodes.specs.declared.run.Run.{Run}
 use Rattle.nodes.specs.Values.{EmptyRun, JoinedRun}
-use Rattle.setting.specs.Setting.{Line}
 use Rattle.walk_fields.specs.declared.lines.Line as lines
 
 pub record StartLine (left : Neighbour) (s : Style) (c : lines.Line) : Type 0 where

@@ -1,5 +1,6 @@
 -- What a list comes to, for those who call its setter.
 --     line-fits         a line that stands for a list fits where the list, and every list in it, does
+--     bare-start, start-within, line-more     an empty line, and how far a line reaches
 --     list-whole-of, list-lacks-of     a list is its items behind an empty line, between its sides, and then its end; `list-of-items` has none
 -- Assumes nothing.
 use mathlib.Core.Path.{_≡_, refl, sym, subst, ap, ap₂, _∙_}

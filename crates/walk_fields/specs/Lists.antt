@@ -14,6 +14,7 @@ use Rattle.font_index.specs.Index.{Indexed}
 use Rattle.font.specs.Font.{Font, fontWith}
 use Rattle.formula.specs.Tree.{Items}
 use Rattle.formula.specs.Places.{Readable, fieldEnd, fieldIn, GoodFieldAt}
+use Rattle.formula.specs.Format.{formulaLimit}
 use Rattle.boxes.specs.declared.styles.Style.{Style}
 use Rattle.spacing.specs.Classes.{Neighbour}
 use Rattle.arrange.specs.declared.Manner.{Manner}
@@ -31,7 +32,6 @@ use Rattle.walk_fields.specs.declared.lines.Line as lines
 use Rattle.walk_fields.specs.declared.lines.ItemsSet.{ItemsSet}
 use Rattle.walk_fields.specs.declared.lines.ItemsSet.the-variants as items
 use Rattle.walk_fields.specs.Values.{bareLine}
-use Rattle.formula.specs.Format.{formulaLimit}
 use Rattle.walk_fields.specs.Bounds.{LineWithin}
 use Rattle.walk_fields.specs.Fields.{FieldDone}
 

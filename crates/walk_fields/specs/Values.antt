@@ -1,7 +1,6 @@
--- What the values of the walk's code stand for in the definition.
---     symbolAs, symbolSearchAs     a symbol that was looked for
+-- What the values of fields and lines stand for in the definition.
 --     sidesAs                what a list sees on its sides
---     FieldBoxIs                 a field that has been set alone
+--     FieldBoxIs             a field that has been set alone
 --     bareIn, bareLine       a line, but for its nodes: the code knows how many there are and how far they reach
 --     lineFits               whether a line keeps within the greatest length, and so do all lists in it
 -- Assumes nothing.

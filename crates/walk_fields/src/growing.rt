@@ -2,10 +2,10 @@
 
 ghost use Prim.Native.Nat.{_+_};
 ghost use Rattle.scaled.specs.Signed.{Within};
+ghost use Rattle.formula.specs.Format.{formulaLimit};
 ghost use Rattle.boxes.specs.Values.{parametersIn};
 ghost use Rattle.boxes.specs.Bounds.{words};
 ghost use Rattle.spacing.specs.Values.{neighbourAs};
-ghost use Rattle.formula.specs.Format.{formulaLimit};
 ghost use Rattle.walk_fields.specs.Bounds.{LineWithin};
 ghost use Rattle.walk_fields.specs.Lines.{StartLine, KernedLine, ClosedLine, StyledLine, ItemGoes, ExtendedLine, SizesGo, SizesBeside};
 ghost use Rattle.walk_fields.specs.Fields.{ListGoes, ListField, LineField, ClosedField};

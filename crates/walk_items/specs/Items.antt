@@ -9,6 +9,7 @@ use lib.ListN.{length}
 use Rattle.scaled.specs.Signed.{Within}
 use Rattle.formula.specs.declared.Class.{Class}
 use Rattle.formula.specs.declared.Kind.{Kind}
+use Rattle.formula.specs.Format.{formulaLimit}
 use Rattle.boxes.specs.declared.styles.Style.{Style}
 use Rattle.boxes.specs.declared.Offset.{Offset as CodeOffset}
 use Rattle.boxes.specs.declared.Ruling.{Ruling}
@@ -31,14 +32,13 @@ use Rattle.nodes.specs.Bounds.{greatestLength}
 use Rattle.nodes.specs.Buffer.{put, movedFront, behindNodes}
 use Rattle.nodes.specs.Hull.{Hull, none as unreached, joined, movedHull, hull, HullWithin}
 use Rattle.nodes.specs.Values.{hullOf, isLarge}
-use Rattle.setting.specs.Setting.{Line, ownNode, ownNodes}
+use Rattle.setting.specs.Setting.{ownNode, ownNodes}
 use Rattle.walk_fields.specs.declared.fields.FieldBox as fields
 use Rattle.walk_fields.specs.declared.lines.Line as lines
-use Rattle.walk_items.specs.declared.Placing.{Placing}
-use Rattle.formula.specs.Format.{formulaLimit}
 use Rattle.walk_fields.specs.Bounds.{LineWithin}
 use Rattle.walk_fields.specs.Fields.{FieldBoxWithin}
 use Rattle.walk_fields.specs.Lines.{besideSize}
+use Rattle.walk_items.specs.declared.Placing.{Placing}
 
 -- its class, its x and its arrangement A, behind a line whose last atom is `left`
 pub record PlacingIs (P : Parameters) (s : Style) (kind : Kind) (right left : Neighbour) (width : ℤ) (A : Arranged) (c : Placing) : Type 0 where

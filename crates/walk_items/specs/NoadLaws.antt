@@ -2,7 +2,6 @@
 --     item-lacks                                 the first missing symbol of an item is that of its fields, in their order
 --     set-one, set-two, set-three, none-third    what stands so far in the buffer, field by field (`One`, `Two`, `Three`)
 --     noad-added                                 all three stand there and the item is finished: it has gone behind the line
---     noad-lacks, noad-done                      what an item with fields comes to
 -- Assumes nothing.
 use mathlib.Core.Path.{_≡_, refl, sym, subst, ap, ap₂, _∙_}
 use mathlib.Core.Bool.{Bool, true, false, not, _&&_, _||_, and-eq-true-iff}
@@ -21,6 +20,7 @@ use Rattle.formula.specs.declared.Opening.the-variants.{Fields}
 use Rattle.formula.specs.Tree.{Field, openingBytes}
 use Rattle.formula.specs.Places.{hasThird, second, third, thirdEnd, end, fieldIn, thirdIn, itemOf}
 use Rattle.formula.specs.PlacesLaws.{Noad, second-field, third-field}
+use Rattle.formula.specs.Format.{formulaLimit}
 use Rattle.boxes.specs.declared.styles.Style.{Style}
 use Rattle.boxes.specs.Parameters.{Parameters}
 use Rattle.spacing.specs.Classes.{Neighbour, classOf, changedClass}
@@ -48,13 +48,12 @@ use Rattle.walk_fields.specs.declared.fields.FieldSet.{FieldSet}
 use Rattle.walk_fields.specs.declared.fields.FieldSet.the-variants as field
 use Rattle.walk_fields.specs.declared.lines.Line as lines
 use Rattle.walk_fields.specs.Values.{bareIn}
-use Rattle.formula.specs.Format.{formulaLimit}
 use Rattle.walk_fields.specs.Bounds.{LineWithin}
 use Rattle.walk_fields.specs.Fields.{EmptyField, FieldBoxWithin, FieldWhole, FieldDone}
 use Rattle.walk_fields.specs.Lists.{HeadDone, Added}
-use Rattle.walk_items.specs.Items.{FinishGiven, Finished, itemCount, itemBuffer}
 use Rattle.walk_fields.specs.Lines.{besideSize}
 use Rattle.walk_fields.specs.FieldBoxLaws.{field-empty}
+use Rattle.walk_items.specs.Items.{FinishGiven, Finished, itemCount, itemBuffer}
 use Rattle.walk_items.specs.ItemLaws.{item-count, item-hull, item-bytes, item-kept}
 use Rattle.walk_items.specs.Standing.{Laid, gap₁, gap₂, One, Two}
 use Rattle.walk_items.specs.LaidLaws.{laid-start, laid-gap, laid-kept, laid-field, laid-none}

@@ -1,8 +1,6 @@
 -- What stands in the buffer while the fields of an item are set, one behind another.
---     Laid                      parts that are set one behind another, each into the rest of a buffer
---     One, Two                  the first field, and the second, with room for the item's own nodes
---     SecondGiven, ThirdGiven   what is asked to go on from there
---     SecondDone, ThirdDone     and what that comes to: the item, as from the buffer before its first field
+--     Laid         parts that are set one behind another, each into the rest of a buffer
+--     One, Two     the first field, and the second, with room for the item's own nodes
 -- Assumes nothing.
 use mathlib.Core.Path.{_≡_}
 use mathlib.Core.Bool.{Bool, true, _&&_}

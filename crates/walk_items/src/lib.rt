@@ -1,11 +1,11 @@
 // An item whose fields have been set, arranged and put at its place in the list. Nothing here calls a setter.
 
+ghost use Rattle.formula.specs.Format.{formulaLimit};
 ghost use Rattle.arrange.specs.Arrange as definition;
 ghost use Rattle.boxes.specs.Values.{parametersIn, shapeAs, offsetAs, signingAs, rulingAs, ownedAs, arrangedAs};
 ghost use Rattle.spacing.specs.Values.{neighbourAs};
 ghost use Rattle.delimiters.specs.Values.{signsAs};
 ghost use Rattle.boxes.specs.Bounds.{ModerateShape};
-ghost use Rattle.formula.specs.Format.{formulaLimit};
 ghost use Rattle.walk_fields.specs.Bounds.{LineWithin};
 ghost use Rattle.walk_items.specs.Items.{PlacingIs, MoveGiven, FieldMoved, OwnGiven, SigningGiven, RulingGiven, OwnPut, PutGiven, ItemPut, FinishGiven, Finished};
 use arrange::arrange;

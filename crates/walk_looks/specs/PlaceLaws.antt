@@ -24,6 +24,7 @@ use Rattle.formula.specs.Heads.{openingOf}
 use Rattle.formula.specs.Places.{Readable, treeOf, end, itemSize, itemOf}
 use Rattle.formula.specs.Slices.{tail-part}
 use Rattle.formula.specs.PlacesLaws.{Stepped, step, tree-none}
+use Rattle.formula.specs.Format.{formulaLimit}
 use Rattle.boxes.specs.declared.styles.Style.{Style}
 use Rattle.spacing.specs.declared.classes.Neighbour.the-variants.{End, Atom}
 use Rattle.spacing.specs.Classes.{Neighbour, classOf}
@@ -31,7 +32,6 @@ use Rattle.spacing.specs.Values.{neighbourAs}
 use Rattle.setting.specs.Setting.{restyled, styleAfter, styleBehind, nextClass, classAt}
 use Rattle.setting.specs.Beyond.{_orNext_, orNext-assoc, orNext-none, nextClass-cons}
 use Rattle.walk_looks.specs.declared.places.Sight.{Sight}
-use Rattle.formula.specs.Format.{formulaLimit}
 use Rattle.walk_looks.specs.Seen.{OpenedSeen, ItemSeen, ChangesAlike}
 
 -- a place between two items of a list

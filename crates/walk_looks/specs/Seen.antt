@@ -2,6 +2,7 @@
 --     TakenSpan     the items of the list that a choice's style takes
 --     ItemSeen, ItemsSeen     the class of the first atom of an item and of a list's items, and the style behind them
 --     SetsAlike     two classes beyond some items with which they are set alike
+--     ChangesAlike     two classes beyond an item with which its own is changed alike
 -- Assumes nothing.
 use mathlib.Core.Path.{_≡_}
 use mathlib.Core.List.{List}
@@ -17,9 +18,9 @@ use Rattle.boxes.specs.declared.styles.Style.{Style}
 use Rattle.spacing.specs.Classes.{Neighbour, classOf, changedClass}
 use Rattle.spacing.specs.Values.{neighbourAs}
 use Rattle.setting.specs.Setting.{taken, styleAfter, styleBehind, nextClass, classAt, Line, setItems}
+use Rattle.formula.specs.declared.Kind.{Kind}
 use Rattle.walk_looks.specs.declared.current.Span.{Span}
 use Rattle.walk_looks.specs.declared.places.Sight.{Sight}
-use Rattle.formula.specs.declared.Kind.{Kind}
 
 -- the bytes of a span
 abbrev pub part : Span → List ℕ → List ℕ

@@ -8,13 +8,13 @@ use lib.IntN.{ℤ, _+ℤ_}
 use borrow.Author.Needs.{needs}
 use Rattle.scaled.specs.Signed.{Within}
 use Rattle.scaled.specs.Linear.{#, _⊕_, within-by}
+use Rattle.formula.specs.Format.{formulaLimit}
 use Rattle.spacing.specs.Spacing.{spaceBefore}
 use Rattle.boxes.specs.Values.{parametersIn, arrangedAs}
 use Rattle.spacing.specs.Values.{neighbourAs}
 use Rattle.boxes.specs.Bounds.{words}
 use Rattle.nodes.specs.Hull.{joined}
 use Rattle.nodes.specs.Values.{hullOf, isLarge}
-use Rattle.formula.specs.Format.{formulaLimit}
 use Rattle.walk_fields.specs.Bounds.{stride}
 use Rattle.walk_items.specs.ItemLaws.{few-owned, item-grows}
 use Rattle.walk_items.proofs.finished.Statement.{statement}

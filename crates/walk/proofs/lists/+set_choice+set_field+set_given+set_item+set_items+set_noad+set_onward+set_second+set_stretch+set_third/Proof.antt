@@ -31,6 +31,7 @@ use Rattle.formula.specs.Places.{treeOf, choiceLists, second, end}
 use Rattle.formula.specs.Slices.{tail-part}
 use Rattle.formula.specs.HeadLaws.{opening-fits, kern-small}
 use Rattle.formula.specs.PlacesLaws.{step, Noad, noad-at, Chosen, choice-at, third-good}
+use Rattle.formula.specs.Format.{formulaLimit}
 use Rattle.formula_fields.proofs.field_bytes.Reads as field-bytes-reads
 use Rattle.formula_fields.proofs.field_head.Reads as field-head-reads
 use Rattle.formula_kinds.proofs.has_third.Reads as has-third-reads
@@ -53,31 +54,41 @@ use Rattle.arrange.proofs.third_style.Reads as third-style-reads
 use Rattle.nodes.specs.Buffer.{roomFor}
 use Rattle.nodes.specs.Kept.{Kept}
 use Rattle.nodes.proofs.room.Reads as room-reads
+use Rattle.walk_looks.specs.Seen.{part, TakenSpan}
+use Rattle.walk_looks.specs.PlaceLaws.{tail-given, right-alike}
+use Rattle.walk_looks.proofs.current.restyled.Reads as restyled-reads
+use Rattle.walk_looks.proofs.current.taken_span.Reads as taken-span-reads
+use Rattle.walk_looks.proofs.places.beyond_choice.Reads as beyond-choice-reads
+use Rattle.walk_looks.proofs.places.right_of.Reads as right-of-reads
+use Rattle.walk_symbols.proofs.signs.has_signs.Reads as has-signs-reads
+use Rattle.walk_symbols.proofs.signs.signs_in.Reads as signs-in-reads
 use Rattle.walk_fields.specs.declared.fields.FieldBox as fields
 use Rattle.walk_fields.specs.declared.fields.FieldSet.{FieldSet}
 use Rattle.walk_fields.specs.declared.fields.FieldSet.the-variants as field
 use Rattle.walk_fields.specs.declared.lines.Line as lines
 use Rattle.walk_fields.specs.declared.lines.ItemsSet.{ItemsSet}
 use Rattle.walk_fields.specs.declared.lines.ItemsSet.the-variants as items
+use Rattle.walk_fields.specs.Lists.{HeadDone, ItemsDone}
+use Rattle.walk_fields.specs.FieldLaws.{Head, head-at, head-short, empty-is, head-empty, head-symbol, field-given, list-given, list-goes, head-list}
+use Rattle.walk_fields.specs.ListLaws.{line-more}
+use Rattle.walk_fields.proofs.sides.sides_of.Reads as sides-of-reads
+use Rattle.walk_fields.proofs.growing.list_field.Reads as list-field-reads
+use Rattle.walk_fields.proofs.growing.kerned.Reads as kerned-reads
+use Rattle.walk_fields.proofs.growing.start.Reads as start-reads
+use Rattle.walk_fields.proofs.growing.styled.Reads as styled-reads
+use Rattle.walk_fields.proofs.fields.before_second.Reads as before-second-reads
+use Rattle.walk_fields.proofs.fields.empty_field.Reads as empty-field-reads
+use Rattle.walk_fields.proofs.fields.symbol_field.Reads as symbol-field-reads
+use Rattle.walk_items.specs.Standing.{One, Two}
+use Rattle.walk_items.specs.NoadLaws.{head-as, finished-by, firstMissing, secondMissing, first-lacks, second-lacks, third-lacks, LastDone, set-one, set-two, set-three, lacks-one, lacks-two, none-third, finish-given}
+use Rattle.walk_items.proofs.finished.Reads as finished-reads
 use Rattle.walk.specs.declared.lists.ItemSet.{ItemSet}
 use Rattle.walk.specs.declared.lists.StretchSet.{StretchSet}
 use Rattle.walk.specs.declared.lists.StretchSet.the-variants as stretch
-use Rattle.formula.specs.Format.{formulaLimit}
-use Rattle.walk_looks.specs.Seen.{part, TakenSpan}
-use Rattle.walk_items.specs.Standing.{One, Two}
-use Rattle.walk_fields.specs.Lists.{HeadDone, ItemsDone}
 use Rattle.walk.specs.Walked.{ItemDone, Along, StopsAt, StretchDone, Onward, ChoiceDone}
-use Rattle.walk_fields.specs.FieldLaws.{Head, head-at, head-short, empty-is, head-empty, head-symbol, field-given, list-given, list-goes, head-list}
 use Rattle.walk.proofs.ChoiceLaws.{choice-given, choice-lacks, choice-done}
-use Rattle.walk_looks.specs.PlaceLaws.{tail-given, right-alike}
-use Rattle.walk_items.specs.NoadLaws.{head-as, finished-by, firstMissing, secondMissing, first-lacks, second-lacks, third-lacks, LastDone, set-one, set-two, set-three, lacks-one, lacks-two, none-third, finish-given}
 use Rattle.walk.proofs.NoadDone.{noad-lacks, noad-done}
-use Rattle.walk_fields.specs.ListLaws.{line-more}
 use Rattle.walk.proofs.AlongLaws.{kern-done, style-done, rest-given, item-lacks, item-along, along-start, along-next, along-stop, along-halt, shifted, along-stretch, along-done}
-use Rattle.walk_fields.proofs.sides.sides_of.Reads as sides-of-reads
-use Rattle.walk_symbols.proofs.signs.has_signs.Reads as has-signs-reads
-use Rattle.walk_symbols.proofs.signs.signs_in.Reads as signs-in-reads
-use Rattle.walk_fields.proofs.growing.list_field.Reads as list-field-reads
 use Rattle.walk.proofs.lists.set_choice.Reads as set-choice
 use Rattle.walk.proofs.lists.set_choice.Kinds as set-choice-kinds
 use Rattle.walk.proofs.lists.+set_choice+set_field+set_given+set_item+set_items+set_noad+set_onward+set_second+set_stretch+set_third.Lts-set_choice as set-choice-lts
@@ -108,17 +119,6 @@ use Rattle.walk.proofs.lists.+set_choice+set_field+set_given+set_item+s
 use Rattle.walk.proofs.lists.set_third.Reads as set-third
 use Rattle.walk.proofs.lists.set_third.Kinds as set-third-kinds
 use Rattle.walk.proofs.lists.+set_choice+set_field+set_given+set_item+set_items+set_noad+set_onward+set_second+set_stretch+set_third.Lts-set_third as set-third-lts
-use Rattle.walk_items.proofs.finished.Reads as finished-reads
-use Rattle.walk_looks.proofs.current.restyled.Reads as restyled-reads
-use Rattle.walk_looks.proofs.current.taken_span.Reads as taken-span-reads
-use Rattle.walk_fields.proofs.growing.kerned.Reads as kerned-reads
-use Rattle.walk_fields.proofs.growing.start.Reads as start-reads
-use Rattle.walk_fields.proofs.growing.styled.Reads as styled-reads
-use Rattle.walk_fields.proofs.fields.before_second.Reads as before-second-reads
-use Rattle.walk_fields.proofs.fields.empty_field.Reads as empty-field-reads
-use Rattle.walk_fields.proofs.fields.symbol_field.Reads as symbol-field-reads
-use Rattle.walk_looks.proofs.places.beyond_choice.Reads as beyond-choice-reads
-use Rattle.walk_looks.proofs.places.right_of.Reads as right-of-reads
 use Rattle.walk.proofs.lists.+set_choice+set_field+set_given+set_item+set_items+set_noad+set_onward+set_second+set_stretch+set_third.{statement}
 use Rattle.walk.proofs.lists.+set_choice+set_field+set_given+set_item+set_items+set_noad+set_onward+set_second+set_stretch+set_third.Tie.{close}
 

@@ -7,14 +7,14 @@ use lib.ListN.{length}
 use borrow.Author.Needs.{needs}
 use Rattle.formula.specs.Places.{listPlace}
 use Rattle.formula.specs.PlacesLaws.{Chosen, choice-at}
+use Rattle.formula_fields.proofs.field_head.Reads as field-head-reads
+use Rattle.formula_fields.proofs.list_place.Reads as list-place-reads
 use Rattle.walk_looks.specs.Seen.{listsBefore}
 use Rattle.walk_looks.specs.TakenLaws.{taken-is-list, span-in, span-taken}
 use Rattle.walk_looks.proofs.current.taken_span.Statement.{statement}
 use Rattle.walk_looks.proofs.current.taken_span.Tie as tie
 use Rattle.walk_looks.proofs.current.taken_span.Reads as reads
 use Rattle.walk_looks.proofs.current.taken_span.Lts as lts
-use Rattle.formula_fields.proofs.field_head.Reads as field-head-reads
-use Rattle.formula_fields.proofs.list_place.Reads as list-place-reads
 use Rattle.walk_looks.proofs.current.lists_before.Reads as lists-before-reads
 
 abbrev claims : lts.Claims

@@ -16,6 +16,10 @@ use Rattle.formula.specs.Places.{choiceLists}
 use Rattle.formula.specs.PlacesLaws.{step, choice-at}
 use Rattle.spacing.specs.declared.classes.Neighbour.the-variants.{Atom}
 use Rattle.spacing.specs.Values.{neighbourAs}
+use Rattle.formula_fields.proofs.fields_end.Reads as fields-end-reads
+use Rattle.formula_fields.proofs.list_place.Reads as list-place-reads
+use Rattle.formula_openings.proofs.opening.Reads as opening-reads
+use Rattle.spacing.proofs.classes.class_of.Reads as class-of-reads
 use Rattle.walk_looks.specs.PlaceLaws.{rest-opens, next-some, atom-seen, kern-seen, style-seen, Looked, looked-start, looked-step, looked-done}
 use Rattle.walk_looks.specs.TakenLaws.{choice-seen}
 use Rattle.walk_looks.proofs.places.look_at.Reads as look-at
@@ -24,10 +28,6 @@ use Rattle.walk_looks.proofs.places.+look_at+look_over.Lts-look_at as l
 use Rattle.walk_looks.proofs.places.look_over.Reads as look-over
 use Rattle.walk_looks.proofs.places.look_over.Kinds as look-over-kinds
 use Rattle.walk_looks.proofs.places.+look_at+look_over.Lts-look_over as look-over-lts
-use Rattle.formula_fields.proofs.fields_end.Reads as fields-end-reads
-use Rattle.formula_fields.proofs.list_place.Reads as list-place-reads
-use Rattle.formula_openings.proofs.opening.Reads as opening-reads
-use Rattle.spacing.proofs.classes.class_of.Reads as class-of-reads
 use Rattle.walk_looks.proofs.current.restyled.Reads as restyled-reads
 use Rattle.walk_looks.proofs.current.taken_span.Reads as taken-span-reads
 use Rattle.walk_looks.proofs.places.first_of.Reads as first-of-reads
