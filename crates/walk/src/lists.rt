@@ -556,7 +556,7 @@ fn set_given<'a>(
                 start(left, style),
                 buf,
             );
-            list_field(p, style, right, at, opening, end, set)
+            list_field(p, style, right, first, end, set)
         }
         FieldHead::CutSublist => FieldSet::Whole(empty_field(end)),
     }

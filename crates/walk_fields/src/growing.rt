@@ -1,6 +1,5 @@
 // How a line grows, from nothing to a whole list.
 
-ghost use Prim.Native.Nat.{_+_};
 ghost use Rattle.scaled.specs.Signed.{Within};
 ghost use Rattle.formula.specs.Format.{formulaLimit};
 ghost use Rattle.boxes.specs.Values.{parametersIn};
@@ -115,22 +114,21 @@ pub fn extended(line: Line, class: Class, x: Sp, size: Size, run: Run) -> Line
     }
 }
 
-// A list as a field: its items stand behind its opening bytes, which stand at `at` of the item, and go to `end`.
+// A list as a field: its items go from `first` to `end` of its item.
 pub fn list_field(
     p: &Parameters,
     style: Style,
     right: Neighbour,
-    at: usize,
-    opening: usize,
+    first: usize,
     end: usize,
     set: ItemsSet,
 ) -> FieldSet
-    requires { ⌜ ListGoes (at + opening) set ⌝ }
-    ensures { λ r. ⌜ ListField (parametersIn (now (p .entry))) style (neighbourAs right) (at + opening) end set r ⌝ }
+    requires { ⌜ ListGoes first set ⌝ }
+    ensures { λ r. ⌜ ListField (parametersIn (now (p .entry))) style (neighbourAs right) first end set r ⌝ }
 {
     match set {
         ItemsSet::Whole(line) => FieldSet::Whole(closed_field(p, style, right, end, line)),
-        ItemsSet::Missing(place) => FieldSet::Missing(at + opening + place),
+        ItemsSet::Missing(place) => FieldSet::Missing(first + place),
     }
 }
 

@@ -1,7 +1,6 @@
 -- `list_field` meets its contract: each arm is a clause of `ListField`.
 -- Assumes nothing.
 use mathlib.Core.Path.{refl, subst}
-use Prim.Native.Nat.{_+_, _<_, _^_}
 use native.Mathlib.Omega.{arith}
 use borrow.Author.Needs.{needs}
 use Rattle.walk_fields.specs.Fields.{ListGoes}
@@ -10,20 +9,12 @@ use Rattle.walk_fields.proofs.growing.list_field.Tie as tie
 
 closed-field-requires : tie.Need-closed-field-requires
 closed-field-requires c κs =
-    let start = c .before .before .before in subst (ListGoes (start .args .at + start .args .opening)) (c .before .set .given .1) (start .pre)
+    let start = c .before .before .before in subst (ListGoes (start .args .first)) (c .before .set .given .1) (start .pre)
 
--- the place of a missing symbol, counted from the item
-missing-goes : (c : tie.After-known-told2) →
-    let a = c .before .before .before .args in
-    a .at + a .opening + c .before .set2 .given .0 .0 < 2 ^ 64
-missing-goes c =
-    let start = c .before .before .before in subst (ListGoes (start .args .at + start .args .opening)) (c .before .set2 .given .1) (start .pre)
-
-add-opening : tie.Need-add-t12
-add-opening c = omega (arith, missing-goes c)
-
-add-place : tie.Need-add-t13
-add-place c = omega (arith, missing-goes c)
+add-place : tie.Need-add-t11
+add-place c =
+    let start = c .before .before .before in
+    omega (arith, subst (ListGoes (start .args .first)) (c .before .set2 .given .1) (start .pre))
 
 returns : tie.Need-returns
 returns c = rw (c .before .before .set .given .1) (c .closed-field .ensures)
@@ -38,7 +29,6 @@ list-field-spec =
     (λ c. search needs)
     closed-field-requires
     (λ c. search needs)
-    add-opening
     add-place
     returns
     returns-2)
