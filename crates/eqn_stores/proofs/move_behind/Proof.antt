@@ -6,11 +6,11 @@ use Prim.Native.Nat.{_+_, _-_, _≤_}
 use native.Mathlib.Omega.{arith}
 use lib.ListN.{length}
 use borrow.Author.Needs.{needs}
-use Rattle.eqn_read.proofs.SetsLaws.{moved, moved-length, move-start, move-out, move-one}
-use Rattle.eqn_read.proofs.stores.move_behind.Statement.{statement}
-use Rattle.eqn_read.proofs.stores.move_behind.Tie as tie
-use Rattle.eqn_read.proofs.stores.move_behind.Reads as reads
-use Rattle.eqn_read.proofs.stores.move_behind.Lts as lts
+use Rattle.eqn_stores.specs.SetsLaws.{moved, moved-length, move-start, move-out, move-one}
+use Rattle.eqn_stores.proofs.move_behind.Statement.{statement}
+use Rattle.eqn_stores.proofs.move_behind.Tie as tie
+use Rattle.eqn_stores.proofs.move_behind.Reads as reads
+use Rattle.eqn_stores.proofs.move_behind.Lts as lts
 
 abbrev Inv-loop : tie.InvT-loop
 Inv-loop out₀ start n left₀ out left = (left ≤ n) × (out ≡ moved out₀ start 2 n left)

@@ -5,10 +5,10 @@ use Prim.Native.Nat.{_+_, _-_}
 use native.Mathlib.Numerals.{add-one}
 use native.Mathlib.Omega.{arith}
 use borrow.Author.Needs.{needs}
-use Rattle.eqn_read.proofs.SetsLaws.{place-two, place-three, place-four}
-use Rattle.eqn_read.proofs.WroteLaws.{opening-short, opening-long}
-use Rattle.eqn_read.proofs.stores.close_list.Statement.{statement}
-use Rattle.eqn_read.proofs.stores.close_list.Tie as tie
+use Rattle.eqn_stores.specs.SetsLaws.{place-two, place-three, place-four}
+use Rattle.eqn_stores.proofs.OpeningLaws.{opening-short, opening-long}
+use Rattle.eqn_stores.proofs.close_list.Statement.{statement}
+use Rattle.eqn_stores.proofs.close_list.Tie as tie
 
 returns : tie.Need-returns
 returns c =

@@ -1,4 +1,5 @@
-// Bytes written into a buffer; those that have no room are passed over.
+// Bytes of a formula written into a buffer; those that have no room are passed over, so that an empty buffer serves to learn how long a
+// formula is.
 
 ghost use mathlib.Core.Path.{_≡_};
 ghost use mathlib.Core.List.{[], _∷_};
@@ -6,8 +7,7 @@ ghost use Prim.Native.Nat.{_+_, _≤_};
 ghost use lib.ListN.{take, drop, set};
 ghost use lib.Seq.{sets};
 ghost use Rattle.formula.specs.Format.{formulaLimit};
-ghost use Rattle.eqn_read.specs.Values.{Ends, ListClosed};
-use crate::Made;
+ghost use Rattle.eqn_stores.specs.Values.{Ends, ListClosed};
 use formula::EMPTY_KIND;
 use formula::FORMULA_LIMIT;
 use formula::GREATEST_SHORT;
@@ -15,6 +15,12 @@ use formula::LIST_KIND;
 use formula::LONG_LIST_KIND;
 use formula::SHORT_OPENING_BYTES;
 use formula::SYMBOL_KIND;
+
+// A part has been written up to a place, or the formula is too long or too deep.
+pub enum Made {
+    Next(usize),
+    TooLarge,
+}
 
 // A place up to which a formula has been written, if it is not too long.
 pub fn up_to(end: usize) -> Made

@@ -3,8 +3,8 @@
 use mathlib.Core.Path.{sym}
 use lib.Seq.{set-out}
 use borrow.Author.Needs.{needs}
-use Rattle.eqn_read.proofs.stores.put.Statement.{statement}
-use Rattle.eqn_read.proofs.stores.put.Tie as tie
+use Rattle.eqn_stores.proofs.put.Statement.{statement}
+use Rattle.eqn_stores.proofs.put.Tie as tie
 
 returns-2 : tie.Need-returns-2
 returns-2 c = let a = c .before .args in sym (set-out (a .out .now) (a .at) (a .b) (c .if1 .left))

@@ -2,9 +2,9 @@
 -- Assumes nothing.
 use native.Mathlib.Numerals.{add-one}
 use borrow.Author.Needs.{needs}
-use Rattle.eqn_read.proofs.SetsLaws.{place-two}
-use Rattle.eqn_read.proofs.stores.put_three.Statement.{statement}
-use Rattle.eqn_read.proofs.stores.put_three.Tie as tie
+use Rattle.eqn_stores.specs.SetsLaws.{place-two}
+use Rattle.eqn_stores.proofs.put_three.Statement.{statement}
+use Rattle.eqn_stores.proofs.put_three.Tie as tie
 
 returns : tie.Need-returns
 returns c =
