@@ -33,7 +33,7 @@ use Rattle.spacing.specs.Classes.{Neighbour}
 use Rattle.arrange.specs.declared.Manner.{Manner}
 use Rattle.arrange.specs.declared.Manner.the-variants.{Plain}
 use Rattle.arrange.specs.Arrange.{firstStyle, secondStyle, thirdStyle, firstManner}
-use Rattle.arrange.proofs.ArrangeLaws.{own-before, own-behind, few-own}
+use Rattle.arrange_rules.specs.ArrangeLaws.{own-before, own-behind, few-own}
 use Rattle.nodes.specs.NodeLaws.{length-moved}
 use Rattle.setting.specs.Setting.{Box, Line, Symbol, FieldBox, symbolIn, symbolFieldBox, signsIn, hasSigns, itemNodes, itemBox, taken, styleBehind, nextClass, start, noSides, sidesOf, isEnlarged, placed, setItems, setItem, setField, setList, takenStart}
 use Rattle.setting.specs.SettingLaws.{length-own, signs-found, setItem-choice, missingItem-choice, closed-nodes}

@@ -1,3 +1,2 @@
--- How many own nodes an item has; the worked examples. Assumes nothing.
+-- How many own nodes an item has. Assumes nothing.
 pub mod ArrangeLaws
-mod Examples

@@ -16,7 +16,7 @@ use Rattle.script_reasons.specs.Reasons.{scriptReasons}
 use Rattle.script_reasons.specs.Stages.{scriptStages}
 use Rattle.fractions.specs.Reasons.{fractionReasons}
 use Rattle.fractions.specs.Stages.{fractionStages}
-use Rattle.arrange.specs.Arrange.{isGiven, setsLimits, nucleusOf}
+use Rattle.arrange_rules.specs.Arrange.{isGiven, setsLimits, nucleusOf}
 
 -- the test is whether the scripts are set as limits
 abbrev pub besideReasons : Parameters → Style → Bool → Nucleus → Option Size → Option Size → Option Reasons

@@ -22,7 +22,7 @@ use Rattle.script_reasons.specs.ReasonsLaws.{scripts-true, scripts-used}
 use Rattle.fractions.specs.Reasons.{fractionReasons}
 use Rattle.fractions.specs.Stages.{fractionStages}
 use Rattle.fractions.specs.ReasonsLaws.{fraction-true, fraction-used}
-use Rattle.arrange.specs.Arrange.{isGiven, setsLimits, nucleusOf, setScripts, arrange}
+use Rattle.arrange_rules.specs.Arrange.{isGiven, setsLimits, nucleusOf, setScripts, arrange}
 use Rattle.arrange.specs.Reasons.{besideReasons, reasons, itemStages}
 
 -- how far up the field stands that is shifted up, a superscript or a numerator

@@ -7,7 +7,7 @@ use Rattle.boxes.specs.declared.styles.Style.{Style}
 use Rattle.boxes.specs.Parameters.{Parameters}
 use Rattle.delimiters.specs.declared.HasSigns.{HasSigns}
 use Rattle.arrange.specs.declared.OwnCounts.{OwnCounts}
-use Rattle.arrange.specs.Arrange.{OwnCounts as OwnCountsOf, ownCounts}
+use Rattle.arrange_rules.specs.Arrange.{OwnCounts as OwnCountsOf, ownCounts}
 
 -- counts of own nodes, two at most
 pub record CountsAre (n : OwnCountsOf) (r : OwnCounts) : Type 0 where

@@ -1,6 +1,19 @@
 // An item, from the shapes of its fields: its size, where its fields stand, and its own nodes.
 pub mod why;
 
+ghost use mathlib.Core.Path.{_≡_};
+ghost use Prim.Native.Nat.{_≤_};
+ghost use Rattle.arrange.specs.Arrange.{baseStyle, firstStyle, secondStyle, thirdStyle, opManner, baseManner, firstManner};
+ghost use Rattle.arrange_rules.specs.Arrange.{isGiven, setsLimits, nucleusOf, countsBehind, countsBefore, rootCounts, signCount, baseCounts, barCounts};
+ghost use Rattle.arrange_rules.specs.Arrange as rule;
+ghost use Rattle.boxes.specs.Values.{parametersIn, shapeAs, scriptAs, arrangedAs};
+ghost use Rattle.delimiters.specs.Values.{signsAs};
+ghost use Rattle.nucleus.specs.Values.{nucleusAs};
+ghost use Rattle.arrange.specs.Values.{CountsAre, OwnCountsAre};
+ghost use Rattle.boxes.specs.Bounds.{ModerateShape, Bounded};
+ghost use Rattle.nucleus.specs.Bounds.{ModerateNucleus};
+use arrange_rules::fence_nucleus;
+use arrange_rules::root_nucleus;
 use boxes::Arranged;
 use boxes::Script;
 use boxes::Shape;
@@ -9,8 +22,6 @@ use boxes::parameters::AXIS_HEIGHT;
 use boxes::parameters::Parameters;
 use boxes::parameters::parameter;
 use boxes::parameters::rule_thickness;
-use boxes::signed_around;
-use boxes::signed_before;
 use boxes::size_of;
 use boxes::styles::Style;
 use boxes::styles::cramped_style;
@@ -22,40 +33,22 @@ use boxes::styles::subscript_style;
 use boxes::styles::superscript_style;
 use delimiters::HasSigns;
 use delimiters::Signs;
-use delimiters::sign_at;
 use delimiters::sign_size;
-use fences::Fence;
 use fences::fence_of;
 use formula::Base;
 use formula::Kind;
 use formula_kinds::is_op;
-use fractions::bar_thickness;
-use fractions::fraction;
+use fraction_places::bar_thickness;
+use fraction_places::fraction;
 use fractions::has_bar;
 use limits::has_limits;
 use limits::limited;
 use nucleus::Nucleus;
-use nucleus::atom_nucleus;
-use nucleus::overline;
-use nucleus::underline;
-use roots::Radical;
+use nucleus_kinds::atom_nucleus;
+use nucleus_kinds::overline;
+use nucleus_kinds::underline;
 use roots::root;
-use scaled::Sp;
-use scripts::scripted;
-ghost use mathlib.Core.Path.{_≡_};
-ghost use Prim.Native.Nat.{_≤_};
-ghost use Rattle.arrange.specs.Arrange.{baseStyle, firstStyle, secondStyle, thirdStyle, opManner, baseManner, firstManner, isGiven, setsLimits, rootNucleus, fenceNucleus, nucleusOf, countsBehind, countsBefore, rootCounts, signCount, baseCounts, barCounts};
-ghost use Rattle.arrange.specs.Arrange as rule;
-ghost use Rattle.boxes.specs.Values.{parametersIn, shapeAs, scriptAs, arrangedAs};
-ghost use Rattle.delimiters.specs.Values.{signsAs};
-ghost use Rattle.roots.specs.Values.{radicalAs};
-ghost use Rattle.fences.specs.Values.{fenceAs};
-ghost use Rattle.nucleus.specs.Values.{nucleusAs};
-ghost use Rattle.arrange.specs.Values.{CountsAre, OwnCountsAre};
-ghost use Rattle.boxes.specs.Bounds.{ModerateShape, Bounded};
-ghost use Rattle.roots.specs.Bounds.{ModerateRadical};
-ghost use Rattle.fences.specs.Bounds.{ModerateFence};
-ghost use Rattle.nucleus.specs.Bounds.{ModerateNucleus};
+use script_places::scripted;
 
 // The style of the first field of an item in a style.
 pub fn first_style(kind: Kind, style: Style) -> Style
@@ -211,41 +204,6 @@ fn nucleus_of(
             let fence = fence_of(p, style, sign_size(before), size_of(x), sign_size(behind));
             fence_nucleus(fence, signs)
         }
-    }
-}
-
-// Rule 11: a root's sign, if there is one, and its rule stand before its field.
-fn root_nucleus(radical: Radical, signs: Signs) -> Nucleus
-    requires { ⌜ ModerateRadical radical ⌝ }
-    ensures { λ r. ⌜ (nucleusAs r ≡ rootNucleus (radicalAs radical) (signsAs signs)) × ModerateNucleus r ⌝ }
-{
-    let size = radical.size;
-    let first = radical.nucleus;
-    let before = signs.before;
-    Nucleus {
-        size,
-        first,
-        delta: Sp(0),
-        plain: false,
-        own: signed_before(sign_at(radical.sign, before), radical.rule),
-    }
-}
-
-// Rule 19: a fence's delimiters, if there are any, stand on either side of its list.
-fn fence_nucleus(fence: Fence, signs: Signs) -> Nucleus
-    requires { ⌜ ModerateFence fence ⌝ }
-    ensures { λ r. ⌜ (nucleusAs r ≡ fenceNucleus (fenceAs fence) (signsAs signs)) × ModerateNucleus r ⌝ }
-{
-    let size = fence.size;
-    let first = fence.inside;
-    let before = signs.before;
-    let behind = signs.behind;
-    Nucleus {
-        size,
-        first,
-        delta: Sp(0),
-        plain: false,
-        own: signed_around(sign_at(fence.left, before), sign_at(fence.right, behind)),
     }
 }
 

@@ -10,7 +10,7 @@ use boxes::styles::Style;
 use delimiters::Signs;
 use formula::Base;
 use formula::Kind;
-use fractions::why::fraction_reasons;
+use fraction_places::why::fraction_reasons;
 use reasons::ItemReasons;
 use script_reasons::script_reasons;
 ghost use mathlib.Core.Path.{_≡_};

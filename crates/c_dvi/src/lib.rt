@@ -9,7 +9,7 @@ ghost use Rattle.c_words.specs.Words.{noAnswer, reportSpace, reportWords, ifSpa
 use c_words::NO_ANSWER;
 use c_words::REPORT_SPACE;
 use c_words::put_report;
-use dvi::report_of;
+use dvi_calls::report_of;
 
 // Writes nodes as a page's body.
 #[no_mangle]
@@ -21,7 +21,7 @@ pub extern "C" fn torfianka_dvi_write(nodes: &[u8], body: &mut [u8], answer: &mu
     if answer.len() < REPORT_SPACE {
         return NO_ANSWER;
     }
-    put_report(report_of(dvi::write(nodes, body)), answer)
+    put_report(report_of(dvi_calls::write(nodes, body)), answer)
 }
 
 // Reads the nodes back from a page's body.
@@ -34,5 +34,5 @@ pub extern "C" fn torfianka_dvi_read(body: &[u8], nodes: &mut [u8], answer: &mut
     if answer.len() < REPORT_SPACE {
         return NO_ANSWER;
     }
-    put_report(report_of(dvi::read(body, nodes)), answer)
+    put_report(report_of(dvi_calls::read(body, nodes)), answer)
 }

@@ -7,14 +7,14 @@ ghost use lib.ListN.{length};
 ghost use Rattle.answers.specs.Lent.{lentOf, indexAfter, clientIndexAfter};
 ghost use Rattle.answers.specs.Answers.{measured, setting, bufferAfter};
 ghost use Rattle.answers.specs.Small.{Small};
-ghost use Rattle.layout.specs.Values.{answeredAs};
+ghost use Rattle.layout_answers.specs.Values.{answeredAs};
 ghost use Rattle.c_words.specs.Words.{noAnswer, answerSpace, ifSpace};
 ghost use Rattle.c_set.specs.AnswerWords.{answerWords};
 use c_words::ANSWER_SPACE;
 use c_words::NO_ANSWER;
 use c_words::count_word;
-use layout::Answer;
-use layout::report::report_of;
+use layout_answers::Answer;
+use layout_answers::report::report_of;
 
 // Measures a formula.
 #[no_mangle]

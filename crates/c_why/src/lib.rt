@@ -8,15 +8,15 @@ ghost use lib.ListN.{length};
 ghost use Rattle.formula.specs.Format.{formulaLimit};
 ghost use Rattle.answers.specs.Lent.{lentOf, indexAfter, clientIndexAfter};
 ghost use Rattle.answers.specs.Why.{whyOf};
-ghost use Rattle.layout.specs.Values.{whyAnswerAs};
+ghost use Rattle.layout_answers.specs.Values.{whyAnswerAs};
 ghost use Rattle.c_words.specs.Words.{noAnswer, answerSpace, ifSpace};
 ghost use Rattle.c_why.specs.ReasonWords.{reasonWord, reasonWords};
 use c_words::ANSWER_SPACE;
 use c_words::NO_ANSWER;
 use c_words::count_word;
-use layout::why::WhyAnswer;
-use layout::why::why;
-use layout::why::why_report;
+use layout_answers::why::WhyAnswer;
+use layout_answers::why::why_report;
+use layout_why::why;
 use reasons::Reason;
 
 // What decided the shifts of the item that starts at a place.

@@ -7,9 +7,10 @@ pub mod BodyLaws
 pub mod Profile
 pub mod Forms
 pub mod Answers
-pub mod Values
 pub mod ProfileLaws
 pub mod FrontLaws
+pub mod LeadLaws
+pub mod Stores
 pub mod ReadingLaws
 pub mod RoundTrip
 pub mod Examples

@@ -21,8 +21,8 @@ use Rattle.eqn_grammar.specs.Grammar.{Row, rowTokens}
 use Rattle.eqn_meaning.specs.Meaning.{itemsWithin, fitsFormula}
 use Rattle.eqn_meaning.specs.Writing.{textOf}
 use Rattle.eqn_meaning.specs.ResultLaws.{fits-within-limits, large-past-limits}
-use Rattle.eqn_read.specs.declared.Made.{Made}
-use Rattle.eqn_read.specs.declared.Made.the-variants as made
+use Rattle.eqn_stores.specs.declared.Made.{Made}
+use Rattle.eqn_stores.specs.declared.Made.the-variants as made
 use Rattle.eqn_read.specs.Values.{Wrote}
 use Rattle.eqn_write.specs.declared.Put.{Put}
 use Rattle.eqn_write.specs.declared.Put.the-variants.{Next, Textless}

@@ -20,8 +20,8 @@ use Rattle.eqn_meaning.specs.Meaning.{fitsFormula}
 use Rattle.eqn_meaning.specs.Writing.{textOf}
 use Rattle.results.specs.Results.{refused, Answered, accepted, refusal}
 use Rattle.eqn_meaning.specs.Answers.{readResult, unknownWord, outsideGrammar, tooLarge, noRoom, badNames, withoutText}
-use Rattle.eqn_read.specs.declared.Made.{Made}
-use Rattle.eqn_read.specs.declared.Made.the-variants.{Next, TooLarge as Large}
+use Rattle.eqn_stores.specs.declared.Made.{Made}
+use Rattle.eqn_stores.specs.declared.Made.the-variants.{Next, TooLarge as Large}
 use Rattle.eqn_write.specs.declared.Put.{Put}
 use Rattle.eqn_write.specs.declared.Put.the-variants as put
 use Rattle.eqn_write.specs.declared.Put.the-variants.{Textless}

@@ -18,8 +18,8 @@ ghost use Rattle.eqn_calls.specs.Values.{answeredAs, Derives, TestsDone,
 use eqn_check::Tested;
 use eqn_names::Checked;
 use eqn_names::FirstUnknown;
-use eqn_read::Made;
 use eqn_read::making::put_row;
+use eqn_stores::Made;
 use eqn_write::Put;
 use eqn_write::writing::put_list;
 use formula::DEPTH_LIMIT;

@@ -31,9 +31,10 @@ use Rattle.eqn_grammar.specs.Parsing.{bare}
 use Rattle.eqn_meaning.specs.Meaning.{fractionItem, limitedItem, limitField, oversOperand, scriptedOperand, scriptField, primaryNucleus, itemWithin, fieldWithin, atomOf}
 use Rattle.eqn_cuts.specs.declared.Split.{Split}
 use Rattle.eqn_cuts.specs.Values.{SplitAt}
-use Rattle.eqn_read.specs.declared.Made.{Made}
-use Rattle.eqn_read.specs.declared.Made.the-variants.{Next, TooLarge}
-use Rattle.eqn_read.specs.Values.{Ends, Onward, Wrote, ItemMade, OverMade, AtomMade, OperandMade, ScriptMade, FieldsMade, ClassFound}
+use Rattle.eqn_stores.specs.declared.Made.{Made}
+use Rattle.eqn_stores.specs.declared.Made.the-variants.{Next, TooLarge}
+use Rattle.eqn_stores.specs.Values.{Ends}
+use Rattle.eqn_read.specs.Values.{Onward, Wrote, ItemMade, OverMade, AtomMade, OperandMade, ScriptMade, FieldsMade, ClassFound}
 use Rattle.eqn_read.proofs.WroteLaws.{goes, reached, onward-from, onward-stop, ends-wrote, wrote-then, wrote-stop}
 use Rattle.eqn_read.proofs.MeantLaws.{asOvers, as-field, item-plain, limitsItem, item-lower, item-upper}
 use Rattle.eqn_read.proofs.CutLaws.{CutSlices, limited-slices, scripted-slices, single-slices, fraction-slices}

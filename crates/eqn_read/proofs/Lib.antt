@@ -1,6 +1,5 @@
 -- Laws that the proofs cite.
 -- Assumes nothing.
-mod SetsLaws
 mod WroteLaws
 mod MeantLaws
 mod CutLaws

@@ -31,9 +31,10 @@ use Rattle.eqn_grammar.specs.Parsing.{bare}
 use Rattle.eqn_meaning.specs.Meaning.{inList, rowItems, limitField, oversOperand, primaryNucleus, itemsWithin, fieldWithin}
 use Rattle.eqn_cuts.specs.Values.{LastStarts}
 use Rattle.eqn_cuts.specs.CutLaws.{none-behind}
-use Rattle.eqn_read.specs.declared.Made.{Made}
-use Rattle.eqn_read.specs.declared.Made.the-variants.{Next, TooLarge}
-use Rattle.eqn_read.specs.Values.{isBare, Ends, Onward, foundFamily, foundCode, ListClosed, Wrote, RowMade, OverMade, OperandMade, ScriptMade, PrimaryMade, ClassFound}
+use Rattle.eqn_stores.specs.declared.Made.{Made}
+use Rattle.eqn_stores.specs.declared.Made.the-variants.{Next, TooLarge}
+use Rattle.eqn_stores.specs.Values.{Ends, ListClosed}
+use Rattle.eqn_read.specs.Values.{isBare, Onward, foundFamily, foundCode, Wrote, RowMade, OverMade, OperandMade, ScriptMade, PrimaryMade, ClassFound}
 use Rattle.eqn_read.proofs.WroteLaws.{goes, ends-onward, onward-stop, closed-onward, ends-wrote, list-deep, list-stop, list-wrote, alone}
 use Rattle.eqn_read.proofs.MeantLaws.{Some, overs-some, field-bare, field-listed}
 use Rattle.eqn_read.proofs.WordLaws.{first-token, word-kind, foundClass, found-class, found-name}

@@ -18,9 +18,10 @@ use Rattle.eqn_grammar.specs.Splits.{firstExpression}
 use Rattle.eqn_grammar.specs.SplitLaws.{first-expression}
 use Rattle.eqn_meaning.specs.Meaning.{rowItems, itemsWithin}
 use Rattle.eqn_cuts.specs.Values.{ExpressionEnds}
-use Rattle.eqn_read.specs.declared.Made.{Made}
-use Rattle.eqn_read.specs.declared.Made.the-variants.{Next, TooLarge}
-use Rattle.eqn_read.specs.Values.{Ends, Onward, Wrote, RowMade, ItemMade}
+use Rattle.eqn_stores.specs.declared.Made.{Made}
+use Rattle.eqn_stores.specs.declared.Made.the-variants.{Next, TooLarge}
+use Rattle.eqn_stores.specs.Values.{Ends}
+use Rattle.eqn_read.specs.Values.{Onward, Wrote, RowMade, ItemMade}
 use Rattle.eqn_read.proofs.WroteLaws.{goes, ends-onward, onward-stop, wrote-nothing, wrote-then, wrote-stop}
 use Rattle.eqn_read.proofs.PrimaryLaws.{no-tokens}
 use Rattle.eqn_read.proofs.MeantLaws.{Some, some-append, limited-some}

@@ -1,5 +1,4 @@
 -- What has been written of a whole follows from what has been written of its parts.
---     opening-short, opening-long     the bytes of a list's opening
 --     reached, goes          where a part ends
 --     ends-onward, onward-from, onward-stop, closed-onward     a place that lies onward
 --     ends-wrote             bytes that have been stored
@@ -11,8 +10,8 @@
 -- Assumes nothing.
 use mathlib.Core.Path.{_≡_, refl, ap, subst, subst⁻¹, _∙_}
 use mathlib.Core.Bool.{Bool, true, _&&_, and-true, false≢true}
-use mathlib.Core.List.{List, [], _∷_, _++_, append-nil}
-use Prim.Native.Nat.{ℕ, suc, _+_, _-_, _/_, _%_, _<_, _≤_}
+use mathlib.Core.List.{List, [], _++_, append-nil}
+use Prim.Native.Nat.{ℕ, suc, _+_, _-_, _<_, _≤_}
 use native.Mathlib.Omega.{arith}
 use native.Mathlib.Decide.{decLt}
 use lib.ListN.{length, length-append}
@@ -25,24 +24,11 @@ use Rattle.formula.specs.Format.{formulaLimit}
 use Rattle.formula_spelling.specs.Spelling.{listOpening, spelling, itemSpelling, fieldSpelling}
 use Rattle.eqn_meaning.specs.Meaning.{itemsWithin, itemWithin, fieldWithin}
 use Rattle.eqn_meaning.specs.SpelledLength.{spelling-length}
-use Rattle.eqn_read.specs.declared.Made.{Made}
-use Rattle.eqn_read.specs.declared.Made.the-variants.{Next, TooLarge}
-use Rattle.eqn_read.specs.Values.{Ends, Onward, ShortClosed, LongClosed, ListClosed, Wrote, Written, Unwritten}
-use Rattle.eqn_read.proofs.SetsLaws.{sets-append, sets-behind, sets-moved}
-
--- ---- the opening of a list
-
-pub opening-short : (n : ℕ) → n ≤ greatestShort → listOpening n ≡ 2 ∷ n % 256 ∷ n / 256 % 256 ∷ []
-unfolding listOpening
-opening-short n short = let high : n / 256 % 256 ≡ n / 256 = omega arith in rw (le-leb n greatestShort short, high, listOpening)
-
-pub opening-long : (n : ℕ) → greatestShort < n → n ≤ formulaLimit →
-    listOpening n ≡ 3 ∷ n % 256 ∷ n / 256 % 256 ∷ n / 65_536 ∷ 0 ∷ []
-unfolding listOpening fourBytes
-opening-long n long most =
-    let third : n / 65_536 % 256 ≡ n / 65_536 = omega arith in
-    let fourth : n / 16_777_216 % 256 ≡ 0 = omega arith in
-    rw (lt-leb n greatestShort long, third, fourth, listOpening)
+use Rattle.eqn_stores.specs.declared.Made.{Made}
+use Rattle.eqn_stores.specs.declared.Made.the-variants.{Next, TooLarge}
+use Rattle.eqn_stores.specs.Values.{Ends, ShortClosed, LongClosed, ListClosed}
+use Rattle.eqn_read.specs.Values.{Onward, Wrote, Written, Unwritten}
+use Rattle.eqn_stores.specs.SetsLaws.{sets-append, sets-behind, sets-moved}
 
 -- ---- bytes behind bytes
 

@@ -1,6 +1,6 @@
 -- What the code's values stand for, and what its functions promise.
 --     isBare                   an expression is one word or one group
---     Ends, Onward             a place up to which a formula has been written
+--     Onward                   a place up to which a formula has been written
 --     Wrote                    bytes written at a place, if they nest no deeper than allowed and do not pass the greatest length
 --     RowMade and the like     of any names and derivation whose tokens are those of the slice: what it means has been written
 -- Assumes nothing.
@@ -8,22 +8,21 @@ use mathlib.Core.Path.{_≡_}
 use mathlib.Core.Bool.{Bool, true, false, _&&_}
 use mathlib.Core.List.{List, _++_}
 use mathlib.Core.Option.{Option, none, some}
-use Prim.Native.Nat.{ℕ, _+_, _-_, _≤_, _<_}
-use lib.ListN.{length, take, drop}
+use Prim.Native.Nat.{ℕ, _+_, _≤_, _<_}
+use lib.ListN.{length}
 use lib.Seq.{sets}
 use Rattle.eqn_tokens.specs.Tokens.{Token, tokensIn}
 use Rattle.eqn_names.specs.Names.{Name, Records}
 use Rattle.eqn_names.specs.declared.WordSymbol.{WordSymbol}
 use Rattle.eqn_names.specs.declared.WordSymbol.the-variants.{Named, Unnamed}
-use Rattle.formula.specs.Tree.{greatestShort}
 use Rattle.formula.specs.Format.{formulaLimit}
 use Rattle.formula.specs.Heads.{classNumber}
-use Rattle.formula_spelling.specs.Spelling.{listOpening, spelling, itemSpelling, fieldSpelling}
+use Rattle.formula_spelling.specs.Spelling.{spelling, itemSpelling, fieldSpelling}
 use Rattle.eqn_grammar.specs.Grammar.{Row, Limited, NoOvers, noOvers, someOvers, Overs, Scripted, Primary, rowTokens, limitedTokens, oversTokens, scriptedTokens, primaryTokens}
 use Rattle.eqn_grammar.specs.Splits.{lastOutside}
 use Rattle.eqn_meaning.specs.Meaning.{rowItems, limitedItem, limitField, oversOperand, scriptedOperand, primaryNucleus, itemsWithin, itemWithin, fieldWithin}
-use Rattle.eqn_read.specs.declared.Made.{Made}
-use Rattle.eqn_read.specs.declared.Made.the-variants.{Next, TooLarge}
+use Rattle.eqn_stores.specs.declared.Made.{Made}
+use Rattle.eqn_stores.specs.declared.Made.the-variants.{Next, TooLarge}
 use Rattle.eqn_tokens.specs.declared.tokens.Keyword.the-variants.{Sub, Sup, Over}
 
 abbrev pub isNone : {A : Type 0} → Option A → Bool
@@ -36,10 +35,6 @@ isBare ts = isNone (lastOutside Over ts) && isNone (lastOutside Sup ts) && isNon
 
 -- ---- bytes
 
-abbrev pub Ends : ℕ → Made → Type 0
-Ends end (Next e) = (e ≡ end) × (end ≤ formulaLimit)
-Ends end TooLarge = formulaLimit < end
-
 abbrev pub Onward : ℕ → Made → Type 0
 Onward at (Next e) = (at ≤ e) × (e ≤ formulaLimit)
 Onward at TooLarge = Unit {0}
@@ -51,19 +46,6 @@ foundFamily Unnamed = 0
 abbrev pub foundCode : WordSymbol → ℕ
 foundCode (Named symbol) = symbol .code
 foundCode Unnamed = 0
-
--- the opening of a list whose items stand three bytes behind `at`; those of a long list have been moved
-pub record ShortClosed (before : List ℕ) (at end : ℕ) (after : List ℕ) (r : Made) : Type 0 where
-  pub ends : Ends end r
-  pub stored : after ≡ sets before at (listOpening (end - (at + 3)))
-
-pub record LongClosed (before : List ℕ) (at end : ℕ) (after : List ℕ) (r : Made) : Type 0 where
-  pub ends : Ends (end + 2) r
-  pub stored : after ≡ sets (sets before (at + 5) (take (end - (at + 3)) (drop (at + 3) before))) at (listOpening (end - (at + 3)))
-
-abbrev pub ListClosed : List ℕ → ℕ → ℕ → List ℕ → Made → Type 0
-ListClosed before at end after r =
-    (end - (at + 3) ≤ greatestShort → ShortClosed before at end after r) × (greatestShort < end - (at + 3) → LongClosed before at end after r)
 
 -- ---- what has been written
 

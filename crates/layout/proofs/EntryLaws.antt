@@ -4,41 +4,31 @@
 --     no-room-is       setting, where there is no room: the answer, and the buffer as it was
 --     written-is       the buffer after an acceptance, from what the walk drew at its front
 --     measured-refused, refused-is     a formula that is refused
---     why-is, why-refused     what decided the shifts of an item, and why that is not said
---     examined-found   what the walk finds is what is found of the whole
 -- Assumes nothing.
-use mathlib.Core.Path.{_≡_, sym, ap, ap₂, subst, _∙_}
+use mathlib.Core.Path.{_≡_, sym, ap, subst, _∙_}
 use mathlib.Core.List.{List, [], _++_, append-nil}
-use mathlib.Core.Option.{Option, none, some}
+use mathlib.Core.Option.{none, some}
 use Prim.Native.Nat.{ℕ, _*_, _≤_, _<_}
 use native.Mathlib.Omega.{arith}
 use lib.ListN.{length, take, drop, length-take, drop-of-length-le}
 use Rattle.font.specs.Font.{fontWith}
-use Rattle.formula.specs.Reading.{Read, readFormula}
 use Rattle.formula.specs.Places.{treeOf}
 use Rattle.boxes.specs.declared.styles.Style.{Style}
 use Rattle.boxes.specs.declared.Size.{Size}
-use Rattle.boxes.specs.Styles.{styleOf}
-use Rattle.reasons.specs.declared.ItemReasons.{ItemReasons}
-use Rattle.reasons.specs.Values.{itemReasonsAs}
 use Rattle.nodes.specs.Nodes.{Node, bytesOf, bytesInNode}
 use Rattle.nodes.specs.Drawn.{Drawn}
 use Rattle.setting.specs.Setting.{Box, noSides, setList}
 use Rattle.answers.specs.Lent.{Lent}
-use Rattle.answers.specs.Answers.{Result, boxed, resultOf, Answered, accepted, measured, setting, bufferAfter}
+use Rattle.answers.specs.Answers.{boxed, resultOf, Answered, accepted, measured, setting, bufferAfter}
 use Rattle.answers.specs.AnswersLaws as answers
-use Rattle.answers.specs.Why.{whyRefusal, ifPicked, whyBy, reasonsIn, whyOf}
-use Rattle.picking.specs.Picking.{PlaceReasonsAre}
-use Rattle.walk.specs.declared.lists.ItemsSet.{ItemsSet}
-use Rattle.walk.specs.declared.lists.ItemsSet.the-variants.{Whole, Missing}
-use Rattle.walk.specs.Walked.{ListDone}
-use Rattle.layout.specs.declared.Answer.{Answer}
-use Rattle.layout.specs.declared.Answer.the-variants.{Accepted, NoRoom}
-use Rattle.layout.specs.declared.why.WhyAnswer.the-variants as answer
-use Rattle.layout.specs.declared.Finding.{Finding}
-use Rattle.layout.specs.declared.Finding.the-variants.{Boxed, Refused}
-use Rattle.layout.specs.Values.{answeredAs, whyAnswerAs}
-use Rattle.layout.specs.Answering.{Refuses, Reads, Boxes, Examined, FindingOf}
+use Rattle.walk_fields.specs.declared.lines.ItemsSet.{ItemsSet}
+use Rattle.walk_fields.specs.declared.lines.ItemsSet.the-variants.{Whole, Missing}
+use Rattle.walk_fields.specs.Lists.{ListDone}
+use Rattle.layout_answers.specs.declared.Answer.{Answer}
+use Rattle.layout_answers.specs.declared.Answer.the-variants.{Accepted, NoRoom}
+use Rattle.layout_answers.specs.Values.{answeredAs}
+use Rattle.layout_find.specs.Found.{Refuses, Reads, Boxes}
+use Rattle.layout_find.specs.FoundLaws.{found-is}
 
 -- the front of a buffer that is just long enough for the nodes
 drawn-whole : (ns : List Node) (n : ℕ) (b ys : List ℕ) → n ≡ length ns → bytesInNode * n ≤ length b →
@@ -56,15 +46,15 @@ module _ (style : ℕ) (table client : List ℕ) (lent : Lent) (formula : List �
       abbrev found : Box
       found = setList (fontWith table client) noSides s (treeOf formula)
 
-      found-is : resultOf style table client lent formula ≡ boxed found
-      found-is = g .result-is ∙ h .result-is
+      is-found : resultOf style table client lent formula ≡ boxed found
+      is-found = found-is g h
 
       pub measured-is : answeredAs (Accepted z n) ≡ measured style table client lent formula
       measured-is =
           let answer : answeredAs (Accepted z n) ≡ accepted found =
           λ i. record { number = 0; place = 0; size = h .size-is i; count = h .count-is i }
           in
-          answer ∙ sym (answers.measured-boxed noSides style table client lent formula found found-is)
+          answer ∙ sym (answers.measured-boxed noSides style table client lent formula found is-found)
 
       count-measured : n ≡ measured style table client lent formula .count
       count-measured = ap (λ (a : Answered). a .count) measured-is
@@ -72,13 +62,13 @@ module _ (style : ℕ) (table client : List ℕ) (lent : Lent) (formula : List �
       pub setting-is : (room : ℕ) → bytesInNode * n ≤ room → answeredAs (Accepted z n) ≡ setting style table client lent formula room
       setting-is room l =
           measured-is
-          ∙ sym (answers.set-boxed noSides style table client lent formula found found-is room (subst (λ (k : ℕ). bytesInNode * k ≤ room) count-measured l))
+          ∙ sym (answers.set-boxed noSides style table client lent formula found is-found room (subst (λ (k : ℕ). bytesInNode * k ≤ room) count-measured l))
 
       pub no-room-is : (b : List ℕ) → length b < bytesInNode * n →
           (answeredAs NoRoom ≡ setting style table client lent formula (length b)) × (b ≡ bufferAfter style table client lent formula b)
       no-room-is b l =
           let lacks : length b < bytesInNode * measured style table client lent formula .count = rw count-measured at l in
-          let e = answers.no-room-is noSides style table client lent formula found found-is b lacks in
+          let e = answers.no-room-is noSides style table client lent formula found is-found b lacks in
           (sym (e .0), sym (e .1))
 
       pub written-is : (b ys : List ℕ) (r : ItemsSet) → bytesInNode * n ≤ length b →
@@ -92,30 +82,11 @@ module _ (style : ℕ) (table client : List ℕ) (lent : Lent) (formula : List �
           let front : ys ≡ bytesOf (found .nodes) = drawn-whole (found .nodes) n b ys (h .count-is) l (done .1 (h .fits)) in
           ap (λ (r : List ℕ). r ++ drop (bytesInNode * n) b) front
           ∙ ap (λ (k : ℕ). bytesOf (found .nodes) ++ drop (bytesInNode * k) b) count-measured
-          ∙ sym (answers.buffer-boxed noSides style table client lent formula found found-is b (subst (λ (k : ℕ). bytesInNode * k ≤ length b) count-measured l))
-
-      pub why-is : (place : ℕ) (e : ItemReasons) → PlaceReasonsAre (fontWith table client) s place (treeOf formula) e →
-          ifPicked (itemReasonsAs e) ≡ whyOf style table client lent formula place
-      unfolding whyOf whyBy reasonsIn
-      why-is place e tells =
-          ap ifPicked (tells (h .none-missing) (h .fits))
-          ∙ sym (ap (λ (r : Result). whyBy r (reasonsIn (fontWith table client) (styleOf style) (readFormula formula) place)) found-is
-          ∙ ap₂ (λ (u : Option Style) (r : Read). ifPicked (reasonsIn (fontWith table client) u r place)) (g .style-is) (g .tree-is))
-
-    pub examined-found : (r : Finding) → Examined s table client formula r → FindingOf style table client lent formula i j r
-    examined-found (Boxed u z n) h = (rw (h .0) g, rw (h .0) (h .1))
-    examined-found (Refused a) h =
-        record { number = h .number; place = h .place; result-is = g .result-is ∙ h .result-is; answer-is = h .answer-is }
+          ∙ sym (answers.buffer-boxed noSides style table client lent formula found is-found b (subst (λ (k : ℕ). bytesInNode * k ≤ length b) count-measured l))
 
   module _ (a : Answer) (h : Refuses a (resultOf style table client lent formula)) where
     pub measured-refused : answeredAs a ≡ measured style table client lent formula
     measured-refused = h .answer-is ∙ sym (answers.measured-refused noSides style table client lent formula _ _ (h .result-is))
-
-    pub why-refused : (place : ℕ) → whyAnswerAs (answer.Refused a) ≡ whyOf style table client lent formula place
-    unfolding whyOf whyBy
-    why-refused place =
-        ap (λ (r : Answered). whyRefusal (r .number) (r .place)) (h .answer-is)
-        ∙ sym (ap (λ (r : Result). whyBy r (reasonsIn (fontWith table client) (styleOf style) (readFormula formula) place)) (h .result-is))
 
     pub refused-is : (b : List ℕ) →
         (answeredAs a ≡ setting style table client lent formula (length b)) × (b ≡ bufferAfter style table client lent formula b)

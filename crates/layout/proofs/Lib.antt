@@ -1,3 +1,2 @@
--- From what the code finds to the answers of the definition. Assumes nothing.
-mod AnsweringLaws
+-- From what was found to the answers of the definition. Assumes nothing.
 mod EntryLaws

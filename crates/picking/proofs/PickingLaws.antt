@@ -32,17 +32,17 @@ use Rattle.formula.specs.Places.{Readable, treeOf, headBytes, contents, fieldOf
 use Rattle.formula.specs.Slices.{tail-part}
 use Rattle.formula.specs.HeadLaws.{head-fits, list-opening, opening-some, contents-shorter}
 use Rattle.formula.specs.PlacesLaws.{tree-none, Noad, noad-at, choice-at, good-some, items-bytes, item-bytes, field-bytes, second-field, third-field}
+use Rattle.formula.specs.Format.{formulaLimit}
 use Rattle.boxes.specs.declared.styles.Style.{Style}
 use Rattle.arrange.specs.Arrange.{firstStyle, secondStyle, thirdStyle}
 use Rattle.setting.specs.Setting.{taken, takenStart}
 use Rattle.setting.specs.Picked.{Picked, _orIn_, ifReached, pickIn, pickAt, pickField}
 use Rattle.setting.specs.PickedLaws.{pickIn-here, pickIn-later, pickField-before, pickField-past, pickAt-choice}
-use Rattle.walk.specs.declared.current.Span.{Span}
-use Rattle.walk.specs.declared.places.Sight.{Sight}
-use Rattle.walk.specs.Bounds.{longest}
-use Rattle.walk.specs.Seen.{part, listsBefore, TakenSpan, ItemSeen}
-use Rattle.walk.proofs.PlaceLaws.{Between, stepped, here, tree-is, next-between}
-use Rattle.walk.proofs.ChoiceLaws.{place-taken}
+use Rattle.walk_looks.specs.declared.current.Span.{Span}
+use Rattle.walk_looks.specs.declared.places.Sight.{Sight}
+use Rattle.walk_looks.specs.Seen.{part, listsBefore, TakenSpan, ItemSeen}
+use Rattle.walk_looks.specs.PlaceLaws.{Between, stepped, here, tree-is, next-between}
+use Rattle.walk_looks.specs.TakenLaws.{place-taken}
 use Rattle.picking.specs.declared.Step.{Step}
 use Rattle.picking.specs.declared.Step.the-variants as step
 use Rattle.picking.specs.Picking.{pickSpan, SpanIn, HeldSpan, enteredOf, pickHead, HeadIs, Entered, spanOf, StepDone, behindOf, ShortStep, Spotted}
@@ -118,7 +118,7 @@ module _ (want : Option Picked) (s : List ℕ) {at place : ℕ} (low : at ≤ pl
           rw e (ap (take (b - a)) (sym (drop-drop a at s)))
 
 -- a step keeps within the list
-pub short-step : (want : Option Picked) (place : ℕ) (b : List ℕ) (n : ℕ) (r : Step) → StepDone want place b r → n + length b ≤ longest → ShortStep n r
+pub short-step : (want : Option Picked) (place : ℕ) (b : List ℕ) (n : ℕ) (r : Step) → StepDone want place b r → n + length b ≤ formulaLimit → ShortStep n r
 short-step want place b n step.Nowhere h l = tt
 short-step want place b n (step.Here u) h l = tt
 short-step want place b n (step.Into u first end) h l = (h .span .ordered, omega (arith, h .span .inside))

@@ -37,7 +37,7 @@ use Rattle.setting.specs.Setting.{signsIn, setField}
 use Rattle.setting.specs.FieldAlone.{fields-there, fields-fit}
 use Rattle.setting.specs.Picked.{Picked, pickIn, pickedReasons, reasonsAt}
 use Rattle.setting.specs.PickedLaws.{picked-there}
-use Rattle.walk.specs.Walked.{ListGiven, FieldGiven}
+use Rattle.walk_fields.specs.Lists.{ListGiven, FieldGiven}
 use Rattle.picking.specs.Picking.{Spotted, ThirdGiven, ShapeDone, HeadReasonsAre, ItemReasonsAre, PlaceReasonsAre}
 
 -- ---- what the walk asks of a field

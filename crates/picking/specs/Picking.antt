@@ -19,6 +19,7 @@ use Rattle.formula.specs.declared.Opening.the-variants.{Fields}
 use Rattle.formula.specs.Tree.{Items, Field, openingBytes}
 use Rattle.formula.specs.Heads.{openingOf}
 use Rattle.formula.specs.Places.{Readable, treeOf, hasThird, second, third, fieldEnd, fieldIn, thirdIn, itemOf, GoodThird}
+use Rattle.formula.specs.Format.{formulaLimit}
 use Rattle.boxes.specs.declared.styles.Style.{Style}
 use Rattle.boxes.specs.declared.Shape.{Shape}
 use Rattle.boxes.specs.Values.{parametersIn, shapeAs}
@@ -31,9 +32,8 @@ use Rattle.setting.specs.Missing.{missingField, missingItems}
 use Rattle.setting.specs.Fitting.{fieldFits, itemsFit}
 use Rattle.setting.specs.Picked.{Picked, picked, ifReached, pickIn, pickAt, pickField, pickedReasons, reasonsAt}
 use Rattle.setting.specs.PickedLaws.{Sound}
-use Rattle.walk.specs.declared.current.Span.{Span}
-use Rattle.walk.specs.Bounds.{longest}
-use Rattle.walk.specs.Seen.{part}
+use Rattle.walk_looks.specs.declared.current.Span.{Span}
+use Rattle.walk_looks.specs.Seen.{part}
 use Rattle.picking.specs.declared.Step.{Step}
 use Rattle.picking.specs.declared.Step.the-variants as step
 use Rattle.picking.specs.declared.Spot.{Spot}
@@ -100,7 +100,7 @@ behindOf n (step.Into u first end) = step.Into u (n + first) (n + end)
 abbrev pub ShortStep : ℕ → Step → Type 0
 ShortStep n step.Nowhere = Unit {0}
 ShortStep n (step.Here u) = Unit {0}
-ShortStep n (step.Into u first end) = (first ≤ end) × (n + end ≤ longest)
+ShortStep n (step.Into u first end) = (first ≤ end) × (n + end ≤ formulaLimit)
 
 -- ---- the item that is picked
 
@@ -124,7 +124,7 @@ pub record ThirdGiven (t u i j : List ℕ) (p : List (List ℕ)) (kind : Kind) (
   pub parameters-are : parametersIn p ≡ fontWith t u .parameter
   pub good : GoodThird s (hasThird kind) at
   pub inside : at ≤ length s
-  pub short : length s ≤ longest
+  pub short : length s ≤ formulaLimit
 
 -- the shape of a field, if nothing is missing of it and it fits
 pub record ShapeDone (F : Font) (u : Style) (manner : Manner) (at : ℕ) (f : Field) (r : Shape) : Type 0 where

@@ -8,7 +8,7 @@ ghost use Rattle.formula.specs.declared.Opening.the-variants.{Fields};
 ghost use Rattle.formula.specs.Heads.{openingOf};
 ghost use Rattle.formula.specs.Places as tree;
 ghost use Rattle.setting.specs.Picked.{pickIn};
-ghost use Rattle.walk.specs.Bounds.{longest};
+ghost use Rattle.formula.specs.Format.{formulaLimit};
 ghost use Rattle.picking.specs.Picking.{HeldSpan, enteredOf, behindOf, ShortStep, pickHead, StepDone, PickDone};
 
 pub mod why;
@@ -25,9 +25,9 @@ use formula_fields::field_head;
 use formula_kinds::has_third;
 use formula_kinds::opening_bytes;
 use formula_openings::opening;
-use walk::current::Span;
-use walk::current::taken_span;
-use walk::places::look_at;
+use walk_looks::current::Span;
+use walk_looks::current::taken_span;
+use walk_looks::places::look_at;
 
 // An item with fields that is set in a style, and the end of the list that holds it.
 enum Spot {
@@ -46,7 +46,7 @@ enum Step {
 
 // The item that starts at a place of the list s, which starts in a style.
 fn pick(style: Style, place: usize, s: &[u8]) -> Spot
-    requires { ⌜ tree.Readable (now s) × (length (now s) ≤ longest) ⌝ }
+    requires { ⌜ tree.Readable (now s) × (length (now s) ≤ formulaLimit) ⌝ }
     ensures { λ r. ⌜ PickDone style place (now (s .entry)) r ⌝ }
 {
     let mut first: usize = 0;
@@ -72,7 +72,7 @@ fn pick(style: Style, place: usize, s: &[u8]) -> Spot
 
 // From a list: to the item in which the place lies.
 fn step_in(style: Style, place: usize, s: &[u8]) -> Step
-    requires { ⌜ tree.Readable (now s) × (length (now s) ≤ longest) ⌝ }
+    requires { ⌜ tree.Readable (now s) × (length (now s) ≤ formulaLimit) ⌝ }
     ensures { λ r. ⌜ StepDone (pickIn style place (tree.treeOf (now (s .entry)))) place (now (s .entry)) r ⌝ }
 {
     let mut at: usize = 0;
@@ -104,7 +104,7 @@ fn behind(before: usize, step: Step) -> Step
 
 // From the item at the head of s, in which the place lies.
 fn step_at(style: Style, place: usize, s: &[u8]) -> Step
-    requires { ⌜ tree.Readable (now s) × (length (now s) ≤ longest) × (0 < length (now s)) × (place < tree.itemSize (now s) (openingOf (now s))) ⌝ }
+    requires { ⌜ tree.Readable (now s) × (length (now s) ≤ formulaLimit) × (0 < length (now s)) × (place < tree.itemSize (now s) (openingOf (now s))) ⌝ }
     ensures { λ r. ⌜ StepDone (pickHead style place (now (s .entry))) place (now (s .entry)) r ⌝ }
 {
     let o = opening(s);
@@ -119,7 +119,7 @@ fn step_at(style: Style, place: usize, s: &[u8]) -> Step
 
 // From an item with fields.
 fn step_from(style: Style, kind: Kind, place: usize, s: &[u8]) -> Step
-    requires { ⌜ tree.Readable (now s) × (length (now s) ≤ longest) × (openingOf (now s) ≡ Fields kind) × (place < tree.end (now s) kind) ⌝ }
+    requires { ⌜ tree.Readable (now s) × (length (now s) ≤ formulaLimit) × (openingOf (now s) ≡ Fields kind) × (place < tree.end (now s) kind) ⌝ }
     ensures { λ r. ⌜ StepDone (pickHead style place (now (s .entry))) place (now (s .entry)) r ⌝ }
 {
     if place == 0 {
@@ -141,7 +141,7 @@ fn step_from(style: Style, kind: Kind, place: usize, s: &[u8]) -> Step
 
 // The items of the field whose kind byte stands at a place of s, up to the field's end; one that is no list has none.
 fn held(s: &[u8], at: usize) -> Span
-    requires { ⌜ tree.GoodFieldAt (now s) at × (at ≤ length (now s)) × (length (now s) ≤ longest) ⌝ }
+    requires { ⌜ tree.GoodFieldAt (now s) at × (at ≤ length (now s)) × (length (now s) ≤ formulaLimit) ⌝ }
     ensures { λ r. ⌜ HeldSpan (now (s .entry)) at r ⌝ }
 {
     let head = field_head(&s[at..]);

@@ -7,7 +7,7 @@ ghost use Rattle.formula.specs.Heads.{openingOf};
 ghost use Rattle.formula.specs.Places as tree;
 ghost use Rattle.arrange.specs.declared.Manner.the-variants.{Plain};
 ghost use Rattle.arrange.specs.Arrange.{thirdStyle};
-ghost use Rattle.walk.specs.Walked.{ListGiven, FieldGiven};
+ghost use Rattle.walk_fields.specs.Lists.{ListGiven, FieldGiven};
 ghost use Rattle.picking.specs.Picking.{ThirdGiven, ShapeDone, HeadReasonsAre, ItemReasonsAre, PlaceReasonsAre};
 use crate::Spot;
 use crate::held;
@@ -27,9 +27,9 @@ use formula_kinds::has_third;
 use formula_kinds::opening_bytes;
 use formula_openings::opening;
 use reasons::ItemReasons;
-use walk::fields::FieldSet;
 use walk::lists::set_field;
-use walk::signs::signs_in;
+use walk_fields::fields::FieldSet;
+use walk_symbols::signs::signs_in;
 
 // Of the item that starts at a place of the list s, which starts in a style.
 pub fn why_at<'a>(

@@ -23,7 +23,7 @@ use Rattle.script_reasons.specs.Reasons.{firstGreatest, widened, pairReasons, s
 use Rattle.limits.specs.Limits.{limited}
 use Rattle.fractions.specs.Fractions.{fractionShifts, parted, shiftsWithoutBar, cleared, shiftsWithBar, fraction}
 use Rattle.fractions.specs.Reasons.{fractionReasons}
-use Rattle.arrange.specs.Arrange.{nucleusOf, arrange}
+use Rattle.arrange_rules.specs.Arrange.{nucleusOf, arrange}
 use Rattle.arrange.specs.Reasons.{reasons}
 use Rattle.nodes.specs.Nodes.{moved, signedBytes, nodeBytes, bytesOf}
 use Rattle.nodes.specs.Bounds.{nodesFit}

@@ -47,8 +47,9 @@ use Rattle.limits.specs.Limits.{hasLimits}
 use Rattle.fractions.specs.Fractions.{barThickness, hasBar, fraction}
 use Rattle.arrange.specs.declared.Manner.{Manner}
 use Rattle.arrange.specs.declared.Manner.the-variants.{Plain}
-use Rattle.arrange.specs.Arrange.{firstStyle, secondStyle, thirdStyle, firstManner, isGiven, setsLimits, rootNucleus, fenceNucleus, nucleusOf, arrange}
-use Rattle.arrange.proofs.ArrangeLaws.{atom-own, set-own}
+use Rattle.arrange.specs.Arrange.{firstStyle, secondStyle, thirdStyle, firstManner}
+use Rattle.arrange_rules.specs.Arrange.{isGiven, setsLimits, rootNucleus, fenceNucleus, nucleusOf, arrange}
+use Rattle.arrange_rules.specs.ArrangeLaws.{atom-own, set-own}
 use Rattle.nodes.specs.Nodes.{moved, bytesOf}
 use Rattle.nodes.specs.Bounds.{greatestLength, within}
 use Rattle.nodes.specs.HullLaws.{within-true}

@@ -5,7 +5,7 @@ use files::CLIENT_SPACE;
 use files::TABLE_SPACE;
 use files::read_table;
 use font_index::INDEX_WORDS;
-use layout::Answer;
+use layout_answers::Answer;
 use libc::STDIN_FILENO;
 
 // The longest formula that the program takes. The library takes longer ones.

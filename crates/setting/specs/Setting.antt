@@ -36,7 +36,8 @@ use Rattle.roots.specs.Roots.{signExtent}
 use Rattle.fences.specs.Fences.{fenceExtent}
 use Rattle.arrange.specs.declared.Manner.{Manner}
 use Rattle.arrange.specs.declared.Manner.the-variants.{Plain, Enlarged, Fenced}
-use Rattle.arrange.specs.Arrange.{arrange, firstStyle, secondStyle, thirdStyle, firstManner}
+use Rattle.arrange.specs.Arrange.{firstStyle, secondStyle, thirdStyle, firstManner}
+use Rattle.arrange_rules.specs.Arrange.{arrange}
 use Rattle.nodes.specs.Nodes.{Node, glyph, rule, moved}
 
 pub record Box : Type 0 where

@@ -10,7 +10,7 @@ mod typed;
 ghost use Prim.Native.Nat.{_≤_};
 ghost use lib.ListN.{length};
 use font_index::INDEX_WORDS;
-use layout::why::why;
+use layout_why::why;
 
 // A case that is longer is cut.
 const TABLE_SPACE: usize = 50_000;

@@ -6,8 +6,8 @@ use crate::MOST_CASES;
 use crate::read_byte;
 use crate::read_long;
 use crate::read_word;
-use dvi::Answer;
-use dvi::report_of;
+use dvi_calls::Answer;
+use dvi_calls::report_of;
 use libc::STDOUT_FILENO;
 use texts::write_refusal;
 
@@ -53,10 +53,10 @@ fn show(letter: u8, bytes: &[u8], room: usize, result: &mut [u8]) {
         return;
     }
     if letter == b'N' {
-        let answer = dvi::write(bytes, &mut result[..room]);
+        let answer = dvi_calls::write(bytes, &mut result[..room]);
         write_answer(answer, result);
     } else {
-        let answer = dvi::read(bytes, &mut result[..room]);
+        let answer = dvi_calls::read(bytes, &mut result[..room]);
         write_answer(answer, result);
     }
 }

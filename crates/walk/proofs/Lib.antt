@@ -1,9 +1,4 @@
 -- What the proofs of several functions use. Assumes nothing.
-mod FieldBoxLaws
-mod FieldLaws
-pub mod PlaceLaws
-mod ItemLaws
-mod Laid
-mod ListLaws
-pub mod ChoiceLaws
-mod NoadLaws
+mod AlongLaws
+mod ChoiceLaws
+mod NoadDone

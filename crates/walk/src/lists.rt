@@ -13,25 +13,10 @@ ghost use Rattle.formula.specs.Places as tree;
 ghost use Rattle.boxes.specs.Values.{parametersIn};
 ghost use Rattle.spacing.specs.Values.{neighbourAs};
 ghost use Rattle.setting.specs.Setting.{noSides};
-ghost use Rattle.walk.specs.Standing.{SecondGiven, ThirdGiven, SecondDone, ThirdDone};
-ghost use Rattle.walk.specs.Walked.{ListGiven, ItemsGiven, OpenedGiven, FieldGiven, ListDone, ItemsDone, StretchDone, Onward, ChoiceDone, ItemDone, HeadDone, ListGoes, ListField};
-use crate::current::restyled;
-use crate::current::taken_span;
-use crate::fields::FieldBox;
-use crate::fields::FieldSet;
-use crate::fields::empty_field;
-use crate::fields::symbol_field;
-use crate::growing::closed_field;
-use crate::growing::kerned;
-use crate::growing::start;
-use crate::growing::styled;
-use crate::items::finished;
-use crate::lines::Line;
-use crate::places::beyond_choice;
-use crate::places::right_of;
-use crate::sides::sides_of;
-use crate::signs::has_signs;
-use crate::signs::signs_in;
+ghost use Rattle.walk_fields.specs.Lists.{ListGiven, ItemsGiven, FieldGiven, ListDone, ItemsDone, HeadDone};
+ghost use Rattle.walk_fields.specs.Fields.{ListGoes, ListField};
+ghost use Rattle.walk.specs.Walked.{SecondGiven, ThirdGiven, SecondDone, ThirdDone};
+ghost use Rattle.walk.specs.Walked.{OpenedGiven, StretchDone, Onward, ChoiceDone, ItemDone};
 use arrange::Manner;
 use arrange::OwnCounts;
 use arrange::first_manner;
@@ -56,12 +41,25 @@ use formula_kinds::opening_bytes;
 use formula_openings::opening;
 use nodes::room;
 use spacing::classes::Neighbour;
-
-// The line with the items of a list, or the place in the list of the first symbol that the font lacks.
-pub enum ItemsSet {
-    Whole(Line),
-    Missing(usize),
-}
+use walk_fields::fields::FieldBox;
+use walk_fields::fields::FieldSet;
+use walk_fields::fields::before_second;
+use walk_fields::fields::empty_field;
+use walk_fields::fields::symbol_field;
+use walk_fields::growing::kerned;
+use walk_fields::growing::list_field;
+use walk_fields::growing::start;
+use walk_fields::growing::styled;
+use walk_fields::lines::ItemsSet;
+use walk_fields::lines::Line;
+use walk_fields::sides::sides_of;
+use walk_items::finished;
+use walk_looks::current::restyled;
+use walk_looks::current::taken_span;
+use walk_looks::places::beyond_choice;
+use walk_looks::places::right_of;
+use walk_symbols::signs::has_signs;
+use walk_symbols::signs::signs_in;
 
 // How many bytes an item has, and the line with it; or the place in the item of its first missing symbol. A choice is left alone.
 enum ItemSet {
@@ -390,7 +388,7 @@ fn set_second<'a>(
     ensures { λ r. ⌜ SecondDone (fontWith (now (table .entry)) (now (client .entry))) (neighbourAs beyond) (now (s .entry)) kind line own a (now (buf .entry)) r (now (buf .exit)) ⌝ }
 {
     let style = line.style;
-    let j = room(own.before + a.run.count + own.behind, buf.len());
+    let j = room(before_second(own, a.run.count), buf.len());
     let second = second_style(kind, style);
     let y = set_field(
         table,
@@ -444,7 +442,7 @@ fn set_third<'a>(
     ensures { λ r. ⌜ ThirdDone (fontWith (now (table .entry)) (now (client .entry))) (neighbourAs beyond) (now (s .entry)) kind line own a b (now (buf .entry)) r (now (buf .exit)) ⌝ }
 {
     let style = line.style;
-    let n = own.before + a.run.count + own.behind + b.run.count;
+    let n = before_second(own, a.run.count) + b.run.count;
     let k = room(n, buf.len());
     let z = if has_third(kind) {
         set_field(
@@ -561,23 +559,5 @@ fn set_given<'a>(
             list_field(p, style, right, first, end, set)
         }
         FieldHead::CutSublist => FieldSet::Whole(empty_field(end)),
-    }
-}
-
-// A list as a field: its items go from `first` to `end` of its item.
-fn list_field(
-    p: &Parameters,
-    style: Style,
-    right: Neighbour,
-    first: usize,
-    end: usize,
-    set: ItemsSet,
-) -> FieldSet
-    requires { ⌜ ListGoes first set ⌝ }
-    ensures { λ r. ⌜ ListField (parametersIn (now (p .entry))) style (neighbourAs right) first end set r ⌝ }
-{
-    match set {
-        ItemsSet::Whole(line) => FieldSet::Whole(closed_field(p, style, right, end, line)),
-        ItemsSet::Missing(place) => FieldSet::Missing(first + place),
     }
 }

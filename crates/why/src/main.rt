@@ -6,9 +6,9 @@ use files::TABLE_SPACE;
 use files::read_table;
 use font_index::INDEX_WORDS;
 use formula::FORMULA_LIMIT;
-use layout::Answer;
-use layout::why::WhyAnswer;
-use layout::why::why;
+use layout_answers::Answer;
+use layout_answers::why::WhyAnswer;
+use layout_why::why;
 use libc::STDIN_FILENO;
 
 // A style and a place.

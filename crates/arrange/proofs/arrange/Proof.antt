@@ -3,7 +3,7 @@
 -- Assumes nothing.
 use mathlib.Core.Path.{_≡_}
 use borrow.Author.Needs.{needs}
-use Rattle.arrange.specs.Arrange.{setScripts, arrange}
+use Rattle.arrange_rules.specs.Arrange.{setScripts, arrange}
 use Rattle.boxes.specs.Values.{parametersIn, shapeAs, scriptAs}
 use Rattle.boxes.specs.Bounds.{ModerateScript}
 use Rattle.delimiters.specs.Values.{signsAs}

@@ -6,7 +6,7 @@ use Rattle.nucleus.specs.Nucleus.{overline, underline}
 use Rattle.delimiters.specs.Values.{signsAs}
 use Rattle.roots.specs.Roots.{Radical, root}
 use Rattle.fences.specs.Fences.{Fence}
-use Rattle.arrange.specs.Arrange.{rootNucleus, fenceNucleus, nucleusOf}
+use Rattle.arrange_rules.specs.Arrange.{rootNucleus, fenceNucleus, nucleusOf}
 use Rattle.arrange.proofs.nucleus_of.Statement.{statement}
 use Rattle.arrange.proofs.nucleus_of.Tie as tie
 

@@ -1,7 +1,7 @@
 -- `own_counts` meets its contract: each arm is a clause of the definition.
 -- Assumes nothing.
 use borrow.Author.Needs.{needs}
-use Rattle.arrange.specs.Arrange.{ownCounts}
+use Rattle.arrange_rules.specs.Arrange.{ownCounts}
 use Rattle.arrange.proofs.own_counts.Statement.{statement}
 use Rattle.arrange.proofs.own_counts.Tie as tie
 

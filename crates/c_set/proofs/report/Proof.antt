@@ -4,8 +4,8 @@ use native.Mathlib.Omega.{arith}
 use lib.ListN.{length-set}
 use Rattle.answers.specs.Answers.{Answered}
 use Rattle.answers.specs.Small.{Small}
-use Rattle.layout.specs.declared.report.SetReport.{SetReport}
-use Rattle.layout.specs.Reports.{setReportAs}
+use Rattle.layout_answers.specs.declared.report.SetReport.{SetReport}
+use Rattle.layout_answers.specs.Reports.{setReportAs}
 use Rattle.c_set.specs.AnswerWords.{answerWords}
 use Rattle.c_words.specs.WordsLaws.{five-stores, kept, count-kept}
 use borrow.Author.Needs.{needs}

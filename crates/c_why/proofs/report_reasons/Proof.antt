@@ -10,8 +10,8 @@ use Rattle.formula.specs.Format.{formulaLimit}
 use Rattle.reasons.specs.declared.Reason.{Reason}
 use Rattle.reasons.specs.declared.Reason.the-variants.{None, Drop, Sigma, XHeight, Gap, Psi, Clearance}
 use Rattle.answers.specs.Why.{WhyAnswered}
-use Rattle.layout.specs.declared.why.WhyReport.{WhyReport}
-use Rattle.layout.specs.Reports.{whyReportAs}
+use Rattle.layout_answers.specs.declared.why.WhyReport.{WhyReport}
+use Rattle.layout_answers.specs.Reports.{whyReportAs}
 use Rattle.c_why.specs.ReasonWords.{reasonWord, reasonWords}
 use Rattle.c_words.specs.WordsLaws.{five-stores, kept, count-kept}
 use borrow.Author.Needs.{needs}

@@ -4,8 +4,8 @@ use lib.ListN.{length, length-take}
 use borrow.Author.Needs.{needs}
 use Rattle.font.specs.FontLaws.{good-header}
 use Rattle.answers.specs.Lent.{lentOf}
-use Rattle.layout.specs.Answering.{Reads, Boxes}
-use Rattle.layout.proofs.AnsweringLaws.{given-list}
+use Rattle.layout_find.specs.Found.{Reads, Boxes}
+use Rattle.layout_find.specs.FoundLaws.{given-list}
 use Rattle.layout.proofs.EntryLaws.{setting-is, no-room-is, written-is, refused-is}
 use Rattle.layout.proofs.set.Statement.{statement}
 use Rattle.layout.proofs.set.Tie as tie

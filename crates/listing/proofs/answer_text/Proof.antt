@@ -1,6 +1,6 @@
 -- `answer_text` meets its contract, by the answer's number. Assumes nothing.
 use mathlib.Core.Path.{ap, _∙_}
-use Rattle.layout.specs.Reports.{setReportAs}
+use Rattle.layout_answers.specs.Reports.{setReportAs}
 use Rattle.listing.specs.Texts.{answerText}
 use Rattle.listing.proofs.TextLaws.{accepted-line, refused-line}
 use Rattle.texts.specs.PutLaws.{written-as}

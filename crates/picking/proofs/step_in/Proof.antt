@@ -8,7 +8,7 @@ use lib.ListN.{length, drop, length-take, length-drop}
 use Rattle.formula.specs.Slices.{tail-part}
 use Rattle.formula.specs.Places.{treeOf}
 use Rattle.setting.specs.Picked.{Picked, pickIn}
-use Rattle.walk.proofs.PlaceLaws.{rest-opens, next-some, next-between}
+use Rattle.walk_looks.specs.PlaceLaws.{rest-opens, next-some, next-between}
 use Rattle.picking.specs.declared.Step.{Step}
 use Rattle.picking.specs.Picking.{StepDone}
 use Rattle.picking.proofs.PickingLaws.{behind-done, short-step, Along, along-start, along-here, here-inside, along-next, along-done}

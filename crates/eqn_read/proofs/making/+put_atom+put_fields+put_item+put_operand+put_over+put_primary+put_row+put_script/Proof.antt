@@ -58,11 +58,11 @@ use Rattle.eqn_read.proofs.making.+put_atom+put_fields+put_item+put_ope
 use Rattle.eqn_read.proofs.making.class_of.Reads as class-of-reads
 use Rattle.eqn_read.proofs.making.is_bare.Reads as is-bare-reads
 use Rattle.eqn_read.proofs.making.put_found.Reads as put-found-reads
-use Rattle.eqn_read.proofs.stores.close_list.Reads as close-list-reads
-use Rattle.eqn_read.proofs.stores.put_empty.Reads as put-empty-reads
-use Rattle.eqn_read.proofs.stores.put_four.Reads as put-four-reads
-use Rattle.eqn_read.proofs.stores.put_three.Reads as put-three-reads
-use Rattle.eqn_read.proofs.stores.up_to.Reads as up-to-reads
+use Rattle.eqn_stores.proofs.close_list.Reads as close-list-reads
+use Rattle.eqn_stores.proofs.put_empty.Reads as put-empty-reads
+use Rattle.eqn_stores.proofs.put_four.Reads as put-four-reads
+use Rattle.eqn_stores.proofs.put_three.Reads as put-three-reads
+use Rattle.eqn_stores.proofs.up_to.Reads as up-to-reads
 use Rattle.eqn_read.proofs.making.+put_atom+put_fields+put_item+put_operand+put_over+put_primary+put_row+put_script.{statement}
 use Rattle.eqn_read.proofs.making.+put_atom+put_fields+put_item+put_operand+put_over+put_primary+put_row+put_script.Tie.{close}
 

@@ -6,7 +6,7 @@
 -- The places of the code that are spoken of have names (`Read`, `Turned`, `First`, `Second`, ..), and `a-of` leads from a place back to
 -- an earlier one, `a-start` to the member's start. Where a result is matched, one helper says what is known there (`chosen-set`,
 -- `chosen-lacks`; `list-head`; `turn-next`, `turn-stop`, `turn-halt`; `past`, `further-came`; `begun`, `rounded`, `failed`; `one`, `two`,
--- `three`, and `lacks-first` to `lacks-third`); each need follows by one law of `FieldLaws`, `ListLaws`, `ChoiceLaws` or `NoadLaws`.
+-- `three`, and `lacks-first` to `lacks-third`); each need follows by one law of `FieldLaws`, `AlongLaws`, `ChoiceLaws`, `NoadLaws` or `NoadDone`.
 -- Assumes nothing.
 use mathlib.Core.Path.{_≡_, refl, sym, subst, ap, ap₂, _∙_}
 use mathlib.Core.Logic.{⊎-elim}
@@ -31,6 +31,7 @@ use Rattle.formula.specs.Places.{treeOf, choiceLists, second, end}
 use Rattle.formula.specs.Slices.{tail-part}
 use Rattle.formula.specs.HeadLaws.{opening-fits, kern-small}
 use Rattle.formula.specs.PlacesLaws.{step, Noad, noad-at, Chosen, choice-at, third-good}
+use Rattle.formula.specs.Format.{formulaLimit}
 use Rattle.formula_fields.proofs.field_bytes.Reads as field-bytes-reads
 use Rattle.formula_fields.proofs.field_head.Reads as field-head-reads
 use Rattle.formula_kinds.proofs.has_third.Reads as has-third-reads
@@ -50,30 +51,44 @@ use Rattle.arrange.proofs.first_style.Reads as first-style-reads
 use Rattle.arrange.proofs.own_counts.Reads as own-counts-reads
 use Rattle.arrange.proofs.second_style.Reads as second-style-reads
 use Rattle.arrange.proofs.third_style.Reads as third-style-reads
+use Rattle.nodes.specs.Buffer.{roomFor}
 use Rattle.nodes.specs.Kept.{Kept}
 use Rattle.nodes.proofs.room.Reads as room-reads
-use Rattle.walk.specs.declared.fields.FieldBox as fields
-use Rattle.walk.specs.declared.fields.FieldSet.{FieldSet}
-use Rattle.walk.specs.declared.fields.FieldSet.the-variants as field
-use Rattle.walk.specs.declared.lines.Line as lines
-use Rattle.walk.specs.declared.lists.ItemsSet.{ItemsSet}
-use Rattle.walk.specs.declared.lists.ItemsSet.the-variants as items
+use Rattle.walk_looks.specs.Seen.{part, TakenSpan}
+use Rattle.walk_looks.specs.PlaceLaws.{tail-given, right-alike}
+use Rattle.walk_looks.proofs.current.restyled.Reads as restyled-reads
+use Rattle.walk_looks.proofs.current.taken_span.Reads as taken-span-reads
+use Rattle.walk_looks.proofs.places.beyond_choice.Reads as beyond-choice-reads
+use Rattle.walk_looks.proofs.places.right_of.Reads as right-of-reads
+use Rattle.walk_symbols.proofs.signs.has_signs.Reads as has-signs-reads
+use Rattle.walk_symbols.proofs.signs.signs_in.Reads as signs-in-reads
+use Rattle.walk_fields.specs.declared.fields.FieldBox as fields
+use Rattle.walk_fields.specs.declared.fields.FieldSet.{FieldSet}
+use Rattle.walk_fields.specs.declared.fields.FieldSet.the-variants as field
+use Rattle.walk_fields.specs.declared.lines.Line as lines
+use Rattle.walk_fields.specs.declared.lines.ItemsSet.{ItemsSet}
+use Rattle.walk_fields.specs.declared.lines.ItemsSet.the-variants as items
+use Rattle.walk_fields.specs.Lists.{HeadDone, ItemsDone}
+use Rattle.walk_fields.specs.FieldLaws.{Head, head-at, head-short, empty-is, head-empty, head-symbol, field-given, list-given, list-goes, head-list}
+use Rattle.walk_fields.specs.ListLaws.{line-more}
+use Rattle.walk_fields.proofs.sides.sides_of.Reads as sides-of-reads
+use Rattle.walk_fields.proofs.growing.list_field.Reads as list-field-reads
+use Rattle.walk_fields.proofs.growing.kerned.Reads as kerned-reads
+use Rattle.walk_fields.proofs.growing.start.Reads as start-reads
+use Rattle.walk_fields.proofs.growing.styled.Reads as styled-reads
+use Rattle.walk_fields.proofs.fields.before_second.Reads as before-second-reads
+use Rattle.walk_fields.proofs.fields.empty_field.Reads as empty-field-reads
+use Rattle.walk_fields.proofs.fields.symbol_field.Reads as symbol-field-reads
+use Rattle.walk_items.specs.Standing.{One, Two}
+use Rattle.walk_items.specs.NoadLaws.{head-as, finished-by, firstMissing, secondMissing, first-lacks, second-lacks, third-lacks, LastDone, set-one, set-two, set-three, lacks-one, lacks-two, none-third, finish-given}
+use Rattle.walk_items.proofs.finished.Reads as finished-reads
 use Rattle.walk.specs.declared.lists.ItemSet.{ItemSet}
 use Rattle.walk.specs.declared.lists.StretchSet.{StretchSet}
 use Rattle.walk.specs.declared.lists.StretchSet.the-variants as stretch
-use Rattle.walk.specs.Bounds.{longest}
-use Rattle.walk.specs.Seen.{part, TakenSpan}
-use Rattle.walk.specs.Standing.{One, Two}
-use Rattle.walk.specs.Walked.{HeadDone, ItemDone, ItemsDone, Along, StopsAt, StretchDone, Onward, ChoiceDone}
-use Rattle.walk.proofs.FieldLaws.{Head, head-at, head-short, empty-is, head-empty, head-symbol, field-given, list-given, list-goes, head-list}
+use Rattle.walk.specs.Walked.{ItemDone, Along, StopsAt, StretchDone, Onward, ChoiceDone}
 use Rattle.walk.proofs.ChoiceLaws.{choice-given, choice-lacks, choice-done}
-use Rattle.walk.proofs.PlaceLaws.{tail-given, right-alike}
-use Rattle.walk.proofs.NoadLaws.{head-as, finished-by, firstMissing, secondMissing, first-lacks, second-lacks, third-lacks, LastDone, set-one, set-two, set-three, lacks-one, lacks-two, none-third, finish-given, noad-lacks, noad-done}
-use Rattle.walk.proofs.ListLaws.{line-more, kern-done, style-done, rest-given, item-lacks, item-along, along-start, along-next, along-stop, along-halt, shifted, along-stretch, along-done}
-use Rattle.walk.proofs.sides.sides_of.Reads as sides-of-reads
-use Rattle.walk.proofs.signs.has_signs.Reads as has-signs-reads
-use Rattle.walk.proofs.signs.signs_in.Reads as signs-in-reads
-use Rattle.walk.proofs.lists.list_field.Reads as list-field-reads
+use Rattle.walk.proofs.NoadDone.{noad-lacks, noad-done}
+use Rattle.walk.proofs.AlongLaws.{kern-done, style-done, rest-given, item-lacks, item-along, along-start, along-next, along-stop, along-halt, shifted, along-stretch, along-done}
 use Rattle.walk.proofs.lists.set_choice.Reads as set-choice
 use Rattle.walk.proofs.lists.set_choice.Kinds as set-choice-kinds
 use Rattle.walk.proofs.lists.+set_choice+set_field+set_given+set_item+set_items+set_noad+set_onward+set_second+set_stretch+set_third.Lts-set_choice as set-choice-lts
@@ -104,16 +119,6 @@ use Rattle.walk.proofs.lists.+set_choice+set_field+set_given+set_item+s
 use Rattle.walk.proofs.lists.set_third.Reads as set-third
 use Rattle.walk.proofs.lists.set_third.Kinds as set-third-kinds
 use Rattle.walk.proofs.lists.+set_choice+set_field+set_given+set_item+set_items+set_noad+set_onward+set_second+set_stretch+set_third.Lts-set_third as set-third-lts
-use Rattle.walk.proofs.items.finished.Reads as finished-reads
-use Rattle.walk.proofs.current.restyled.Reads as restyled-reads
-use Rattle.walk.proofs.current.taken_span.Reads as taken-span-reads
-use Rattle.walk.proofs.growing.kerned.Reads as kerned-reads
-use Rattle.walk.proofs.growing.start.Reads as start-reads
-use Rattle.walk.proofs.growing.styled.Reads as styled-reads
-use Rattle.walk.proofs.fields.empty_field.Reads as empty-field-reads
-use Rattle.walk.proofs.fields.symbol_field.Reads as symbol-field-reads
-use Rattle.walk.proofs.places.beyond_choice.Reads as beyond-choice-reads
-use Rattle.walk.proofs.places.right_of.Reads as right-of-reads
 use Rattle.walk.proofs.lists.+set_choice+set_field+set_given+set_item+set_items+set_noad+set_onward+set_second+set_stretch+set_third.{statement}
 use Rattle.walk.proofs.lists.+set_choice+set_field+set_given+set_item+set_items+set_noad+set_onward+set_second+set_stretch+set_third.Tie.{close}
 
@@ -201,13 +206,13 @@ module _ (t : ℕ) where
   set-onward-claims = (below 6 set-choice-kinds.ps μ-set-choice set-choice.Pre t, set-choice.Post, room-reads.Asked, room-reads.Learnt, below 6 set-stretch-kinds.ps μ-set-stretch set-stretch.Pre t, set-stretch.Post)
 
   abbrev set-second-claims : set-second-lts.Claims
-  set-second-claims = (room-reads.Asked, room-reads.Learnt, second-style-reads.Asked, second-style-reads.Learnt, below 6 set-field-kinds.ps μ-set-field set-field.Pre t, set-field.Post, below 6 set-third-kinds.ps μ-set-third set-third.Pre t, set-third.Post)
+  set-second-claims = (before-second-reads.Asked, before-second-reads.Learnt, room-reads.Asked, room-reads.Learnt, second-style-reads.Asked, second-style-reads.Learnt, below 6 set-field-kinds.ps μ-set-field set-field.Pre t, set-field.Post, below 6 set-third-kinds.ps μ-set-third set-third.Pre t, set-third.Post)
 
   abbrev set-stretch-claims : set-stretch-lts.Claims
   set-stretch-claims = (room-reads.Asked, room-reads.Learnt, below 6 set-item-kinds.ps μ-set-item set-item.Pre t, set-item.Post)
 
   abbrev set-third-claims : set-third-lts.Claims
-  set-third-claims = (room-reads.Asked, room-reads.Learnt, has-third-reads.Asked, has-third-reads.Learnt, third-style-reads.Asked, third-style-reads.Learnt, below 6 set-field-kinds.ps μ-set-field set-field.Pre t, set-field.Post, empty-field-reads.Asked, empty-field-reads.Learnt, right-of-reads.Asked, right-of-reads.Learnt, signs-in-reads.Asked, signs-in-reads.Learnt, finished-reads.Asked, finished-reads.Learnt)
+  set-third-claims = (before-second-reads.Asked, before-second-reads.Learnt, room-reads.Asked, room-reads.Learnt, has-third-reads.Asked, has-third-reads.Learnt, third-style-reads.Asked, third-style-reads.Learnt, below 6 set-field-kinds.ps μ-set-field set-field.Pre t, set-field.Post, empty-field-reads.Asked, empty-field-reads.Learnt, right-of-reads.Asked, right-of-reads.Learnt, signs-in-reads.Asked, signs-in-reads.Learnt, finished-reads.Asked, finished-reads.Learnt)
 
   -- ---- set_choice
 
@@ -1135,7 +1140,7 @@ module _ (t : ℕ) where
       let a = c .args in
       One (second-font c) (a .line .style) (a .kind) (a .s .now) (a .own .before) (a .own .behind) b (a .a) (a .buf .now)
 
-  few-one : (c : SecondStart) → c .args .own .before + c .args .a .run .count + c .args .own .behind ≤ longest
+  few-one : (c : SecondStart) → c .args .own .before + c .args .a .run .count + c .args .own .behind ≤ formulaLimit
   few-one c =
       let given = c .pre .1 in
       let noad = given .one .noad in
@@ -1149,7 +1154,13 @@ module _ (t : ℕ) where
   Placed = set-second-lts.After-room set-second-claims set-second-at set-second.Post
 
   abbrev placed-start : Placed → SecondStart
-  placed-start c = second-start (c .before .before .before .before)
+  placed-start c = second-start (c .before .before)
+
+  placed-at : (c : Placed) →
+      let a = placed-start c .args in
+      c .room .result ≡ roomFor (a .own .before + a .a .run .count + a .own .behind) (length (a .buf .now))
+  placed-at c =
+      c .room .ensures ∙ ap (λ (n : ℕ). roomFor n (length (placed-start c .args .buf .now))) (c .before .before-second .ensures)
 
   abbrev placed-of : Second → Placed
   placed-of c = c .before .before .before
@@ -1191,7 +1202,7 @@ module _ (t : ℕ) where
       × (c .y2 .given .0 .0 ≤ end (a .s .now) (a .kind))
   lacks-second c one =
       let set = second-of-lacks c in
-      lacks-two _ _ _ _ one _ (placed-of set .room .ensures) (second-done set (c .y2 .given .1))
+      lacks-two _ _ _ _ one _ (placed-at (placed-of set)) (second-done set (c .y2 .given .1))
 
   -- it is whole
   abbrev SecondWhole : Type 0
@@ -1205,7 +1216,7 @@ module _ (t : ℕ) where
       Two (second-font (second-began (second-of-whole c))) (a .line .style) (a .kind) (a .s .now) (a .own .before) (a .own .behind) b (a .a) (c .y .given .0 .0) (second-buffer (second-of-whole c))
   two c one =
       let set = second-of-whole c in
-      set-two _ _ _ _ one _ (placed-of set .room .ensures) (second-done set (c .y .given .1))
+      set-two _ _ _ _ one _ (placed-at (placed-of set)) (second-done set (c .y .given .1))
 
   set-second-set-field-requires : set-second-lts.Need-set-field-requires set-second-claims set-second-at set-second.Post
   set-second-set-field-requires c κs =
@@ -1238,8 +1249,7 @@ module _ (t : ℕ) where
   set-second-proved : {M : Type 1} → set-second-lts.Closed set-second-claims set-second-at set-second.Post M
   set-second-proved =
       set-second-lts.spec set-second-claims set-second-at set-second.Post
-      (λ c. omega (arith, few-one (second-start (c .before .before))))
-      (λ c. omega (arith, few-one (second-start (c .before .before .before))))
+      (λ c κs. omega (arith, few-one (second-start c)))
       (λ c κs. search needs)
       (λ c κs. search needs)
       (λ c. omega (arith, c .before .room .ensures))
@@ -1259,8 +1269,8 @@ module _ (t : ℕ) where
   abbrev ThirdStart : Type 0
   ThirdStart = set-third-lts.Start set-third-claims set-third-at set-third.Post
 
-  abbrev third-start : set-third-lts.After-struct-known set-third-claims set-third-at set-third.Post → ThirdStart
-  third-start c = c .before .before .before .before .before .before .before .before
+  abbrev third-start : set-third-lts.After-style set-third-claims set-third-at set-third.Post → ThirdStart
+  third-start c = c .before .before .before .before .before .before .before
 
   abbrev third-font : ThirdStart → Font
   third-font c = fontWith (c .args .table .now) (c .args .client .now)
@@ -1272,7 +1282,7 @@ module _ (t : ℕ) where
 
   few-two : (c : ThirdStart) →
       let a = c .args in
-      a .own .before + a .a .run .count + a .own .behind + a .b .run .count ≤ longest
+      a .own .before + a .a .run .count + a .own .behind + a .b .run .count ≤ formulaLimit
   few-two c =
       let given = c .pre .1 in
       let noad = given .two .noad in
@@ -1282,7 +1292,14 @@ module _ (t : ℕ) where
   Roomy = set-third-lts.After-room set-third-claims set-third-at set-third.Post
 
   abbrev roomy-start : Roomy → ThirdStart
-  roomy-start c = third-start (c .before .before .before .before)
+  roomy-start c = third-start (c .before .before .before)
+
+  roomy-at : (c : Roomy) →
+      let a = roomy-start c .args in
+      c .room .result ≡ roomFor (a .own .before + a .a .run .count + a .own .behind + a .b .run .count) (length (a .buf .now))
+  roomy-at c =
+      let a = roomy-start c .args in
+      c .room .ensures ∙ ap (λ (n : ℕ). roomFor (n + a .b .run .count) (length (a .buf .now))) (c .before .before .before-second .ensures)
 
   abbrev Joined : Type 0
   Joined = set-third-lts.Joined1 set-third-claims set-third-at set-third.Post
@@ -1306,7 +1323,7 @@ module _ (t : ℕ) where
       let r = w .3 .last .1 .1 .1 .1 .1 .1 .1 .1 .1 .0 in
       subst (ThirdAt c b (c .if1 .z)) (sym (w .6))
       (subst (λ (z : FieldSet). ThirdAt c b z (putMid k (length v - k) v r)) (sym (w .7))
-      (set-three F (a .line .style) (a .kind) (a .s .now) two (w .3 .result) r (sym (c .before .has-third .ensures) ∙ w .0 .taken) (c .before .before .room .ensures)
+      (set-three F (a .line .style) (a .kind) (a .s .now) two (w .3 .result) r (sym (c .before .has-third .ensures) ∙ w .0 .taken) (roomy-at (c .before .before))
       (head-as F (a .s .now) (take (length v - k) (drop k v)) r {m = Plain} {r = w .3 .result} (w .1 .ensures) refl (two .second-whole .end-is) refl (w .3 .ensures)))))
       (λ w.
       subst (ThirdAt c b (c .if1 .z)) (sym (w .2))
@@ -1412,9 +1429,8 @@ module _ (t : ℕ) where
   set-third-proved : {M : Type 1} → set-third-lts.Closed set-third-claims set-third-at set-third.Post M
   set-third-proved =
       set-third-lts.spec set-third-claims set-third-at set-third.Post
-      (λ c. omega (arith, few-two (third-start (c .before))))
-      (λ c. omega (arith, few-two (third-start (c .before .before))))
-      (λ c. omega (arith, few-two (third-start (c .before .before .before))))
+      (λ c κs. omega (arith, few-two (third-start c)))
+      (λ c. omega (arith, few-two (third-start (c .before .before)), c .before .before-second .ensures))
       (λ c κs. search needs)
       (λ c κs. search needs)
       (λ c κs. search needs)

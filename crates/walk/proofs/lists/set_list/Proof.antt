@@ -4,7 +4,7 @@ use lib.ListN.{length}
 use borrow.Author.Needs.{needs}
 use Rattle.font.specs.Font.{fontWith}
 use Rattle.formula.specs.Places.{treeOf}
-use Rattle.walk.specs.WalkedLaws.{start-within, list-of-items}
+use Rattle.walk_fields.specs.ListLaws.{start-within, list-of-items}
 use Rattle.walk.proofs.lists.set_list.Statement.{statement}
 use Rattle.walk.proofs.lists.set_list.Tie as tie
 

@@ -1,0 +1,3 @@
+-- What the code's answers stand for. Assumes nothing.
+pub mod Values
+pub mod Reports

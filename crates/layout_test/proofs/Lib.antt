@@ -1,0 +1,2 @@
+-- From what the tests find to the answers of the definition. Assumes nothing.
+mod TestedLaws

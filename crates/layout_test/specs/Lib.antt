@@ -1,0 +1,2 @@
+-- What the tests before the reading find. Assumes nothing.
+pub mod Tested
