@@ -1,5 +1,5 @@
-//! The letter of a symbol: Computer Modern's layouts, code by code, and the two
-//! symbols of the examples' client.
+//! The letter of a symbol: the layouts of Computer Modern's fonts, code by code,
+//! and the two symbols of the examples' client.
 
 use crate::shapes::{Shape, ANGLE};
 
@@ -17,15 +17,13 @@ pub enum Letter {
     Shaped(char, Shape),
 }
 
-/// None if nothing is known of how the symbol looks.
-pub fn letter(family: u8, code: u8, is_client: bool) -> Option<Letter> {
-    if is_client {
-        return client_letter(family, code);
-    }
-    let layout = LAYOUTS.get(usize::from(family))?;
+/// None if the font, or its character of that code, is not known.
+pub fn letter(font: &str, code: u8) -> Option<Letter> {
+    let name = font.trim_end_matches(|c: char| c.is_ascii_digit());
+    let (_, layout) = LAYOUTS.iter().find(|(font, _)| *font == name)?;
     let letter = layout.chars().nth(code.into());
     let letter = letter.filter(|letter| *letter != NONE)?;
-    Some(match family {
+    Some(match name {
         EXTENSIONS => grown(letter),
         SYMBOLS if IN_THEIR_BOXES.contains(&letter) => grown(letter),
         MATH_ITALIC if is_slanted(letter) => Letter::Italic(letter),
@@ -33,8 +31,8 @@ pub fn letter(family: u8, code: u8, is_client: bool) -> Option<Letter> {
     })
 }
 
-/// The examples' own.
-fn client_letter(family: u8, code: u8) -> Option<Letter> {
+/// Of the examples' client.
+pub fn client_letter(family: u8, code: u8) -> Option<Letter> {
     match (family, code) {
         (0, b'0') => Some(Letter::Struck('0')),
         (4, 1) => Some(Letter::Shaped('∠', ANGLE)),
@@ -53,40 +51,53 @@ fn is_slanted(letter: char) -> bool {
     letter.is_alphabetic() && !['ℓ', '℘'].contains(&letter)
 }
 
-const MATH_ITALIC: u8 = 1;
-const SYMBOLS: u8 = 2;
-const EXTENSIONS: u8 = 3;
+const ROMAN: &str = "cmr";
+const MATH_ITALIC: &str = "cmmi";
+const SYMBOLS: &str = "cmsy";
+const EXTENSIONS: &str = "cmex";
 /// Of the symbols, for they stand elsewhere than the same characters of a text font.
 const IN_THEIR_BOXES: [char; 2] = ['′', '√'];
 
 /// Where a layout has a part of a sign for which there is no character.
 const NONE: char = ' ';
 
-/// The families of `data/cm.tab`: roman, math italic, symbols, extensions. Each
-/// has its 128 characters from code 0 on, 32 to a line.
-const LAYOUTS: [&str; 4] = [
-    concat!(
-        "ΓΔΘΛΞΠΣΥΦΨΩﬀﬁﬂﬃﬄıȷ`´ˇ˘¯˚¸ßæœøÆŒØ",
-        " !”#$%&’()*+,-./0123456789:;¡=¿?",
-        "@ABCDEFGHIJKLMNOPQRSTUVWXYZ[“]ˆ˙",
-        "‘abcdefghijklmnopqrstuvwxyz–—˝˜¨",
+/// A font by its name, without the size, and its 128 characters from code 0 on, 32
+/// to a line.
+const LAYOUTS: [(&str, &str); 4] = [
+    (
+        ROMAN,
+        concat!(
+            "ΓΔΘΛΞΠΣΥΦΨΩﬀﬁﬂﬃﬄıȷ`´ˇ˘¯˚¸ßæœøÆŒØ",
+            " !”#$%&’()*+,-./0123456789:;¡=¿?",
+            "@ABCDEFGHIJKLMNOPQRSTUVWXYZ[“]ˆ˙",
+            "‘abcdefghijklmnopqrstuvwxyz–—˝˜¨",
+        ),
     ),
-    concat!(
-        "ΓΔΘΛΞΠΣΥΦΨΩαβγδϵζηθικλμνξπρστυϕχ",
-        "ψωεϑϖϱςφ↼↽⇀⇁  ▹◃0123456789.,</>⋆",
-        "∂ABCDEFGHIJKLMNOPQRSTUVWXYZ♭♮♯⌣⌢",
-        "ℓabcdefghijklmnopqrstuvwxyzıȷ℘ ⁀",
+    (
+        MATH_ITALIC,
+        concat!(
+            "ΓΔΘΛΞΠΣΥΦΨΩαβγδϵζηθικλμνξπρστυϕχ",
+            "ψωεϑϖϱςφ↼↽⇀⇁  ▹◃0123456789.,</>⋆",
+            "∂ABCDEFGHIJKLMNOPQRSTUVWXYZ♭♮♯⌣⌢",
+            "ℓabcdefghijklmnopqrstuvwxyzıȷ℘ ⁀",
+        ),
     ),
-    concat!(
-        "−⋅×∗÷⋄±∓⊕⊖⊗⊘⊙◯∘•≍≡⊆⊇≤≥⪯⪰∼≈⊂⊃≪≫≺≻",
-        "←→↑↓↔↗↘≃⇐⇒⇑⇓⇔↖↙∝′∞∈∋△▽  ∀∃¬∅ℜℑ⊤⊥",
-        "ℵ𝒜ℬ𝒞𝒟ℰℱ𝒢ℋℐ𝒥𝒦ℒℳ𝒩𝒪𝒫𝒬ℛ𝒮𝒯𝒰𝒱𝒲𝒳𝒴𝒵∪∩⊎∧∨",
-        "⊢⊣⌊⌋⌈⌉{}⟨⟩|‖↕⇕\\≀√⨿∇∫⊔⊓⊑⊒§†‡¶♣♢♡♠",
+    (
+        SYMBOLS,
+        concat!(
+            "−⋅×∗÷⋄±∓⊕⊖⊗⊘⊙◯∘•≍≡⊆⊇≤≥⪯⪰∼≈⊂⊃≪≫≺≻",
+            "←→↑↓↔↗↘≃⇐⇒⇑⇓⇔↖↙∝′∞∈∋△▽  ∀∃¬∅ℜℑ⊤⊥",
+            "ℵ𝒜ℬ𝒞𝒟ℰℱ𝒢ℋℐ𝒥𝒦ℒℳ𝒩𝒪𝒫𝒬ℛ𝒮𝒯𝒰𝒱𝒲𝒳𝒴𝒵∪∩⊎∧∨",
+            "⊢⊣⌊⌋⌈⌉{}⟨⟩|‖↕⇕\\≀√⨿∇∫⊔⊓⊑⊒§†‡¶♣♢♡♠",
+        ),
     ),
-    concat!(
-        "()[]⌊⌋⌈⌉{}⟨⟩|‖/\\()()[]⌊⌋⌈⌉{}⟨⟩/\\",
-        "()[]⌊⌋⌈⌉{}⟨⟩/\\/\\⎛⎞⎡⎤⎣⎦⎢⎥⎧⎫⎩⎭⎨⎬⎪⏐",
-        "⎝⎠⎜⎟⟨⟩⨆⨆∮∮⨀⨀⨁⨁⨂⨂∑∏∫⋃⋂⨄⋀⋁∑∏∫⋃⋂⨄⋀⋁",
-        "∐∐ˆˆˆ˜˜˜[]⌊⌋⌈⌉{}√√√√⎷  ‖↑↓    ⇑⇓",
+    (
+        EXTENSIONS,
+        concat!(
+            "()[]⌊⌋⌈⌉{}⟨⟩|‖/\\()()[]⌊⌋⌈⌉{}⟨⟩/\\",
+            "()[]⌊⌋⌈⌉{}⟨⟩/\\/\\⎛⎞⎡⎤⎣⎦⎢⎥⎧⎫⎩⎭⎨⎬⎪⏐",
+            "⎝⎠⎜⎟⟨⟩⨆⨆∮∮⨀⨀⨁⨁⨂⨂∑∏∫⋃⋂⨄⋀⋁∑∏∫⋃⋂⨄⋀⋁",
+            "∐∐ˆˆˆ˜˜˜[]⌊⌋⌈⌉{}√√√√⎷  ‖↑↓    ⇑⇓",
+        ),
     ),
 ];

@@ -1,6 +1,7 @@
 //! A picture of a set formula: its glyphs' boxes, its rules and its baseline.
 
-use crate::letters::{letter, Letter};
+use crate::fonts::Fonts;
+use crate::letters::{client_letter, letter, Letter};
 use crate::shapes::{Shape, STROKE};
 use crate::tables::{Metrics, Tables};
 use std::fmt;
@@ -34,7 +35,12 @@ impl fmt::Display for NoLetter {
 }
 
 /// Lengths in the picture are points, and y goes down.
-pub fn svg(measured: &Measured, nodes: &[Node], tables: &Tables) -> Result<String, NoLetter> {
+pub fn svg(
+    measured: &Measured,
+    nodes: &[Node],
+    tables: &Tables,
+    fonts: &Fonts,
+) -> Result<String, NoLetter> {
     let (width, height, depth) = (
         points(measured.width),
         points(measured.height),
@@ -43,7 +49,7 @@ pub fn svg(measured: &Measured, nodes: &[Node], tables: &Tables) -> Result<Strin
     let (left, top) = (-MARGIN, -height - MARGIN);
     let (across, down) = (width + 2.0 * MARGIN, height + depth + 2.0 * MARGIN);
     let (pixels_across, pixels_down) = (across * PIXELS_PER_POINT, down * PIXELS_PER_POINT);
-    let drawn = nodes.iter().map(|node| draw(node, tables));
+    let drawn = nodes.iter().map(|node| draw(node, tables, fonts));
     let drawn: String = drawn.collect::<Result<_, _>>()?;
     Ok(format!(
         r##"<svg xmlns="http://www.w3.org/2000/svg" width="{pixels_across:.0}" height="{pixels_down:.0}" viewBox="{left:.3} {top:.3} {across:.3} {down:.3}">
@@ -60,7 +66,7 @@ fn points(sp: impl Into<i64>) -> f64 {
     sp.into() as f64 / SP_PER_POINT
 }
 
-fn draw(node: &Node, tables: &Tables) -> Result<String, NoLetter> {
+fn draw(node: &Node, tables: &Tables, fonts: &Fonts) -> Result<String, NoLetter> {
     match *node {
         Node::Glyph {
             x,
@@ -71,8 +77,11 @@ fn draw(node: &Node, tables: &Tables) -> Result<String, NoLetter> {
         } => {
             let metrics = tables.metrics(size, family, code);
             let found = metrics.and_then(|metrics| {
-                let letter = letter(family, code, metrics.is_client)?;
-                Some((metrics, letter))
+                let letter = match metrics.is_client {
+                    true => client_letter(family, code),
+                    false => letter(&fonts.find(size, family)?.name, code),
+                };
+                Some((metrics, letter?))
             });
             let (metrics, letter) = found.ok_or(NoLetter { size, family, code })?;
             let em = points(tables.x_height(size)) / X_HEIGHT_SHARE;

@@ -49,9 +49,10 @@ fn drawn(word: &str, style: u8) -> Drawn {
     let (text, svg) = (own("word.eqn"), own("word.svg"));
     fs::write(&text, word).expect("a text is written");
     let _ = fs::remove_file(&svg);
-    let (names, style) = (data("cm.names"), style.to_string());
+    let [names, fonts] = ["cm.names", "cm.fonts"].map(data);
+    let style = style.to_string();
     let [text, path] = [&text, &svg].map(|path| path.to_str().expect("a path in Unicode"));
-    let run = set_formula(&[text, "--typed", &names, &style, "--svg", path]);
+    let run = set_formula(&[text, "--typed", &names, &style, "--svg", &fonts, path]);
     assert!(run.status.success(), "{word} in style {style}: {run:?}");
 
     let lines = String::from_utf8(run.stdout).expect("lines of text");
@@ -105,27 +106,35 @@ fn every_name_has_its_letter() {
     }
 }
 
+/// A symbol of text size is set by itself, but not drawn.
+fn not_drawn(family: u8, code: u8, fonts: &str, client: &[u8]) {
+    let name = format!("{family}-{code}");
+    let [formula, table, svg] =
+        ["formula", "tab", "svg"].map(|kind| own(&format!("{name}.{kind}")));
+    let record = [b"\x02AT\0\0\x01", &[family, code][..], b"\0\0"].concat();
+    fs::write(&formula, record).expect("a formula is written");
+    fs::write(&table, client).expect("a table is written");
+    let _ = fs::remove_file(&svg);
+    let [text, table, path] = [&formula, &table, &svg].map(|path| path.to_str().expect("Unicode"));
+    assert!(set_formula(&[text, "--client", table]).status.success());
+
+    let run = set_formula(&[text, "--client", table, "--svg", fonts, path]);
+    let message = String::from_utf8_lossy(&run.stderr);
+    let symbol = format!("size 0, family {family}, code {code}");
+    assert_eq!(run.status.code(), Some(2), "{message}");
+    assert!(message.contains(&symbol), "{message}");
+    assert!(run.stdout.is_empty() && !svg.exists());
+}
+
 #[test]
 fn a_glyph_without_a_letter_is_an_error() {
-    let (formula, client, svg) = (
-        own("unknown.formula"),
-        own("unknown.tab"),
-        own("unknown.svg"),
-    );
-    fs::write(&formula, b"\x02AT\0\0\x01\x05\x07\0\0").expect("a formula is written");
-    fs::write(
-        &client,
-        b"CH\0\x05\x07\0\0\0\x01\0\0\0\x01\0\0\0\0\0\0\0\0\0\0",
-    )
-    .expect("a table is written");
-    let _ = fs::remove_file(&svg);
-    let [text, table, path] =
-        [&formula, &client, &svg].map(|path| path.to_str().expect("a path in Unicode"));
-    let run = set_formula(&[text, "--client", table, "--svg", path]);
-    let message = String::from_utf8_lossy(&run.stderr);
-    assert_eq!(run.status.code(), Some(2));
-    assert!(message.contains("size 0, family 5, code 7"), "{message}");
-    assert!(run.stdout.is_empty());
-    assert!(!svg.exists());
-    assert!(set_formula(&[text, "--client", table]).status.success());
+    let fonts = data("cm.fonts");
+    let no_fonts = own("none.fonts");
+    fs::write(&no_fonts, "# none\n").expect("a table of fonts is written");
+    let no_fonts = no_fonts.to_str().expect("a path in Unicode");
+    // The stroke that makes = unequal is a part of a sign.
+    not_drawn(2, 54, &fonts, b"");
+    not_drawn(1, b'a', no_fonts, b"");
+    let character = b"CH\0\x05\x07\0\0\0\x01\0\0\0\x01\0\0\0\0\0\0\0\0\0\0";
+    not_drawn(5, 7, &fonts, character);
 }
