@@ -30,26 +30,32 @@ pub fn print() {
     println!("| call | table | bytes at depth 1 | at depth {DEEPEST} | each depth more |");
     println!("|---|---|--:|--:|--:|");
     for call in [Call::Measure, Call::Set, Call::Why] {
-        for forms in [lettered(), searching()] {
-            let name = format!("`{}` | {}", call.name(), forms[0].font.name);
-            print_row(&name, |depth| {
-                greatest(&forms, |form| setting(call, form, depth))
-            });
-        }
+        print_setting(call, &lettered());
+        print_setting(call, &searching());
     }
-    for (name, is_read) in [("torfianka_eqn_read", true), ("torfianka_eqn_write", false)] {
-        print_row(&format!("`{name}` |"), |depth| {
-            greatest(&GROUPS, |group| typing(is_read, group, depth))
-        });
-    }
+    print_typing("torfianka_eqn_read", true);
+    print_typing("torfianka_eqn_write", false);
     let written = converting(sys::torfianka_dvi_write as _, &[], NODES, BODY.len());
+    print_page("torfianka_dvi_write", written);
     let read = converting(sys::torfianka_dvi_read as _, &[], BODY, NODES.len());
-    for (name, bytes) in [
-        ("torfianka_dvi_write", written),
-        ("torfianka_dvi_read", read),
-    ] {
-        println!("| `{name}` | | {} | | |", grouped(bytes as f64));
-    }
+    print_page("torfianka_dvi_read", read);
+}
+
+fn print_setting(call: Call, forms: &[Form]) {
+    let name = format!("`{}` | {}", call.name(), forms[0].font.name);
+    print_row(&name, |depth| {
+        greatest(forms, |form| setting(call, form, depth))
+    });
+}
+
+fn print_typing(name: &str, is_read: bool) {
+    print_row(&format!("`{name}` |"), |depth| {
+        greatest(&GROUPS, |group| typing(is_read, group, depth))
+    });
+}
+
+fn print_page(name: &str, bytes: usize) {
+    println!("| `{name}` | | {} | | |", grouped(bytes as f64));
 }
 
 fn print_row(name: &str, stack_bytes: impl Fn(usize) -> usize) {
