@@ -34,14 +34,14 @@ pub use Rattle.eqn_meaning.specs.ResultLaws.{read-place, write-place}
 -- ---- examples
 
 -- the request's own, byte for byte
-pub use Rattle.eqn_promises.specs.Examples.{both-scripts}
+pub use Rattle.eqn_meaning.specs.Examples.{both-scripts}
 -- for each sentence of the request: what a text means, how that is written, and that what is written means the same
-pub use Rattle.eqn_promises.specs.Examples.{each-read, each-written, each-read-again}
+pub use Rattle.eqn_meaning.specs.Examples.{each-read, each-written, each-read-again}
 -- 10, 11 and 12 with their places, and a text that is just not too deep
-pub use Rattle.eqn_promises.specs.Examples.{each-refused, deepest-read}
+pub use Rattle.eqn_meaning.specs.Examples.{each-refused, deepest-read}
 -- 20 with its place, of the reader and of the writer
-pub use Rattle.eqn_promises.specs.Examples.{each-table-refused, each-table-refused-writing}
+pub use Rattle.eqn_meaning.specs.Examples.{each-table-refused, each-table-refused-writing}
 -- 21, of formulas that read and of bytes that are no formula
-pub use Rattle.eqn_promises.specs.Examples.{each-unmade, each-unmade-reads, no-formula}
--- 13; and what a refusal and an acceptance leave of the buffer
-pub use Rattle.eqn_promises.specs.Examples.{no-room, room, unchanged, kept-behind}
+pub use Rattle.eqn_meaning.specs.Examples.{each-unmade, each-unmade-reads, no-formula}
+-- 13, of the reader and of the writer; and what a refusal and an acceptance leave of the buffer
+pub use Rattle.eqn_meaning.specs.Examples.{no-room, room, no-room-writing, room-writing, unchanged, kept-behind}

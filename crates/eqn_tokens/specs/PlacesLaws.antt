@@ -2,10 +2,10 @@
 --     bytesOf                          the bytes of a token
 --     Proper, word-proper, proper      a kind that is not the end has a token and bytes
 --     proper-then, keyword-then        of a kind that has a token, and of a word
---     keyword-spelled, mark-spelled    the bytes of a word's kind and of a mark's
+--     keyword-spelled, mark-bytes, mark-spelled     the bytes of a word's kind and of a mark's
 --     behind-tokens, behind-places     nothing is lost behind separators
 --     token-made, token-ended          the first token from a place on, made of the separators before it and of what begins there
---     place-separators, token-separators     separators stand up to the first token
+--     front-separators, place-separators, token-separators     separators stand up to the first token
 --     token-ordered, token-last, token-moves     where a token that is found starts and ends
 -- Assumes nothing.
 use mathlib.Core.Path.{_≡_, refl, sym, ap, _∙_}
@@ -87,7 +87,7 @@ spelled-as End e = tt
 pub keyword-spelled : (k : TokenKind) (w : List ℕ) → kindAs k w ≡ keywordOf w → IsSpelled k w
 keyword-spelled k w e = spelled-as k (ap tokenBytes e ∙ keyword-bytes w)
 
-mark-bytes : (b : ℕ) → tokenBytes (markOf b) ≡ b ∷ []
+pub mark-bytes : (b : ℕ) → tokenBytes (markOf b) ≡ b ∷ []
 unfolding tokenBytes markOf
 mark-bytes b =
     by-test (eqb b openingBrace) (λ e. rw (e, eqb-true b openingBrace e))
@@ -152,7 +152,7 @@ module _ {s : List ℕ} {at r : ℕ} (b : SeparatorsBefore s at r) where
 
 -- ---- the place of the first token
 
-front-separators : (s : List ℕ) → SeparatorsBefore s 0 (placeIn 0 s)
+pub front-separators : (s : List ℕ) → SeparatorsBefore s 0 (placeIn 0 s)
 unfolding placeFrom
 front-separators [] = record { behind = omega arith; within = omega arith; all = λ i l m. absurd (omega arith); last = λ l. absurd (omega arith) }
 front-separators (b ∷ s) = by-test (isSeparator b) (λ t. more t (front-separators s)) at-once
