@@ -39,7 +39,7 @@ use Rattle.results.specs.Results.{Result, made, refused, accepted, refusal, ans
 use Rattle.eqn_meaning.specs.Answers.{noRoom, ifFits, ifWhole, ifKnown, withNames, readResult, ifDerived, ifRead, writeResult}
 
 -- the definitions that the examples compute with
-definitions : Unit {0}
+unfoldable pub definitions : Unit {0}
 unfolding littleEndian signedWord wordOf fourBytes listOpeningBytes itemsBytes markIn markOf heads.atomOf heads.atomOpening heads.fractionOf heads.fractionOpening heads.kernWithin heads.kernOpening heads.styleOpening heads.opens heads.openingOf heads.symbolHead heads.sublistHead heads.listHead heads.longListHead heads.fieldHeadUnder reading.listGot reading.fieldBy reading.onlyList reading.heldIn reading.fieldAt reading.firstAt reading.thirdAt reading.noadAt reading.listAt reading.choiceAt reading.openedBy reading.itemBy reading.before reading.restBy reading.listBy reading.readBy reading.readUnder reading.readFormulaUnder listOpening spelling allWordBytes same keywordOf tokenBytes runLength tokenOf tokensFrom placeFrom frontName named recordThen tableStep tableBy tableOf firstFor firstUnknown rowTokens parsing.withLast parsing.joined parsing.mayFollow parsing.taking parsing.joining parsing.ended parsing.read parsing.parseThen parsing.parseFrom parsing.parse atomOf limitsOf rowItems itemsWithin fitsFormula derivedBy rowOf spaced textOf ifFits ifWhole ifKnown withNames readResult ifDerived ifRead writeResult answerBy bufferBy
 definitions = tt
 

@@ -15,3 +15,5 @@ pub mod OnlySo
 pub mod RoundTrip
 pub mod TokenPlaces
 pub mod Refusals
+pub mod Sizes
+pub mod LongText
