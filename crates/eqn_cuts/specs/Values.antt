@@ -1,6 +1,6 @@
 -- What the code's values stand for, and what its functions promise.
 --     kindToken                a token of a kind
---     SplitAt                  a text is cut at the last of a keyword outside braces
+--     SplitAt                  a text is cut at the last of a keyword outside braces, whose bytes stand there (`StandsAt`)
 --     ExpressionEnds, LastStarts     where the first expression ends, and the last token starts
 -- Assumes nothing.
 use mathlib.Core.Path.{_≡_}
@@ -9,7 +9,7 @@ use mathlib.Core.List.{List, [], _∷_, _++_}
 use mathlib.Core.Option.{none, some}
 use Prim.Native.Nat.{ℕ, _-_, _≤_, _<_}
 use lib.ListN.{length, take, drop}
-use Rattle.eqn_tokens.specs.Tokens.{Token, tokensIn}
+use Rattle.eqn_tokens.specs.Tokens.{Token, keywordBytes, tokensIn, placeIn}
 use Rattle.eqn_tokens.specs.declared.tokens.TokenKind.{TokenKind}
 use Rattle.eqn_tokens.specs.Values.{kindAs}
 use Rattle.eqn_grammar.specs.Splits.{lastOutside, firstExpression}
@@ -19,8 +19,14 @@ use Rattle.eqn_tokens.specs.declared.tokens.Keyword.{Keyword}
 abbrev pub kindToken : TokenKind → Token
 kindToken kind = kindAs kind []
 
+-- the place of a token, and a keyword's bytes from there on
+pub record StandsAt (s : List ℕ) (j : Keyword) (start end : ℕ) : Type 0 where
+  pub first : start ≡ placeIn (length (tokensIn (take start s))) s
+  pub bytes : take (end - start) (drop start s) ≡ keywordBytes j
+
 pub record Cut (s : List ℕ) (j : Keyword) (r : Split) : Type 0 where
   pub there : r .start < length s
+  pub stands : StandsAt s j (r .start) (r .end)
   pub parts : lastOutside j (tokensIn s) ≡ some (tokensIn (take (r .start) s), tokensIn (drop (r .end) s))
 
 pub record Uncut (s : List ℕ) (j : Keyword) (r : Split) : Type 0 where
@@ -41,3 +47,5 @@ pub record ExpressionEnds (s : List ℕ) (from r : ℕ) : Type 0 where
 pub record LastStarts (s : List ℕ) (r : ℕ) : Type 0 where
   pub within : r ≤ length s
   pub before : (t : Token) (ts : List Token) → tokensIn s ≡ ts ++ (t ∷ []) → tokensIn (take r s) ≡ ts
+  pub first : (t : Token) (ts : List Token) → tokensIn s ≡ t ∷ ts → r ≡ placeIn (length (tokensIn (take r s))) s
+  pub none-is : tokensIn s ≡ [] → r ≡ 0
