@@ -1,7 +1,7 @@
 -- What the code's values stand for, and what its functions promise.
 --     kindToken                a token of a kind
 --     SplitAt                  a text is cut at the last of a keyword outside braces, whose bytes stand there (`StandsAt`)
---     ExpressionEnds, LastStarts     where the first expression ends, and the last token starts
+--     ExpressionEnds, LastStarts     where the first expression ends, with a token (`EndsToken`) or with the text, and the last token starts
 -- Assumes nothing.
 use mathlib.Core.Path.{_≡_}
 use mathlib.Core.Logic.{_⊎_}
@@ -11,7 +11,8 @@ use Prim.Native.Nat.{ℕ, _-_, _≤_, _<_}
 use lib.ListN.{length, take, drop}
 use Rattle.eqn_tokens.specs.Tokens.{Token, keywordBytes, tokensIn, placeIn}
 use Rattle.eqn_tokens.specs.declared.tokens.TokenKind.{TokenKind}
-use Rattle.eqn_tokens.specs.Values.{kindAs}
+use Rattle.eqn_tokens.specs.declared.tokens.Token as code
+use Rattle.eqn_tokens.specs.Values.{kindAs, TokenAt}
 use Rattle.eqn_grammar.specs.Splits.{lastOutside, firstExpression}
 use Rattle.eqn_cuts.specs.declared.Split.{Split}
 use Rattle.eqn_tokens.specs.declared.tokens.Keyword.{Keyword}
@@ -38,11 +39,21 @@ pub record SplitAt (s : List ℕ) (j : Keyword) (r : Split) : Type 0 where
   pub within : r .end ≤ length s
   pub split : Cut s j r ⊎ Uncut s j r
 
+-- the place behind a token's last byte
+pub record EndsToken (s : List ℕ) (r : ℕ) : Type 0 where
+  pub at : ℕ
+  pub token : code.Token
+  pub is : TokenAt s at token
+  pub some : token .start < token .end
+  pub ends : token .end ≡ r
+
 pub record ExpressionEnds (s : List ℕ) (from r : ℕ) : Type 0 where
   pub behind : from ≤ r
   pub within : r ≤ length s
   pub onward : (t : Token) (ts : List Token) → tokensIn (drop from s) ≡ t ∷ ts → from < r
   pub parts : firstExpression (tokensIn (drop from s)) ≡ (tokensIn (take (r - from) (drop from s)), tokensIn (drop r s))
+  pub all : tokensIn (drop r s) ≡ [] → r ≡ length s
+  pub tight : (t : Token) (ts : List Token) → tokensIn (drop r s) ≡ t ∷ ts → EndsToken s r
 
 pub record LastStarts (s : List ℕ) (r : ℕ) : Type 0 where
   pub within : r ≤ length s
