@@ -54,10 +54,11 @@ last-next {s} {at} {last} {t} b f l no-end =
           (λ p. absurd (no-end (p .is)))
           (turn (b .boundary) f l);
       found =
-          inr
-          (λ e.
-          ⊎-elim (λ p. absurd (omega (arith, simp length-append at (ap length (sym (p .front) ∙ e))))) (λ p. no-end (p .is)) (turn (b .boundary) f l),
-          start-place (b .boundary) f);
+          inr (
+            λ e.
+                ⊎-elim (λ p. absurd (omega (arith, simp length-append at (ap length (sym (p .front) ∙ e))))) (λ p. no-end (p .is)) (turn (b .boundary) f l),
+            start-place (b .boundary) f,
+          );
     }
 
 last-ended : {s : List ℕ} {at last : ℕ} → LastBefore s at last → tokensIn (drop at s) ≡ [] → LastStarts s last
