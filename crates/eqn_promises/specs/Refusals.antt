@@ -155,15 +155,6 @@ module _ (table text : List ℕ) where
   )
   large-so p r (fits b) e = let no : _≡_ {A = ℕ} 0 1 = cc in absurd (omega arith)
 
-  -- ---- what comes out
-
-  pub record MadeFormula (formula : List ℕ) : Type 0 where
-    pub ns : List Name
-    pub names-are : tableOf table ≡ names ns
-    pub row : Row
-    pub derives : rowTokens row ≡ tokensIn text
-    pub is : IsFormula (rowItems ns row) formula
-
   module _ (byte : Bytes table) where
     so-large : NoFormula → readResult table text ≡ refused tooLarge 0
     so-large f =
@@ -176,13 +167,22 @@ module _ (table text : List ℕ) where
     pub large-exactly : (p : ℕ) → (readResult table text ≡ refused tooLarge p) ↔ ((p ≡ 0) × NoFormula)
     large-exactly p = (large-so p (readResult table text) read-as, λ f. rw (f .0) (so-large (f .1)))
 
-    pub made-formula : {formula : List ℕ} → readResult table text ≡ made formula → MadeFormula formula
-    made-formula e =
-        let r = made-read e in
-        record {
-          ns = r .ns;
-          names-are = r .names-are;
-          row = r .row;
-          derives = parse-sound (tokensIn text) (r .row) (r .parsed);
-          is = read-formula byte r;
-        }
+  -- ---- what comes out
+
+  pub record MadeFormula (formula : List ℕ) : Type 0 where
+    pub ns : List Name
+    pub names-are : tableOf table ≡ names ns
+    pub row : Row
+    pub derives : rowTokens row ≡ tokensIn text
+    pub is : IsFormula (rowItems ns row) formula
+
+  pub made-formula : {formula : List ℕ} → Bytes table → readResult table text ≡ made formula → MadeFormula formula
+  made-formula byte e =
+      let r = made-read e in
+      record {
+        ns = r .ns;
+        names-are = r .names-are;
+        row = r .row;
+        derives = parse-sound (tokensIn text) (r .row) (r .parsed);
+        is = read-formula byte r;
+      }
