@@ -1,7 +1,7 @@
 -- A text that is too long for a formula, by computation: 121 groups of 121 words mean 132,858 bytes, and a formula has at most 131,072.
 -- Assumes nothing.
 use mathlib.Core.Path.{_≡_, refl}
-use mathlib.Core.List.{List, [], _∷_, _++_}
+use mathlib.Core.List.{List, [], _++_}
 use Prim.Native.Nat.{ℕ, zero, suc}
 use Rattle.results.specs.Results.{refused}
 use Rattle.eqn_meaning.specs.Answers.{tooLarge, readResult}

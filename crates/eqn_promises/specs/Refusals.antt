@@ -5,9 +5,9 @@
 --     MadeFormula, made-formula        what comes out is always a formula, and what the text means
 -- Each test has a case of `ReadAs`, so that an answer tells the case by its number.
 -- Assumes nothing.
-use mathlib.Core.Path.{_≡_, refl, sym, subst, ap, _∙_}
+use mathlib.Core.Path.{_≡_, refl, sym, _∙_}
 use mathlib.Core.Bool.{Bool, true, false, cond, false≢true}
-use mathlib.Core.List.{List, [], _∷_}
+use mathlib.Core.List.{List}
 use mathlib.Core.Logic.{_↔_}
 use mathlib.Core.Option.{Option, none, some}
 use Prim.Native.Nat.{ℕ, suc, _<_}
@@ -16,7 +16,6 @@ use native.Mathlib.Decide.{decLt}
 use lib.ListN.{length, take}
 use Rattle.laws.specs.Truths.{by-test}
 use Rattle.words.specs.WordLaws.{Bytes}
-use Rattle.formula.specs.Tree.{Items}
 use Rattle.formula.specs.Reading.{good, readFormula}
 use Rattle.formula_spelling.specs.Spelling.{spelling}
 use Rattle.eqn_tokens.specs.Tokens.{tokensIn, placeIn}

@@ -4,7 +4,7 @@
 --     tokens-fewer               a text has at most as many tokens as bytes
 -- A text has no token, or a first one behind separators (`parted`), and the others are those of the text behind it.
 -- Assumes nothing.
-use mathlib.Core.Path.{_≡_, refl, sym, ap, _∙_}
+use mathlib.Core.Path.{_≡_, sym, ap, _∙_}
 use mathlib.Core.Bool.{false}
 use mathlib.Core.List.{List, [], _∷_}
 use mathlib.Core.Logic.{_⊎_, inl, inr, ⊎-elim}
