@@ -15,13 +15,12 @@ use native.Mathlib.Omega.{arith}
 use lib.Dec.{leb, eqb}
 use lib.ListN.{length, take, drop, getElem?, length-take, length-drop}
 use lib.Seq.{drop-drop}
-use borrow.Author.Tests.{leb-true, eqb-true}
-use Rattle.laws.specs.Truths.{by-test, either, both-true}
+use borrow.Author.Tests.{eqb-true}
+use Rattle.laws.specs.Truths.{either, both-true}
 use Rattle.words.specs.Words.{littleEndian}
 use Rattle.formula.specs.declared.Kind.{Kind}
 use Rattle.formula.specs.declared.Opening.{Opening}
 use Rattle.formula.specs.declared.Opening.the-variants.{NoItem, Fields, Kern, Restyle, Choice}
-use Rattle.formula.specs.declared.Mark.{Mark}
 use Rattle.formula.specs.declared.FieldHead.{FieldHead}
 use Rattle.formula.specs.declared.FieldHead.the-variants.{NoField, Empty, Symbol, Sublist, CutSublist}
 use Rattle.formula.specs.Format.{longFormat, depthLimit}
@@ -41,7 +40,7 @@ use Rattle.setting.specs.Setting.{styleAfter, styleBehind, sidesOf}
 use Rattle.setting.specs.SettingLaws.{styleBehind-choice}
 use Rattle.setting.specs.Lines.{styleAfter-join}
 use Rattle.setting.specs.Paths.{Arm, inFirst, inSecond, inThird, holding, fieldStyle, fieldManner, fieldPlace, join, choiceWith, listPlace as placeAmong, Spot, among, within, put, itemsBefore, spotPlace, Step, holder, listWith, itemStyle, stepStyle, stepSides, stepPlace, Path, whole, into, fill, styleAt, sidesAt, placeOf}
-use Rattle.promises.specs.FieldBytes.{PartAt, fieldPart, field-reads}
+use Rattle.promises.specs.FieldBytes.{fieldPart, field-reads}
 use Rattle.promises.specs.ListFields.{ListField, listField, longListField, takenNumber, takenPlace, ItemAt, first, pastFields, pastKern, pastStyle, pastChoice, SetItem, inList, inTaken, FieldAt, inOne, inTwo, inThree, OwnListField, ListFieldAt, own, deeper, TakenRead, taken-read, reached}
 
 -- ---- a list field, from what its head says

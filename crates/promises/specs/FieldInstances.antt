@@ -14,7 +14,6 @@ use Rattle.formula.specs.declared.Class.the-variants.{Op}
 use Rattle.formula.specs.declared.Limits.the-variants.{Always}
 use Rattle.formula.specs.declared.Bar.the-variants.{Default}
 use Rattle.formula.specs.declared.Base.the-variants.{Atom, Under}
-use Rattle.formula.specs.declared.Kind.{Kind}
 use Rattle.formula.specs.declared.Kind.the-variants.{Scripted, Fraction}
 use Rattle.formula.specs.Tree.{Items, nil, cons, noad, kern, empty, symbol}
 use Rattle.boxes.specs.declared.styles.Level.the-variants.{Text, Script, Scriptscript}
@@ -28,7 +27,7 @@ use Rattle.promises.specs.BenchTable.{justEnough, benchTable}
 use Rattle.promises.specs.Definitions.{definitions}
 use Rattle.promises.specs.Accepting.{Accepted}
 use Rattle.promises.specs.EveryField.{listed-at}
-use Rattle.promises.specs.Demand3.{around, StandsIn, demand-3, ListFieldAsAlone}
+use Rattle.promises.specs.Demand3.{around, run, StandsIn, demand-3, ListFieldAsAlone}
 use Rattle.promises.specs.FieldExample.{T, atomBytes, ord, a, aAlone, by-place}
 
 -- the size of the list a alone, in a style
@@ -74,6 +73,11 @@ pub around-frame :
     }
 unfolding definitions benchTable
 around-frame = refl
+
+-- the nodes of that list, of which the second stands where the first does
+pub another-run : run benchTable [] (plain Text) whole superscript twice ≡ glyph (pos 0) (pos 0) 1 1 97 ∷ glyph (pos 0) (pos 0) 1 1 97 ∷ []
+unfolding definitions benchTable
+another-run = refl
 
 -- ---- in a list in a list in a list
 

@@ -1,6 +1,7 @@
 -- The words that a call is lent for the indexes (change request 9), of a formula and of a list between any two sides. What measuring leaves
 -- is `measuring-leaves` (answers/specs/LentLaws.antt).
 --     setting-leaves, why-leaves    setting and asking why leave the words for both indexes as measuring does, on 7 and on 9 too
+--                                   (`unpicked-leaves`)
 --     words-last, words-settle      what a call has built is left as it is by any later call with the same tables, and what any call has left
 --                                   by the same call once more
 --     few-refused, few-why, only-few, only-few-set, only-few-why    19 where style and tables are good and one of the two has fewer than 240 words,
@@ -18,7 +19,7 @@ use lib.Seq.{drop-at}
 use Rattle.font.specs.Records.{characterRecords, clientRecords}
 use Rattle.font.specs.Table.{goodTable, goodClient}
 use Rattle.font.specs.Font.{Font, fontWith}
-use Rattle.font_index.specs.Index.{indexWords, indexOf}
+use Rattle.font_index.specs.Index.{indexWords, indexOf, Indexes}
 use Rattle.formula.specs.Reading.{readFormula}
 use Rattle.boxes.specs.declared.styles.Style.{Style}
 use Rattle.boxes.specs.Styles.{styleOf}
@@ -29,7 +30,7 @@ use Rattle.answers.specs.Lent.{Lent, lends, lentOf, enough, builds, builtIf, in
 use Rattle.answers.specs.AnswersLaws.{few-words}
 use Rattle.answers.specs.LentLaws.{Few, few-is, is-few, early, foundNumber, read-late, result-early, measured-number, WordsLeft, left-by, measuring-leaves}
 use Rattle.answers.specs.Answers.{Result, boxed, refused, indexNumber, noRoomNumber, ifEnough, ifClient, ifGood, ifStyle, resultBetween, resultOf, Answered, accepted, refusal, measuredBy, measuredBetween, hasRoom, setBy, settingBetween, bufferBy, bufferBetween}
-use Rattle.answers.specs.Why.{whyRefusal, ifPicked, whyBy, reasonsIn, whyOf}
+use Rattle.answers.specs.Why.{unpickedNumber, whyRefusal, ifPicked, whyBy, reasonsIn, whyOf}
 
 -- ---- setting
 
@@ -84,6 +85,13 @@ module _ (style : ℕ) (table client i j formula : List ℕ) (place : ℕ) where
   why-leaves =
       left-by _ style table client i j
       (why-early (resultOf style table client (lentOf i j) formula) _ ∙ result-early noSides style table client (lentOf i j) formula)
+
+  -- a refusal 9 has built both
+  pub unpicked-leaves : whyOf style table client (lentOf i j) formula place .number ≡ unpickedNumber →
+      Indexes (indexAfter style table client i j) (characterRecords table)
+      × Indexes (clientIndexAfter style table client i j) (clientRecords client)
+  unfolding early
+  unpicked-leaves e = (why-leaves .index-left .built (ap early e), why-leaves .client-index-left .built (ap early e))
 
 -- ---- a second call
 

@@ -2,16 +2,15 @@
 -- behind it (`long-by-place`).
 -- Such a list is too long to compute with. How it reads is shown of any long list that is underlined (`underlined-reads`), and that it is set
 -- as its a is, of any number of kerns (`kerns-set` and its neighbours); only the a is computed. `long-at` names the list field by its place, for
--- any list.
+-- any list. An older analyser refuses the formula with 3 at 0 (`long-before`).
 -- Assumes nothing.
-use mathlib.Core.Path.{_≡_, refl, sym, subst, ap, ap₂, _∙_}
+use mathlib.Core.Path.{_≡_, refl, sym, subst, ap, _∙_}
 use mathlib.Core.Bool.{Bool, true, _&&_}
 use mathlib.Core.List.{List, [], _∷_, _++_}
-use mathlib.Core.Option.{Option, none, some}
+use mathlib.Core.Option.{none, some}
 use Prim.Native.Nat.{ℕ, zero, suc, _+_, _*_, _<_}
 use native.Mathlib.Omega.{arith}
 use native.Mathlib.Nat.{le-refl}
-use lib.Dec.{leb, eqb}
 use lib.IntN.{pos, +ℤ-idr}
 use lib.ListN.{length, take, drop, length-append}
 use lib.Seq.{take-at, drop-drop, drop-append-add}
@@ -22,30 +21,31 @@ use Rattle.font.specs.Font.{Font, fontWith}
 use Rattle.formula.specs.declared.Base.the-variants.{Under}
 use Rattle.formula.specs.declared.Kind.the-variants.{Scripted}
 use Rattle.formula.specs.declared.FieldHead.the-variants.{Sublist}
-use Rattle.formula.specs.Format.{longFormat}
-use Rattle.formula.specs.Tree.{Items, Item, Field, nil, cons, noad, kern, list, empty, greatestShort, longOpeningBytes}
+use Rattle.formula.specs.declared.Fault.the-variants.{Unreadable}
+use Rattle.formula.specs.Format.{shortFormat, longFormat}
+use Rattle.formula.specs.Tree.{Items, nil, cons, noad, kern, list, empty, greatestShort, longOpeningBytes}
 use Rattle.formula.specs.Marks.{markIn, markOf}
 use Rattle.formula.specs.Heads.{atomOf, atomOpening, kernWithin, kernOpening, opens, openingOf, symbolHead, sublistHead, longListHead, fieldHeadUnder, fieldHead}
 use Rattle.formula.specs.HeadLaws.{opening-long}
-use Rattle.formula.specs.Reading.{good, got, listGot, fieldBy, onlyList, heldIn, fieldAt, firstAt, thirdAt, noadAt, openedBy, itemBy, before, restBy, read, readFormula}
+use Rattle.formula.specs.Reading.{good, got, listGot, fieldBy, heldIn, fieldAt, firstAt, thirdAt, noadAt, openedBy, itemBy, before, restBy, read, readFormula}
 use Rattle.formula.specs.ReadingLaws.{read-none, read-some}
 use Rattle.formula.specs.FormatLaws.{so-reads}
 use Rattle.boxes.specs.declared.styles.Level.the-variants.{Text}
 use Rattle.boxes.specs.declared.styles.Style.{Style}
-use Rattle.boxes.specs.Boxes.{Size}
 use Rattle.boxes.specs.Styles.{plain, styleOf}
 use Rattle.nodes.specs.Nodes.{bytesInNode}
-use Rattle.setting.specs.Setting.{Box, Line, noSides, start, kerned, styleBehind, nextClass, classAt, setItems, setItem, setField, setList}
-use Rattle.setting.specs.Missing.{later, missingItems, missingItem, missingField}
-use Rattle.setting.specs.Fitting.{itemsFit, itemFits, fieldFits, listFits}
+use Rattle.setting.specs.Setting.{Box, Line, noSides, start, kerned, styleBehind, nextClass, setItems, setItem, setList}
+use Rattle.setting.specs.Missing.{later, missingItems}
+use Rattle.setting.specs.Fitting.{itemsFit, itemFits, listFits}
 use Rattle.answers.specs.Lent.{enough}
-use Rattle.answers.specs.Answers.{Answered, measured}
+use Rattle.answers.specs.Answers.{refused, faultNumber, Answered, measured}
 use Rattle.answers.specs.AnswersLaws.{measured-boxed, set-boxed}
 use Rattle.promises.specs.BenchTable.{justEnough, benchTable}
 use Rattle.promises.specs.Definitions.{definitions}
 use Rattle.promises.specs.Accepting.{Passed, boxed-of}
 use Rattle.promises.specs.ListFields.{ListField, longListField, first, inList, inOne, ListFieldAt, own}
 use Rattle.promises.specs.Demand3.{ListFieldAsAlone, demand-3-at}
+use Rattle.promises.specs.Formats.{resultUnder, long-answered}
 use Rattle.promises.specs.FieldExample.{T, atomBytes, ord, a, aAlone}
 
 -- ---- an underlined list of kind 3
@@ -260,3 +260,9 @@ long-by-place =
     in
     demand-3-at T benchTable [] justEnough longFormula room (ap (λ (x : Answered). x .number) answer) (plain Text) style-is 2 (plain Text) noSides
     longList (long-at 5 0 1 0 longList is-long (plain Text))
+
+-- document 01's format refuses it, for it is too long there
+pub long-before : resultUnder shortFormat noSides T benchTable [] justEnough longFormula ≡ refused (faultNumber Unreadable) 0
+long-before =
+    long-answered T benchTable [] justEnough longFormula (plain Text) (bench-good .style-is) (bench-good .table-good) (bench-good .client-good)
+    (bench-good .words-enough) (omega (arith, length-append longList (0 ∷ 0 ∷ []), length-is))

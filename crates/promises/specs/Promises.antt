@@ -35,7 +35,7 @@ pub use Rattle.promises.specs.ListFields.{SidesOf, field-sides, step-sid
 -- instances, from bytes: in a taken list behind a style change, the nucleus of a root, the list of a fence
 pub use Rattle.promises.specs.FieldExample.{chosen-by-place, nucleus-by-place, inside-by-place}
 -- another list of the same size, with what stands around both; a list three lists deep, a fraction's part, a limit; a list of kind 3
-pub use Rattle.promises.specs.FieldInstances.{another-list, around-frame, deep-by-place, part-by-place, limit-by-place}
+pub use Rattle.promises.specs.FieldInstances.{another-list, another-run, around-frame, deep-by-place, part-by-place, limit-by-place}
 pub use Rattle.promises.specs.LongField.{long-by-place}
 -- ---- request 1: blanks beside fractions. The fractions of the worked examples, P10 and P11, have them
 -- ---- request 2: style changes and choices
@@ -66,11 +66,12 @@ pub use Rattle.promises.specs.Formats.{accepted-on, measured-on, set-on}
 -- by it a field of kind 3 is refused with 3, at its item in a formula of at most 4,096 bytes, and at 0 in a longer one; every rightful field of
 -- kind 3 stands in a longer one
 pub use Rattle.promises.specs.Formats.{kind-answered, long-answered, rightful-answered}
+pub use Rattle.promises.specs.LongField.{long-before}
 -- ---- request 9: words for the indexes
 
 -- the words after a call: unchanged on 1, 2, 8 and 19, else with each table's index at the front; so of asking why, on 9 too
 pub use Rattle.answers.specs.LentLaws.{measuring-leaves}
-pub use Rattle.promises.specs.LentWords.{setting-leaves, why-leaves, words-last, words-settle}
+pub use Rattle.promises.specs.LentWords.{setting-leaves, why-leaves, unpicked-leaves, words-last, words-settle}
 -- 19 where words are few, and nowhere else; with words enough their number makes no difference
 pub use Rattle.promises.specs.LentWords.{few-refused, few-why, only-few, only-few-set, only-few-why, same-result, same-measured, same-set, same-why}
 pub use Rattle.promises.specs.Examples.{words-refused, client-index}
