@@ -12,3 +12,9 @@ pub fn grouped(number: f64) -> String {
     }
     text
 }
+
+/// With two digits behind the point, or three of a number below a tenth.
+pub fn ratio(number: f64) -> String {
+    let digits = if number < 0.1 { 3 } else { 2 };
+    format!("{number:.digits$}")
+}

@@ -1,6 +1,6 @@
 //! The tables of instructions: this program runs itself under callgrind.
 
-use crate::figures::grouped;
+use crate::figures::{grouped, ratio};
 use crate::pages::{page, PAGES};
 use crate::rows::{row, ROWS};
 use crate::timing::Timed;
@@ -53,10 +53,10 @@ fn print_row(name: &str, number: usize, work: &impl Timed, turns: [usize; 2]) ->
     let library = of_one(number, Setter::Library, work, turns)?;
     let reference = of_one(number, Setter::Reference, work, turns)?;
     println!(
-        "| {name} | {} | {} | {:.2} |",
+        "| {name} | {} | {} | {} |",
         grouped(library),
         grouped(reference),
-        reference / library
+        ratio(reference / library)
     );
     Ok(())
 }

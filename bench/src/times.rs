@@ -1,6 +1,6 @@
 //! The tables of times.
 
-use crate::figures::grouped;
+use crate::figures::{grouped, ratio};
 use crate::formulas::{chosen, empty_choices, flat, typical, PHRASE_BYTES};
 use crate::pages::{page, Page, PAGES};
 use crate::rows::{row, DEEP, LONG, LONGEST, ROWS};
@@ -49,11 +49,11 @@ fn print_speeds(jobs: &[Job]) {
     println!("|---|---|---|--:|--:|--:|");
     for job in jobs {
         println!(
-            "| {} | {} | {} | {:.2} |",
+            "| {} | {} | {} | {} |",
             job.work.name,
             grouped(1e9 / job.library()),
             grouped(1e9 / job.reference()),
-            job.speed_ratio()
+            ratio(job.speed_ratio())
         );
     }
 }
@@ -102,11 +102,11 @@ fn print_growth(jobs: &[Job]) {
     let empty = &jobs[0];
     for (job, bytes) in jobs.iter().zip(lengths()).skip(1) {
         println!(
-            "| {} | {:.2} | {:.2} | {:.2} |",
+            "| {} | {:.2} | {:.2} | {} |",
             job.work.name,
             (job.library() - empty.library()) / bytes as f64,
             (job.reference() - empty.reference()) / bytes as f64,
-            job.speed_ratio()
+            ratio(job.speed_ratio())
         );
     }
 }
@@ -117,10 +117,7 @@ fn forms() -> [(&'static str, Vec<u8>); 3] {
     [
         ("flat", flat(letters, LONG)),
         ("empty choices", empty_choices(LONG)),
-        (
-            "flat, in choices 16 deep",
-            chosen(letters, LONG, DEEP),
-        ),
+        ("flat, in choices 16 deep", chosen(letters, LONG, DEEP)),
     ]
 }
 
@@ -161,11 +158,11 @@ fn print_pages(jobs: &[Job<Page>]) {
     println!("|--:|---|--:|--:|--:|");
     for job in jobs {
         println!(
-            "| {} | {:.2} | {:.2} | {:.2} |",
+            "| {} | {:.2} | {:.2} | {} |",
             job.work.name,
             job.library(),
             job.reference(),
-            job.speed_ratio()
+            ratio(job.speed_ratio())
         );
     }
 }
@@ -175,11 +172,11 @@ fn print_typed(jobs: &[Job<Typed>]) {
     println!("|--:|--:|---|--:|--:|--:|");
     for job in jobs {
         println!(
-            "| {} | {:.1} | {:.1} | {:.2} |",
+            "| {} | {:.1} | {:.1} | {} |",
             job.work.name,
             job.library() / 1000.0,
             job.reference() / 1000.0,
-            job.speed_ratio()
+            ratio(job.speed_ratio())
         );
     }
 }

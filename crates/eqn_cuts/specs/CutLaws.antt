@@ -3,7 +3,7 @@
 --     Boundary, boundary-first            such a place, behind the one at which the loop began; there is one at the beginning
 --     boundary-tokens, boundary-next      the tokens of the text are those on its two sides; there is one at the end of a token
 --     none-behind                         no token stands behind the end
---     taken-tokens                        separators add no token to those before them
+--     taken-tokens, start-place           separators add no token to those before them; the place of the token that stands next
 --     alike, level-grows                  a token's bytes change nothing that its kind decides; a token opens at most one brace
 --     Passes, Stops, turn-boundary, turn  a turn of the loop: it passes one token, or the text has ended
 -- Two texts that share no word have the tokens of the one and of the other (`tokens-append`). So the tokens passed are known from those
@@ -14,19 +14,19 @@ use mathlib.Core.Bool.{true, false, and-false, false≢true}
 use mathlib.Core.List.{List, [], _∷_, _++_, append-nil, append-assoc, append-cancel-right}
 use mathlib.Core.Logic.{_⊎_, inl, inr, ⊎-elim}
 use Prim.Native.Nat.{ℕ, zero, suc, _+_, _-_, _<_, _≤_}
-use native.Mathlib.Nat.{le-refl, sub-self}
+use native.Mathlib.Nat.{le-refl, sub-self, sub-zero}
 use native.Mathlib.Decide.{le-ind}
 use native.Mathlib.Numerals.{add-one}
 use native.Mathlib.Omega.{arith}
 use borrow.Author.Tests.{ltb-true, ltb-false}
 use lib.Dec.{ltb}
-use lib.ListN.{length, take, drop, getD, length-drop, drop-of-length-le, take-append-drop}
+use lib.ListN.{length, take, drop, getD, length-take, length-drop, drop-of-length-le, take-append-drop}
 use lib.Seq.{drop-drop, getD-drop, take-suc}
 use Rattle.laws.specs.Truths.{by-test}
 use Rattle.eqn_tokens.specs.Bytes.{isSeparator, isWordByte}
 use Rattle.eqn_tokens.specs.BytesLaws.{here, word-no-separator}
 use Rattle.eqn_tokens.specs.Tokens.{Token, word, other, tokensFrom, tokensIn, placeIn}
-use Rattle.eqn_tokens.specs.TokensLaws.{isApart, beginsWord, endsWord, tokens-append, tokens-separator, place-front, begins-at}
+use Rattle.eqn_tokens.specs.TokensLaws.{isApart, beginsWord, endsWord, tokens-append, places-append, tokens-separator, place-front, begins-at}
 use Rattle.eqn_tokens.specs.declared.tokens.TokenKind.{TokenKind}
 use Rattle.eqn_tokens.specs.declared.tokens.TokenKind.the-variants.{Word, Keyword as Joining, Open, Close, Other, End}
 use Rattle.eqn_tokens.specs.declared.tokens.Token as code
@@ -88,6 +88,11 @@ boundary-first s {from} l = record { behind = le-refl from; within = l; apart = 
 
 pub boundary-tokens : {s : List ℕ} {from at : ℕ} → Boundary s from at → tokensIn (drop from s) ≡ tokensIn (between s from at) ++ tokensIn (drop at s)
 boundary-tokens {s} {from} {at} b = ap tokensIn (sym (between-all s (b .behind))) ∙ tokens-append (between s from at) (drop at s) (b .apart)
+
+boundary-place : {s : List ℕ} {at : ℕ} → Boundary s 0 at → placeIn (length (tokensIn (take at s))) s ≡ at + placeIn 0 (drop at s)
+boundary-place {s} {at} b =
+    let behind = rw (between-all s (b .behind), sub-zero) at (places-append (between s 0 at) (drop at s) (b .apart)) in
+    omega (arith, behind, length-take at s, b .within)
 
 pub none-behind : (s : List ℕ) {at : ℕ} → length s ≤ at → tokensIn (drop at s) ≡ []
 unfolding tokensFrom
@@ -153,6 +158,10 @@ module _ {s : List ℕ} {at r : ℕ} (b : SeparatorsBefore s at r) where
       rw (take-suc s i 0 (omega (arith, b .within)))
       (tokens-append (take i s) (byte ∷ []) no-word ∙ rw (tokens-separator byte [] separator, append-nil) (p (omega arith))))
       r (b .behind) (le-refl r)
+
+pub start-place : {s : List ℕ} {at : ℕ} {t : code.Token} → Boundary s 0 at → TokenAt s at t →
+    t .start ≡ placeIn (length (tokensIn (take (t .start) s))) s
+start-place b f = rw (taken-tokens (token-separators f)) (sym (f .place) ∙ sym (boundary-place b))
 
 -- ---- a token by its kind
 

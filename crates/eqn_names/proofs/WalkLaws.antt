@@ -2,11 +2,12 @@
 --     front-told                 what was found at the front of the part that was lent
 --     nameAt, Stands, stands     the record at a place, and the places of its name and of what stands behind it
 --     Passed                     the records that were passed do not matter to the search; with its start, its turn and its ends
--- The idea: a search looks at one record after the other, so it may as well begin at any record before which it finds nothing.
+-- The idea: a search looks at one record after the other, so it may as well begin at any record before which it finds nothing, if it is told
+-- the place of that record.
 -- Assumes nothing.
 use mathlib.Core.Path.{_≡_, refl, sym, ap, _∙_}
 use mathlib.Core.List.{List, [], _∷_}
-use mathlib.Core.Option.{Option, none, some}
+use mathlib.Core.Option.{none, some}
 use Prim.Native.Nat.{ℕ, _+_, _-_, _≤_, _<_}
 use native.Mathlib.Omega.{arith}
 use lib.ListN.{length, take, drop, length-take, length-drop, drop-of-length-le}
@@ -53,17 +54,17 @@ stands {s} {at} {n} {symbol} l found is =
 
 -- ---- records that were passed
 
-module _ (look : List Name → Option Name) (s : List ℕ) where
+module _ {A : Type 0} (look : ℕ → List Name → A) (s : List ℕ) where
   pub record Passed (at : ℕ) : Type 0 where
     pub within : at ≤ length s
-    pub rest : (ns : List Name) → Records s ns → (ms : List Name) × Records (drop at s) ms × (look ns ≡ look ms)
+    pub rest : (ns : List Name) → Records s ns → (ms : List Name) × Records (drop at s) ms × (look 0 ns ≡ look at ms)
 
   pub passed-none : Passed 0
   passed-none = record { within = omega arith; rest = λ ns r. (ns, r, refl) }
 
   module _ {at : ℕ} (p : Passed at) where
     pub passed-next : {n : ℕ} {symbol : Symbol} → Stands s at n symbol →
-        ((ms : List Name) → look (nameAt s at n symbol ∷ ms) ≡ look ms) → Passed (at + 1 + n + 3)
+        ((ms : List Name) → look at (nameAt s at n symbol ∷ ms) ≡ look (at + recordBytes (nameAt s at n symbol)) ms) → Passed (at + 1 + n + 3)
     passed-next {n} {symbol} f skips =
         let m = nameAt s at n symbol in
         record {
@@ -72,17 +73,19 @@ module _ (look : List Name → Option Name) (s : List ℕ) where
               λ ns r.
               let q = p .rest ns r in
               let o = records-open {ns = q .0} (q .1) (f .there) in
-              let behind : drop (recordBytes m) (drop at s) ≡ drop (at + 1 + n + 3) s = drop-drop (recordBytes m) at s ∙ ap (λ (i : ℕ). drop i s) (f .next) in
-              (o .rest, rw behind at (o .behind), q .2 ∙ ap look (o .first) ∙ skips (o .rest));
+              let behind : drop (recordBytes m) (drop at s) ≡ drop (at + 1 + n + 3) s = drop-drop (recordBytes m) at s ∙ ap (λ (i : ℕ). drop i s) (f .next) in (
+                o .rest,
+                rw behind at (o .behind),
+                q .2 ∙ ap (look at) (o .first) ∙ skips (o .rest) ∙ ap (λ (i : ℕ). look i (o .rest)) (f .next),
+              );
         }
 
-    pub passed-found : {n : ℕ} {symbol : Symbol} → Stands s at n symbol →
-        ((ms : List Name) → look (nameAt s at n symbol ∷ ms) ≡ some (nameAt s at n symbol)) → (ns : List Name) → Records s ns →
-        look ns ≡ some (nameAt s at n symbol)
+    pub passed-found : {n : ℕ} {symbol : Symbol} {a : A} → Stands s at n symbol → ((ms : List Name) → look at (nameAt s at n symbol ∷ ms) ≡ a) →
+        (ns : List Name) → Records s ns → look 0 ns ≡ a
     passed-found f finds ns r =
         let q = p .rest ns r in
         let o = records-open {ns = q .0} (q .1) (f .there) in
-        q .2 ∙ ap look (o .first) ∙ finds (o .rest)
+        q .2 ∙ ap (look at) (o .first) ∙ finds (o .rest)
 
     -- where there is no record there are no records
     pub passed-stopped : at < length s → frontName (drop at s) ≡ none → (ns : List Name) → Records s ns → ⊥
@@ -90,7 +93,7 @@ module _ (look : List Name → Option Name) (s : List ℕ) where
         let ended = records-stop (p .rest ns r .1) e in
         omega (arith, ap (λ (t : List ℕ). length t) ended, length-drop at s)
 
-    pub passed-all : length s ≤ at → look [] ≡ none → (ns : List Name) → Records s ns → look ns ≡ none
+    pub passed-all : {a : A} → length s ≤ at → look at [] ≡ a → (ns : List Name) → Records s ns → look 0 ns ≡ a
     passed-all l e ns r =
         let q = p .rest ns r in
-        q .2 ∙ ap look (records-none (q .1) (drop-of-length-le s l)) ∙ e
+        q .2 ∙ ap (look at) (records-none (q .1) (drop-of-length-le s l)) ∙ e

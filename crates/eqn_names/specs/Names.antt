@@ -4,7 +4,7 @@
 --                       keyword, or repeats the name of a record before it
 --     named ns w        the record of a word
 --     Records s ns      the records of some bytes
---     firstFor f c k ns     the first name of a symbol; of an atom's class too where k asks for it
+--     firstFor f c k ns     the first name of a symbol; of an atom's class too where k asks for it; `firstPlace` where its record stands
 -- Assumes nothing.
 use mathlib.Core.Path.{_≡_}
 use mathlib.Core.Bool.{Bool, true, false, not, _&&_}
@@ -115,4 +115,13 @@ firstFor family code asked (m ∷ ms) =
     elim (eqb (m .family) family && eqb (m .code) code && hasClass asked (m .class)) [
       | true ↦ some m
       | false ↦ firstFor family code asked ms
+    ]
+
+-- the place of that record, where the first of the records stands at a place
+unfoldable pub firstPlace : ℕ → ℕ → Asked → ℕ → List Name → ℕ
+firstPlace family code asked at [] = at
+firstPlace family code asked at (m ∷ ms) =
+    elim (eqb (m .family) family && eqb (m .code) code && hasClass asked (m .class)) [
+      | true ↦ at
+      | false ↦ firstPlace family code asked (at + recordBytes m) ms
     ]

@@ -2,7 +2,7 @@
 --     asked-any, asked-class              what is asked for by a class
 --     named-first, named-next, named-append     a word among some names, by the first of them, and behind those that lack it
 --     named-is                            the record of a word is a member and has the word's bytes
---     first-here, first-next              the first name of a symbol, by the first of some names
+--     first-here, first-next              the first name of a symbol, by the first of some names; `place-here`, `place-next` its place
 --     first-is, first-none                it is a member that is for the symbol; where there is none, no member is
 --     table-bad, table-old, table-next    a table by its first record
 --     table-records                       the names of a good table are its records
@@ -24,7 +24,7 @@ use Rattle.laws.specs.Options.{none-some}
 use Rattle.laws.specs.Truths.{by-test, both-true, true-both}
 use Rattle.eqn_tokens.specs.Bytes.{same}
 use Rattle.eqn_tokens.specs.BytesLaws.{same-own, same-is}
-use Rattle.eqn_names.specs.Names.{Name, recordBytes, frontName, isKeyword, named, isThere, names, badAt, isNew, recordThen, tableStep, tableBy, tableOf, Asked, anyClass, ofClass, hasClass, firstFor, Records, ended, next, askedAs}
+use Rattle.eqn_names.specs.Names.{Name, recordBytes, frontName, isKeyword, named, isThere, names, badAt, isNew, recordThen, tableStep, tableBy, tableOf, Asked, anyClass, ofClass, hasClass, firstFor, firstPlace, Records, ended, next, askedAs}
 use Rattle.eqn_names.specs.RecordsLaws.{GoodName, front-is}
 
 -- ---- what is asked for
@@ -87,6 +87,16 @@ module _ (family code : ℕ) (asked : Asked) where
   pub first-next : (m : Name) (ms : List Name) → isFor family code asked m ≡ false → firstFor family code asked (m ∷ ms) ≡ firstFor family code asked ms
   unfolding firstFor
   first-next m ms t = rw (t, firstFor)
+
+  module _ (at : ℕ) (m : Name) (ms : List Name) where
+    pub place-here : isFor family code asked m ≡ true → firstPlace family code asked at (m ∷ ms) ≡ at
+    unfolding firstPlace
+    place-here t = rw (t, firstPlace)
+
+    pub place-next : isFor family code asked m ≡ false →
+        firstPlace family code asked at (m ∷ ms) ≡ firstPlace family code asked (at + recordBytes m) ms
+    unfolding firstPlace
+    place-next t = rw (t, firstPlace)
 
   fits-for : {ns : List Name} (m : Name) → List·Memᴰ m ns → isFor family code asked m ≡ true → For ns m
   fits-for m member t =

@@ -1,12 +1,12 @@
 -- What the code's values stand for, and what its functions promise.
 --     frontAs, foundAs, tableTold     the record at the front, the symbol of a word, the test of a table
---     NameFound              the bytes of a name in its table
+--     NameFound              the bytes of a name in its table, behind the first byte of its record
 --     UnknownFound           the place of the first unknown word
 -- Assumes nothing.
 use mathlib.Core.Path.{_≡_}
 use mathlib.Core.List.{List}
 use mathlib.Core.Option.{Option, none, some}
-use Prim.Native.Nat.{ℕ, _-_, _≤_}
+use Prim.Native.Nat.{ℕ, _+_, _-_, _≤_}
 use lib.ListN.{length, take, drop}
 use Rattle.eqn_tokens.specs.Tokens.{tokensIn, placeIn}
 use Rattle.eqn_names.specs.Names.{Name, Table, names, badAt}
@@ -35,10 +35,11 @@ abbrev pub foundAs : List ℕ → WordSymbol → Option Name
 foundAs w (Named symbol) = some (nameAs w symbol)
 foundAs w Unnamed = none
 
-abbrev pub NameFound : List ℕ → Option Name → Range → Type 0
-NameFound s o Nothing = o ≡ none
-NameFound s o (Bytes start end) =
-    (m : Name) × (o ≡ some m) × (start ≤ end) × (end ≤ length s) × (m .bytes ≡ take (end - start) (drop start s))
+-- of a record that stands at a place
+abbrev pub NameFound : List ℕ → Option Name → ℕ → Range → Type 0
+NameFound s o place Nothing = o ≡ none
+NameFound s o place (Bytes start end) =
+    (m : Name) × (o ≡ some m) × (start ≤ end) × (end ≤ length s) × (m .bytes ≡ take (end - start) (drop start s)) × (start ≡ place + 1)
 
 abbrev pub tableTold : Table → Checked
 tableTold (names ns) = Good

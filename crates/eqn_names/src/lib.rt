@@ -5,7 +5,7 @@ ghost use mathlib.Core.Bool.{not, _&&_};
 ghost use mathlib.Core.List.{List};
 ghost use lib.Dec.{leb, eqb};
 ghost use Rattle.formula.specs.Heads.{greatestFamily, greatestClass};
-ghost use Rattle.eqn_names.specs.Names.{Name, tableOf, frontName, named, firstFor, isKeyword, isThere, hasClass};
+ghost use Rattle.eqn_names.specs.Names.{Name, tableOf, frontName, named, firstFor, firstPlace, isKeyword, isThere, hasClass};
 ghost use Rattle.eqn_names.specs.Names.{Records, askedAs};
 ghost use Rattle.eqn_names.specs.Values.{frontAs, foundAs, NameFound, tableTold, UnknownFound};
 use eqn_tokens::bytes::are_same;
@@ -112,7 +112,7 @@ pub fn find(names: &[u8], word: &[u8]) -> WordSymbol
 
 // The first name of a symbol in a table, of a class or of any.
 pub fn first_for(names: &[u8], family: u8, code: u8, class: u8) -> Range
-    ensures { λ r. ⌜ ((ns : List Name) → Records (now (names .entry)) ns → NameFound (now (names .entry)) (firstFor family code (askedAs class) ns) r) ⌝ }
+    ensures { λ r. ⌜ ((ns : List Name) → Records (now (names .entry)) ns → NameFound (now (names .entry)) (firstFor family code (askedAs class) ns) (firstPlace family code (askedAs class) 0 ns) r) ⌝ }
 {
     let mut at: usize = 0;
     while at < names.len() {

@@ -1,5 +1,5 @@
 -- What is proved about reading and writing typed text (request 10). `Promises` is the page of the theorems; the other modules lead to
--- them, and to a worked example for each sentence of the request.
+-- them.
 -- Assumes nothing.
 pub mod Promises
 pub mod Plain
@@ -13,4 +13,8 @@ pub mod WrittenLaws
 pub mod TextLaws
 pub mod OnlySo
 pub mod RoundTrip
-pub mod Examples
+pub mod TokenPlaces
+pub mod Refusals
+pub mod Sizes
+pub mod Room
+pub mod LongText

@@ -2,9 +2,10 @@
 --     bytesOf                          the bytes of a token
 --     Proper, word-proper, proper      a kind that is not the end has a token and bytes
 --     proper-then, keyword-then        of a kind that has a token, and of a word
+--     keyword-spelled, mark-bytes, mark-spelled     the bytes of a word's kind and of a mark's
 --     behind-tokens, behind-places     nothing is lost behind separators
 --     token-made, token-ended          the first token from a place on, made of the separators before it and of what begins there
---     place-separators, token-separators     separators stand up to the first token
+--     front-separators, place-separators, token-separators     separators stand up to the first token
 --     token-ordered, token-last, token-moves     where a token that is found starts and ends
 -- Assumes nothing.
 use mathlib.Core.Path.{_≡_, refl, sym, ap, _∙_}
@@ -16,19 +17,19 @@ use native.Mathlib.Nat.{le-refl}
 use native.Mathlib.Decide.{le-ind}
 use native.Mathlib.Numerals.{add-one}
 use native.Mathlib.Omega.{arith}
-use borrow.Author.Tests.{ltb-true, ltb-false}
-use lib.Dec.{ltb}
+use borrow.Author.Tests.{eqb-true, ltb-true, ltb-false}
+use lib.Dec.{eqb, ltb}
 use lib.ListN.{length, take, drop, getD, length-drop, drop-of-length-le}
 use lib.Seq.{drop-drop, getD-drop}
 use Rattle.laws.specs.Truths.{by-test}
 use Rattle.eqn_tokens.specs.declared.tokens.TokenKind.{TokenKind}
 use Rattle.eqn_tokens.specs.declared.tokens.TokenKind.the-variants.{Word, Keyword as Joining, Open, Close, Other, End}
 use Rattle.eqn_tokens.specs.declared.tokens.Token as code
-use Rattle.eqn_tokens.specs.Bytes.{isSeparator, same}
+use Rattle.eqn_tokens.specs.Bytes.{isSeparator, openingBrace, closingBrace, same}
 use Rattle.eqn_tokens.specs.BytesLaws.{here}
-use Rattle.eqn_tokens.specs.Tokens.{Token, other, keywordOf, tokenBytes, tokensFrom, tokensIn, placeFrom, placeIn}
+use Rattle.eqn_tokens.specs.Tokens.{Token, other, keywordOf, tokenBytes, markOf, tokensFrom, tokensIn, placeFrom, placeIn}
 use Rattle.eqn_tokens.specs.TokensLaws.{keyword-bytes, Begins, begins-at, tokens-separator, place-separator, place-front}
-use Rattle.eqn_tokens.specs.Values.{kindAs, tokenThen, HasBytes, TokenAt, SeparatorsBefore}
+use Rattle.eqn_tokens.specs.Values.{kindAs, tokenThen, MarkAs, HasBytes, IsSpelled, TokenAt, SeparatorsBefore}
 
 -- the bytes of a token of a text
 abbrev pub bytesOf : List ℕ → code.Token → List ℕ
@@ -71,6 +72,33 @@ keyword-then k w e ts = ⊎-elim (λ is. absurd (no-end (rw is at e))) (λ p. p 
         let never : _≡_ {A = ℕ} 0 1 = cc in
         omega arith
 
+-- ---- bytes
+
+-- a kind whose token has these bytes is spelled so
+spelled-as : (k : TokenKind) {w : List ℕ} → tokenBytes (kindAs k w) ≡ w → IsSpelled k w
+unfolding tokenBytes
+spelled-as Word e = tt
+spelled-as (Joining k) e = sym e
+spelled-as Open e = sym e
+spelled-as Close e = sym e
+spelled-as Other e = sym (ap length e)
+spelled-as End e = tt
+
+pub keyword-spelled : (k : TokenKind) (w : List ℕ) → kindAs k w ≡ keywordOf w → IsSpelled k w
+keyword-spelled k w e = spelled-as k (ap tokenBytes e ∙ keyword-bytes w)
+
+pub mark-bytes : (b : ℕ) → tokenBytes (markOf b) ≡ b ∷ []
+unfolding tokenBytes markOf
+mark-bytes b =
+    by-test (eqb b openingBrace) (λ e. rw (e, eqb-true b openingBrace e))
+    (λ e. by-test (eqb b closingBrace) (λ f. rw (e, f, eqb-true b closingBrace f)) (λ f. rw (e, f)))
+
+pub mark-spelled : (b : ℕ) (k : TokenKind) → MarkAs b k → IsSpelled k (b ∷ [])
+mark-spelled b k h =
+    let p = proper-then k (b ∷ []) [] (h [] []) in
+    let is : kindAs k (b ∷ []) ≡ markOf b = cc (p .then (b ∷ []) [], h [] []) in
+    spelled-as k (ap tokenBytes is ∙ mark-bytes b)
+
 -- ---- separators
 
 module _ {s : List ℕ} {at r : ℕ} (b : SeparatorsBefore s at r) where
@@ -93,14 +121,16 @@ module _ {s : List ℕ} {at r : ℕ} (b : SeparatorsBefore s at r) where
   -- ---- the first token from a place on
 
   pub token-made : (k : TokenKind) {t : Token} {e end : ℕ} → Begins (drop r s) t e → end ≡ r + e →
-      ((ts : List Token) → tokenThen k (take e (drop r s)) ts ≡ t ∷ ts) → TokenAt s at (record { kind = k; start = r; end = end })
-  token-made k {t} {e} {end} f is then =
+      ((ts : List Token) → tokenThen k (take e (drop r s)) ts ≡ t ∷ ts) → IsSpelled k (take e (drop r s)) →
+      TokenAt s at (record { kind = k; start = r; end = end })
+  token-made k {t} {e} {end} f is then spelled =
       let behind : drop e (drop r s) ≡ drop end s = drop-drop e r s ∙ ap (λ (i : ℕ). drop i s) (sym is) in
       let long : end - r ≡ e = omega arith in
       record {
         behind = b .behind;
         some = proper-then k (take e (drop r s)) [] (then []) .has (omega (arith, f .least));
         within = omega (arith, f .most, length-drop r s, b .within);
+        spelled = rw long spelled;
         tokens = behind-tokens ∙ f .tokens ∙ rw (long, ← behind) (sym (then _));
         place = omega (arith, behind-places 0, f .place);
         places = λ n. omega (arith, behind-places (n + 1), f .places n, ap (placeIn n) behind);
@@ -114,6 +144,7 @@ module _ {s : List ℕ} {at r : ℕ} (b : SeparatorsBefore s at r) where
         behind = b .behind;
         some = refl;
         within = b .within;
+        spelled = tt;
         tokens = behind-tokens ∙ ap tokensIn none-left;
         place = omega (arith, behind-places 0, ap (placeIn 0) none-left);
         places = λ n. omega (arith, behind-places (n + 1), ap (placeIn (n + 1)) none-left, ap (placeIn n) none-left);
@@ -121,7 +152,7 @@ module _ {s : List ℕ} {at r : ℕ} (b : SeparatorsBefore s at r) where
 
 -- ---- the place of the first token
 
-front-separators : (s : List ℕ) → SeparatorsBefore s 0 (placeIn 0 s)
+pub front-separators : (s : List ℕ) → SeparatorsBefore s 0 (placeIn 0 s)
 unfolding placeFrom
 front-separators [] = record { behind = omega arith; within = omega arith; all = λ i l m. absurd (omega arith); last = λ l. absurd (omega arith) }
 front-separators (b ∷ s) = by-test (isSeparator b) (λ t. more t (front-separators s)) at-once

@@ -5,7 +5,7 @@
 --     tokens-skip, place-skip          the tokens behind some bytes, and their places
 --     tokens-separator, tokens-word, tokens-mark     the tokens of a text, by its first byte
 --     place-separator, place-front, place-word, place-mark     the same for their places
---     tokens-append                    the tokens of two texts, one behind the other, that share no word
+--     tokens-append, places-append     the tokens of two texts, one behind the other, that share no word, and where those of the second begin
 --     Begins, word-at, mark-at, begins-at     the token that a text begins with, and how many bytes it has
 -- The idea: a law for each kind of first byte, from which the others follow without the definitions.
 -- Assumes nothing.
@@ -17,7 +17,7 @@ use native.Mathlib.Nat.{zero-add}
 use native.Mathlib.Numerals.{add-one}
 use native.Mathlib.Omega.{arith}
 use borrow.Author.Tests.{not-true}
-use lib.ListN.{length, take, drop, getD}
+use lib.ListN.{length, take, drop, getD, length-append}
 use lib.Seq.{take-append-le}
 use Rattle.laws.specs.Truths.{by-test}
 use Rattle.eqn_tokens.specs.Bytes.{isSeparator, isWordByte, same}
@@ -168,6 +168,28 @@ from-append zero (c ∷ a) b l e =
 
 pub tokens-append : (a b : List ℕ) → isApart a b ≡ true → tokensIn (a ++ b) ≡ tokensIn a ++ tokensIn b
 tokens-append a b e = from-append zero a b (omega arith) e
+
+places-from : (k : ℕ) (a b : List ℕ) → k ≤ length a → isApart a b ≡ true → placeFrom k (length (tokensFrom k a)) (a ++ b) ≡ length a + placeIn 0 b
+unfolding tokensFrom placeFrom
+places-from zero [] b l e = sym (zero-add (placeIn 0 b))
+places-from (suc k) [] b l e = absurd (omega arith)
+places-from (suc k) (c ∷ a) b l e = omega (arith, places-from k a b (omega arith) (apart-behind c a b e))
+places-from zero (c ∷ a) b l e =
+    let behind = apart-behind c a b e in
+    let rest = places-from zero a b (omega arith) behind in
+    by-test (isWordByte c)
+    (λ w.
+    let run = runLength a in
+    let n = length (tokensFrom run a) in
+    let skip = place-skip run n (a ++ b) (omega (arith, run-most a, length-append a b)) in
+    let next = rw (run-append c a b w e) at (place-word n c (a ++ b) w) in
+    rw (tokens-word c a w) (omega (arith, next, skip, places-from run a b (run-most a) behind)))
+    (λ w.
+    by-test (isSeparator c) (λ s. rw (tokens-separator c a s) (omega (arith, place-separator (length (tokensIn a)) c (a ++ b) s, rest)))
+    (λ s. rw (tokens-mark c a s w) (omega (arith, place-mark (length (tokensIn a)) c (a ++ b) s w, rest))))
+
+pub places-append : (a b : List ℕ) → isApart a b ≡ true → placeIn (length (tokensIn a)) (a ++ b) ≡ length a + placeIn 0 b
+places-append a b e = places-from zero a b (omega arith) e
 
 -- ---- the token that a text begins with
 

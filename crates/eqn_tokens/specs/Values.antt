@@ -1,5 +1,5 @@
 -- What the code's values stand for, and what its functions promise.
---     kindAs, TokenAt        a token by its kind and its bytes, and the first one from a place on
+--     kindAs, TokenAt        a token by its kind and its bytes, and the first one from a place on; `IsSpelled` the bytes of a kind
 --     MarkAs                 the kind of a byte that is a token by itself
 --     SeparatorsBefore       a place behind separators
 -- Assumes nothing.
@@ -8,8 +8,8 @@ use mathlib.Core.Bool.{true, false}
 use mathlib.Core.List.{List, [], _∷_}
 use Prim.Native.Nat.{ℕ, _+_, _-_, _≤_, _<_}
 use lib.ListN.{length, take, drop, getD}
-use Rattle.eqn_tokens.specs.Bytes.{isSeparator}
-use Rattle.eqn_tokens.specs.Tokens.{Token, word, keyword, opening, closing, other, markOf, tokensIn, placeIn}
+use Rattle.eqn_tokens.specs.Bytes.{isSeparator, openingBrace, closingBrace}
+use Rattle.eqn_tokens.specs.Tokens.{Token, word, keyword, opening, closing, other, keywordBytes, markOf, tokensIn, placeIn}
 use Rattle.eqn_tokens.specs.declared.tokens.TokenKind.{TokenKind}
 use Rattle.eqn_tokens.specs.declared.tokens.TokenKind.the-variants.{Word, Keyword as Joining, Open, Close, Other, End}
 use Rattle.eqn_tokens.specs.declared.tokens.Token as code
@@ -45,10 +45,20 @@ HasBytes Close start end = start < end
 HasBytes Other start end = start < end
 HasBytes End start end = start ≡ end
 
+-- a keyword and a brace have their own bytes, another byte is one; those of a word are told by the token itself
+abbrev pub IsSpelled : TokenKind → List ℕ → Type 0
+IsSpelled Word w = Unit {0}
+IsSpelled (Joining k) w = w ≡ keywordBytes k
+IsSpelled Open w = w ≡ openingBrace ∷ []
+IsSpelled Close w = w ≡ closingBrace ∷ []
+IsSpelled Other w = length w ≡ 1
+IsSpelled End w = Unit {0}
+
 pub record TokenAt (s : List ℕ) (at : ℕ) (t : code.Token) : Type 0 where
   pub behind : at ≤ t .start
   pub some : HasBytes (t .kind) (t .start) (t .end)
   pub within : t .end ≤ length s
+  pub spelled : IsSpelled (t .kind) (take (t .end - t .start) (drop (t .start) s))
   pub tokens : tokensIn (drop at s) ≡ tokenThen (t .kind) (take (t .end - t .start) (drop (t .start) s)) (tokensIn (drop (t .end) s))
   pub place : at + placeIn 0 (drop at s) ≡ t .start
   pub places : (n : ℕ) → at + placeIn (n + 1) (drop at s) ≡ t .end + placeIn n (drop (t .end) s)

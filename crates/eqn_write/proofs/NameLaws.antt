@@ -7,15 +7,15 @@
 -- Assumes nothing.
 use mathlib.Core.Path.{_≡_, refl, ap, subst}
 use mathlib.Core.List.{List}
-use mathlib.Core.Option.{Option, some}
+use mathlib.Core.Option.{Option, none, some}
 use Prim.Native.Nat.{ℕ, zero, suc, _+_, _-_, _≤_}
 use native.Mathlib.Omega.{arith}
 use lib.ListN.{length, take, drop}
 use lib.Seq.{sets}
 use Rattle.eqn_tokens.specs.Tokens.{word, tokenBytes}
-use Rattle.eqn_names.specs.Names.{Name, Asked, Records, longestName, firstFor}
+use Rattle.eqn_names.specs.Names.{Name, Asked, Records, longestName, firstFor, firstPlace}
 use Rattle.eqn_names.specs.declared.Range.{Range}
-use Rattle.eqn_names.specs.declared.Range.the-variants.{Bytes, Nothing}
+use Rattle.eqn_names.specs.declared.Range.the-variants.{Bytes}
 use Rattle.eqn_names.specs.Values.{NameFound}
 use Rattle.eqn_grammar.specs.Grammar.{primaryTokens}
 use Rattle.eqn_meaning.specs.Writing.{asWord}
@@ -39,10 +39,10 @@ pub record Lent (table : List ℕ) (start end : ℕ) : Type 0 where
 
 module _ (table : List ℕ) (family code : ℕ) (asked : Asked) {r : Range} where
   pub name-lent : {start end : ℕ} → HasNames table →
-      ((ns : List Name) → Records table ns → NameFound table (firstFor family code asked ns) r) → r ≡ Bytes start end → Lent table start end
+      ((ns : List Name) → Records table ns → NameFound table (firstFor family code asked ns) (firstPlace family code asked 0 ns) r) → r ≡ Bytes start end → Lent table start end
   name-lent {start} {end} has found is =
       let ns = has .0 in
-      let f = subst (NameFound table (firstFor family code asked ns)) is (found ns (has .1)) in
+      let f = subst (NameFound table (firstFor family code asked ns) (firstPlace family code asked 0 ns)) is (found ns (has .1)) in
       let good = records-good (has .1) (first-is family code asked ns (f .1) .member) in
       let bytes = ap (λ (w : List ℕ). length w) (f .4) in
       record {
@@ -52,11 +52,11 @@ module _ (table : List ℕ) (family code : ℕ) (asked : Asked) {r : Range} wher
         most = omega (arith, good .most);
       }
 
-pub word-put : (table : List ℕ) (o : Option Name) {start end at e : ℕ} {before after : List ℕ} → NameFound table o (Bytes start end) →
+pub word-put : (table : List ℕ) (o : Option Name) (place : ℕ) {start end at e : ℕ} {before after : List ℕ} → NameFound table o place (Bytes start end) →
     e ≡ at + length (tokenText at (partOf table start end)) → after ≡ sets before at (tokenText at (partOf table start end)) →
     Texted (ofOperand (asWord o)) at e before after
 unfolding primaryTokens tokenBytes
-word-put table o f ends stored = rw (f .1) (token-put (word (f .0 .bytes)) (f .4) ends stored)
+word-put table o place f ends stored = rw (f .1) (token-put (word (f .0 .bytes)) (f .4) ends stored)
 
-pub wordless : (table : List ℕ) (o : Option Name) (before : List ℕ) → NameFound table o Nothing → Untexted (ofOperand (asWord o)) before before
-wordless table o before f = record { none-are = rw f; as-long = refl }
+pub wordless : (o : Option Name) (before : List ℕ) → o ≡ none → Untexted (ofOperand (asWord o)) before before
+wordless o before f = record { none-are = rw f; as-long = refl }

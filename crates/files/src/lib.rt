@@ -7,8 +7,10 @@ pub const TABLE_SPACE: usize = 47_531;
 
 pub const CLIENT_SPACE: usize = 11_777;
 
-// One byte more than the longest name table that the programs take.
-pub const NAME_SPACE: usize = 131_073;
+// The longest name table that the programs take, and one byte more, so that a longer one is seen.
+pub const LONGEST_NAMES: usize = 131_072;
+
+pub const NAME_SPACE: usize = LONGEST_NAMES + 1;
 
 // Reads a table to the front of a buffer. One that is not there has no bytes: ours is then no good table, and a client's has no symbols.
 // One that cannot be read has a single byte, so that neither is good.
@@ -25,7 +27,7 @@ pub fn read_table(name: &[u8], buffer: &mut [u8]) -> usize
     read_open(fd, buffer)
 }
 
-// Reads a table that has to be there: where it is not, cannot be read, or fills the buffer, it has a single byte, so that it is no good table.
+// Reads a table that has to be there: where it is not, or cannot be read, it has a single byte, so that it is no good table.
 pub fn read_needed(name: &[u8], buffer: &mut [u8]) -> usize
     ensures { λ r. ⌜ Counts r (now (buffer .exit)) ⌝ }
 {
@@ -33,11 +35,7 @@ pub fn read_needed(name: &[u8], buffer: &mut [u8]) -> usize
     if fd < 0 {
         return io::count(1, buffer);
     }
-    let size = read_open(fd, buffer);
-    if size == buffer.len() {
-        return io::count(1, buffer);
-    }
-    size
+    read_open(fd, buffer)
 }
 
 fn read_open(fd: i32, buffer: &mut [u8]) -> usize

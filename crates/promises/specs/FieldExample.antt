@@ -41,23 +41,23 @@ use Rattle.promises.specs.FieldBytes.{fieldPart}
 use Rattle.promises.specs.ListFields.{listField, ItemAt, first, pastFields, pastStyle, pastChoice, inList, inTaken, inOne, inTwo, OwnListField, ListFieldAt, own, deeper}
 use Rattle.promises.specs.Demand3.{fieldStyleNumber, around, FieldAsAlone, demand-3, ListFieldAsAlone, demand-3-at}
 
-abbrev T : ℕ
+abbrev pub T : ℕ
 T = 2
 
-abbrev atomBytes : List ℕ
+abbrev pub atomBytes : List ℕ
 atomBytes = 65 ∷ 84 ∷ 0 ∷ 0 ∷ 1 ∷ 1 ∷ 97 ∷ 0 ∷ 0 ∷ []
 
 abbrev formula : List ℕ
 formula = atomBytes ++ (65 ∷ 84 ∷ 0 ∷ 0 ∷ 1 ∷ 1 ∷ 97 ∷ 2 ∷ 9 ∷ 0 ∷ (atomBytes ++ (0 ∷ [])))
 
-abbrev ord : Kind
+abbrev pub ord : Kind
 ord = Scripted (Atom Ord DisplayOnly)
 
-abbrev a : Field
+abbrev pub a : Field
 a = symbol 1 97
 
 -- the list a
-abbrev aAlone : Items
+abbrev pub aAlone : Items
 aAlone = cons (noad ord a empty empty) nil
 
 -- past the first a, into the second field of the second item, whose nucleus is a
@@ -92,7 +92,7 @@ superscript-frame = refl
 -- ---- by the place of the kind byte
 
 -- a list field of a formula that the bench table accepts in T
-by-place : (formula : List ℕ) {l : Items} {place : ℕ} {v : Style} {sides : Sides} {field : List ℕ} →
+pub by-place : (formula : List ℕ) {l : Items} {place : ℕ} {v : Style} {sides : Sides} {field : List ℕ} →
     Accepted T benchTable [] justEnough formula (plain Text) l → ListFieldAt (plain Text) formula place v sides field →
     ListFieldAsAlone T benchTable [] justEnough formula (plain Text) place v sides field
 by-place formula h f = demand-3-at T benchTable [] justEnough formula (h .room) (h .is-accepted) (plain Text) (h .style-is) _ _ _ _ f

@@ -1,10 +1,12 @@
 -- The words that a call is lent for the indexes (change request 9), of a formula and of a list between any two sides. What measuring leaves
 -- is `measuring-leaves` (answers/specs/LentLaws.antt).
---     setting-leaves                setting leaves the words for both indexes as measuring does
+--     setting-leaves, why-leaves    setting and asking why leave the words for both indexes as measuring does, on 7 and on 9 too
+--                                   (`unpicked-leaves`)
 --     words-last, words-settle      what a call has built is left as it is by any later call with the same tables, and what any call has left
 --                                   by the same call once more
---     few-refused, only-few, only-few-set     19 where style and tables are good and one of the two has fewer than 240 words, and nowhere else
---     same-result, same-measured, same-set    where words enough are lent, the answers do not depend on how many more there are
+--     few-refused, few-why, only-few, only-few-set, only-few-why    19 where style and tables are good and one of the two has fewer than 240 words,
+--                                   and nowhere else
+--     same-result, same-measured, same-set, same-why    where words enough are lent, the answers do not depend on how many more there are
 -- Assumes nothing.
 use mathlib.Core.Path.{_≡_, refl, sym, ap, ap₂, _∙_}
 use mathlib.Core.Bool.{Bool, true, false, true≢false}
@@ -17,16 +19,18 @@ use lib.Seq.{drop-at}
 use Rattle.font.specs.Records.{characterRecords, clientRecords}
 use Rattle.font.specs.Table.{goodTable, goodClient}
 use Rattle.font.specs.Font.{Font, fontWith}
-use Rattle.font_index.specs.Index.{indexWords, indexOf}
+use Rattle.font_index.specs.Index.{indexWords, indexOf, Indexes}
 use Rattle.formula.specs.Reading.{readFormula}
 use Rattle.boxes.specs.declared.styles.Style.{Style}
 use Rattle.boxes.specs.Styles.{styleOf}
+use Rattle.reasons.specs.Reasons.{Reasons}
 use Rattle.setting.specs.Setting.{Box, Sides, noSides}
 use Rattle.font_index.specs.IndexLaws.{index-length}
 use Rattle.answers.specs.Lent.{Lent, lends, lentOf, enough, builds, builtIf, indexAfter, clientIndexAfter}
 use Rattle.answers.specs.AnswersLaws.{few-words}
 use Rattle.answers.specs.LentLaws.{Few, few-is, is-few, early, foundNumber, read-late, result-early, measured-number, WordsLeft, left-by, measuring-leaves}
-use Rattle.answers.specs.Answers.{Result, boxed, refused, indexNumber, noRoomNumber, ifEnough, ifClient, ifGood, ifStyle, resultBetween, Answered, accepted, refusal, measuredBy, measuredBetween, hasRoom, setBy, settingBetween, bufferBy, bufferBetween}
+use Rattle.answers.specs.Answers.{Result, boxed, refused, indexNumber, noRoomNumber, ifEnough, ifClient, ifGood, ifStyle, resultBetween, resultOf, Answered, accepted, refusal, measuredBy, measuredBetween, hasRoom, setBy, settingBetween, bufferBy, bufferBetween}
+use Rattle.answers.specs.Why.{unpickedNumber, whyRefusal, ifPicked, whyBy, reasonsIn, whyOf}
 
 -- ---- setting
 
@@ -59,6 +63,35 @@ module _ (sides : Sides) (style : ℕ) (table client i j formula : List ℕ) whe
   setting-leaves room =
       left-by _ style table client i j
       (set-early room (resultBetween sides style table client (lentOf i j) formula) ∙ result-early sides style table client (lentOf i j) formula)
+
+-- ---- asking why
+
+-- it gives the number that is found, or 9
+why-early : (r : Result) (o : Option Reasons) → early (whyBy r o .number) ≡ early (foundNumber r)
+unfolding whyBy ifPicked foundNumber early
+why-early (boxed b) none = refl
+why-early (boxed b) (some r) = refl
+why-early (refused number place) o = refl
+
+why-number : (r : Result) (o : Option Reasons) → whyBy r o .number ≡ indexNumber → foundNumber r ≡ indexNumber
+unfolding whyBy ifPicked foundNumber
+why-number (boxed b) none e = absurd (omega arith)
+why-number (boxed b) (some r) e = absurd (omega arith)
+why-number (refused number place) o e = e
+
+module _ (style : ℕ) (table client i j formula : List ℕ) (place : ℕ) where
+  pub why-leaves : WordsLeft (whyOf style table client (lentOf i j) formula place .number) style table client i j
+  unfolding whyOf
+  why-leaves =
+      left-by _ style table client i j
+      (why-early (resultOf style table client (lentOf i j) formula) _ ∙ result-early noSides style table client (lentOf i j) formula)
+
+  -- a refusal 9 has built both
+  pub unpicked-leaves : whyOf style table client (lentOf i j) formula place .number ≡ unpickedNumber →
+      Indexes (indexAfter style table client i j) (characterRecords table)
+      × Indexes (clientIndexAfter style table client i j) (clientRecords client)
+  unfolding early
+  unpicked-leaves e = (why-leaves .index-left .built (ap early e), why-leaves .client-index-left .built (ap early e))
 
 -- ---- a second call
 
@@ -137,6 +170,17 @@ module _ (sides : Sides) (style : ℕ) (table client : List ℕ) (lent : Lent) (
   unfolding settingBetween
   only-few-set room e = only-found (set-number room found e)
 
+module _ (style : ℕ) (table client : List ℕ) (lent : Lent) (formula : List ℕ) (place : ℕ) where
+  pub few-why : FewWords style table client lent → whyOf style table client lent formula place ≡ whyRefusal indexNumber 0
+  unfolding whyOf whyBy
+  few-why h =
+      let reasons = reasonsIn (fontWith table client) (styleOf style) (readFormula formula) place in
+      ap (λ (r : Result). whyBy r reasons) (few-found noSides style table client lent formula h)
+
+  pub only-few-why : whyOf style table client lent formula place .number ≡ indexNumber → FewWords style table client lent
+  unfolding whyOf
+  only-few-why e = only-found noSides style table client lent formula (why-number _ _ e)
+
 -- ---- words beyond those that are enough
 
 module _ (a b : Lent) (a-enough : enough a ≡ true) (b-enough : enough b ≡ true) (sides : Sides) (style : ℕ) (table client formula : List ℕ) where
@@ -159,3 +203,10 @@ module _ (a b : Lent) (a-enough : enough a ≡ true) (b-enough : enough b ≡ tr
       × (bufferBetween sides style table client a formula buffer ≡ bufferBetween sides style table client b formula buffer)
   unfolding settingBetween bufferBetween
   same-set buffer = (ap (setBy (length buffer)) same-result, ap (bufferBy buffer) same-result)
+
+pub same-why : (a b : Lent) → enough a ≡ true → enough b ≡ true → (style : ℕ) (table client formula : List ℕ) (place : ℕ) →
+    whyOf style table client a formula place ≡ whyOf style table client b formula place
+unfolding whyOf
+same-why a b a-enough b-enough style table client formula place =
+    let reasons = reasonsIn (fontWith table client) (styleOf style) (readFormula formula) place in
+    ap (λ (r : Result). whyBy r reasons) (same-result a b a-enough b-enough noSides style table client formula)

@@ -5,13 +5,13 @@
 --     ItemAt         a list is a row of items, each right behind the one before it. The style stays but past ST, which sets it, and past
 --                    C4, where it is that at the end of the taken list
 --     SetItem        an item that is set: an item of the list, or one of the list that a C4 takes
---     FieldAt        an item's fields stand one behind the other, the first behind the opening; each has its style, and its sides, which
---                    are none but for the first field of an item that holds a list, a fence (`field-sides`, `step-sides`)
+--     FieldAt        an item's fields stand one behind the other, the first behind the opening; each has its style, and its sides: the
+--                    first field of an item that must hold a list, a fence, has a fence's, and no other has any (`field-sides`, `step-sides`)
 --     ListField      a list field is the byte 2 and two bytes of length, or the byte 3 and four, and that many bytes of items
 --     OwnListField   a list field of an item that is set in the list itself
 --     ListFieldAt    a list field at any depth: the items within a list field are looked at in the same way
 -- Every one of them is reached by a path (`reached`): the formula's tree is the path filled with the tree of the field's bytes, and the
--- path leads to the place of these bytes, and gives them this style and these sides.
+-- path leads to the place of these bytes, and gives them this style and these sides. That every path leads to one is shown in `EveryField`.
 -- Assumes nothing.
 use mathlib.Core.Path.{_≡_, refl, sym, subst, ap, ap₂, _∙_}
 use mathlib.Core.Bool.{Bool, true, false, _&&_}
@@ -22,6 +22,7 @@ use native.Mathlib.Omega.{arith}
 use lib.Dec.{leb, eqb}
 use lib.ListN.{length, take, drop, length-drop}
 use lib.Seq.{drop-drop}
+use Rattle.laws.specs.Truths.{by-test}
 use Rattle.scaled.specs.declared.Sp.{Sp}
 use Rattle.words.specs.Words.{littleEndian}
 use Rattle.formula.specs.declared.Kind.{Kind}
@@ -29,9 +30,9 @@ use Rattle.formula.specs.declared.Opening.{Opening}
 use Rattle.formula.specs.declared.Opening.the-variants.{Fields, Kern, Restyle, Choice}
 use Rattle.formula.specs.declared.FieldHead.{FieldHead}
 use Rattle.formula.specs.declared.FieldHead.the-variants.{Sublist, CutSublist}
-use Rattle.formula.specs.Tree.{Items, Item, Field, nil, cons, noad, list, openingBytes, holdsList, shortOpeningBytes, longOpeningBytes, listOpeningBytes, sublistBytes, itemsBytes}
+use Rattle.formula.specs.Tree.{Items, Item, Field, nil, cons, noad, empty, symbol, list, openingBytes, holdsList, shortOpeningBytes, longOpeningBytes, listOpeningBytes, sublistBytes, itemsBytes, fieldBytes}
 use Rattle.formula.specs.Heads.{openingOf, sublistHead, listHead, longListHead, fieldHeadUnder, fieldHead}
-use Rattle.formula.specs.HeadLaws.{list-opening, contents-shorter, opening-fits}
+use Rattle.formula.specs.HeadLaws.{list-opening, opening-some, contents-shorter, opening-fits}
 use Rattle.formula.specs.Places.{Readable, treeOf, headBytes, contents, fieldOf, GoodField, listOf, choiceLists, hasThird, openedBytes, headAt, second, third, listPlace, itemSize, fieldIn, thirdIn, listIn, itemOf}
 use Rattle.formula.specs.PlacesLaws.{tree-none, items-bytes, Noad, noad-at, choice-at, step, third-good, list-good-field, item-bytes, list-bytes, second-field, third-field}
 use Rattle.boxes.specs.declared.styles.Level.{Level}
@@ -39,7 +40,7 @@ use Rattle.boxes.specs.declared.styles.Level.the-variants.{Display, Text, Scrip
 use Rattle.boxes.specs.declared.styles.Style.{Style}
 use Rattle.boxes.specs.Styles.{styleOf}
 use Rattle.arrange.specs.Arrange.{firstStyle, secondStyle, thirdStyle, firstManner}
-use Rattle.setting.specs.Setting.{taken, styleAfter, styleBehind, Sides, noSides, sidesOf}
+use Rattle.setting.specs.Setting.{taken, styleAfter, styleBehind, Sides, noSides, fenceSides, sidesOf}
 use Rattle.setting.specs.SettingLaws.{heldSides, first-sides, taken-all, styleBehind-choice}
 use Rattle.setting.specs.Lines.{styleAfter-join}
 use Rattle.setting.specs.Paths.{Arm, inFirst, inSecond, inThird, holding, fieldStyle, fieldManner, fieldPlace, join, choiceWith, listPlace as placeAmong, Spot, among, within, put, itemsBefore, spotPlace, Step, listWith, itemStyle, stepStyle, stepSides, stepPlace, Path, whole, into, fill, styleAt, sidesAt, placeOf}
@@ -112,20 +113,46 @@ pub data ListFieldAt (u : Style) (s : List ℕ) : ℕ → Style → Sides → Li
 
 -- ---- the fields that have sides
 
-pub field-sides : {s : List ℕ} {kind : Kind} {u v : Style} {at : ℕ} {sides : Sides} → FieldAt s kind u at v sides →
-    holdsList kind ≡ false → sides ≡ noSides
-field-sides {kind = kind} {u} inOne e = first-sides kind u ∙ ap heldSides e
-field-sides inTwo e = refl
-field-sides (inThree has) e = refl
+-- a fence's list: the first field of an item that must hold a list
+abbrev pub FenceList : Kind → ℕ → Type 0
+FenceList kind at = (holdsList kind ≡ true) × (at ≡ openingBytes kind)
+
+-- it has the sides of a fence, and no other field has any
+pub record SidesOf (kind : Kind) (at : ℕ) (sides : Sides) : Type 0 where
+  pub of-fence : FenceList kind at → sides ≡ fenceSides
+  pub of-others : (FenceList kind at → ⊥) → sides ≡ noSides
+
+first-of : (kind : Kind) (u : Style) → SidesOf kind (openingBytes kind) (sidesOf (firstManner kind u))
+first-of kind u =
+    record {
+      of-fence = λ h. first-sides kind u ∙ ap heldSides (h .0);
+      of-others = λ none. first-sides kind u ∙ by-test (holdsList kind) (λ t. absurd (none (t, refl))) (λ t. ap heldSides t);
+    }
+
+other-of : (kind : Kind) (at : ℕ) → openingBytes kind < at → SidesOf kind at noSides
+other-of kind at behind = record { of-fence = λ h. absurd (omega (arith, h .1)); of-others = λ none. refl }
+
+-- where the item's fields read
+pub field-sides : {s : List ℕ} {kind : Kind} {u v : Style} {at : ℕ} {sides : Sides} → Noad s kind → FieldAt s kind u at v sides →
+    SidesOf kind at sides
+field-sides {kind = kind} {u} n inOne = first-of kind u
+field-sides {kind = kind} n inTwo = other-of kind _ (n .first-in)
+field-sides {kind = kind} n (inThree has) = other-of kind _ (omega (arith, n .first-in, n .second-in))
 
 -- by a path's last step
-pub step-sides : (u : Style) (t : Step) → holdsList (t .kind) ≡ false → stepSides u t ≡ noSides
-step-sides u t e = go (t .arm)
+pub step-sides : (u : Style) (t : Step) → SidesOf (t .kind) (fieldPlace (t .kind) (t .arm)) (stepSides u t)
+unfolding fieldBytes
+step-sides u t = go (t .arm)
   where
-    go : (g : Arm) → sidesOf (fieldManner (t .kind) g (itemStyle u t)) ≡ noSides
-    go (inFirst y z) = first-sides (t .kind) (itemStyle u t) ∙ ap heldSides e
-    go (inSecond x z) = refl
-    go (inThird x y) = refl
+    some-bytes : (f : Field) → 0 < fieldBytes f
+    some-bytes empty = omega arith
+    some-bytes (symbol family code) = omega arith
+    some-bytes (list l) = omega (arith, opening-some (itemsBytes l))
+
+    go : (g : Arm) → SidesOf (t .kind) (fieldPlace (t .kind) g) (sidesOf (fieldManner (t .kind) g (itemStyle u t)))
+    go (inFirst y z) = first-of (t .kind) (itemStyle u t)
+    go (inSecond x z) = other-of (t .kind) _ (omega (arith, some-bytes x))
+    go (inThird x y) = other-of (t .kind) _ (omega (arith, some-bytes x))
 
 -- ---- a list field reads to the tree of the bytes that it holds
 
@@ -166,17 +193,17 @@ list-read s field (longListField a b c d rest) good =
 
 -- ---- the list that a choice takes
 
-record TakenRead (u : Style) (s inner : List ℕ) : Type 0 where
-  readable : Readable inner
-  items-are : taken u (listIn s 0) (listIn s 1) (listIn s 2) (listIn s 3) ≡ treeOf inner
-  a : Items
-  b : Items
-  c : Items
-  is : itemOf s Choice ≡ choiceWith (u .level) (treeOf inner) a b c
-  place : placeAmong (u .level) a b c ≡ takenPlace u s
-  part : PartAt s (takenPlace u s + listOpeningBytes (length inner)) inner
+pub record TakenRead (u : Style) (s inner : List ℕ) : Type 0 where
+  pub readable : Readable inner
+  pub items-are : taken u (listIn s 0) (listIn s 1) (listIn s 2) (listIn s 3) ≡ treeOf inner
+  pub a : Items
+  pub b : Items
+  pub c : Items
+  pub is : itemOf s Choice ≡ choiceWith (u .level) (treeOf inner) a b c
+  pub place : placeAmong (u .level) a b c ≡ takenPlace u s
+  pub part : PartAt s (takenPlace u s + listOpeningBytes (length inner)) inner
 
-taken-read : (u : Style) (s inner : List ℕ) → openingOf s ≡ Choice → Readable s → ListField (drop (takenPlace u s) s) inner →
+pub taken-read : (u : Style) (s inner : List ℕ) → openingOf s ≡ Choice → Readable s → ListField (drop (takenPlace u s) s) inner →
     TakenRead u s inner
 taken-read u s inner e r f =
     let k = among-lists (u .level) (u .cramped) in

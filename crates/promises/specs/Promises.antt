@@ -27,8 +27,16 @@ pub use Rattle.promises.specs.Agreement.{Agrees, measuring-and-setting-a
 pub use Rattle.promises.specs.Demand3.{ListFieldAsAlone, demand-3-at}
 -- the same of a list field that is named by its path
 pub use Rattle.promises.specs.Demand3.{FieldAsAlone, demand-3}
+-- every place leads to a path, and every path of a formula that reads to a place: no list field is left out
+pub use Rattle.promises.specs.ListFields.{Reached, reached}
+pub use Rattle.promises.specs.EveryField.{ListedAt, every-field}
+-- a fence's list has the sides of a fence, and no other list has any
+pub use Rattle.promises.specs.ListFields.{SidesOf, field-sides, step-sides}
 -- instances, from bytes: in a taken list behind a style change, the nucleus of a root, the list of a fence
 pub use Rattle.promises.specs.FieldExample.{chosen-by-place, nucleus-by-place, inside-by-place}
+-- another list of the same size, with what stands around both; a list three lists deep, a fraction's part, a limit; a list of kind 3
+pub use Rattle.promises.specs.FieldInstances.{another-list, another-run, around-frame, deep-by-place, part-by-place, limit-by-place}
+pub use Rattle.promises.specs.LongField.{long-by-place}
 -- ---- request 1: blanks beside fractions. The fractions of the worked examples, P10 and P11, have them
 -- ---- request 2: style changes and choices
 
@@ -53,18 +61,26 @@ pub use Rattle.promises.specs.WhyLaws.{WhyTrue, why-true}
 pub use Rattle.promises.specs.Examples.{why-hold}
 -- ---- request 8: long formulas
 
--- what document 01's format accepts is answered as before, and a field of kind 3 is refused by it
-pub use Rattle.promises.specs.Formats.{accepted-on, measured-on, set-on, kind-answered}
+-- what document 01's format accepts is answered as before
+pub use Rattle.promises.specs.Formats.{accepted-on, measured-on, set-on}
+-- by it a field of kind 3 is refused with 3, at its item in a formula of at most 4,096 bytes, and at 0 in a longer one; every rightful field of
+-- kind 3 stands in a longer one
+pub use Rattle.promises.specs.Formats.{kind-answered, long-answered, rightful-answered}
+pub use Rattle.promises.specs.LongField.{long-before}
 -- ---- request 9: words for the indexes
 
--- the words after a call: unchanged on 1, 2, 8 and 19, else with each table's index at the front
+-- the words after a call: unchanged on 1, 2, 8 and 19, else with each table's index at the front; so of asking why, on 9 too
 pub use Rattle.answers.specs.LentLaws.{measuring-leaves}
-pub use Rattle.promises.specs.LentWords.{setting-leaves, words-last, words-settle, few-refused, only-few, only-few-set, same-result, same-measured, same-set}
+pub use Rattle.promises.specs.LentWords.{setting-leaves, why-leaves, unpicked-leaves, words-last, words-settle}
+-- 19 where words are few, and nowhere else; with words enough their number makes no difference
+pub use Rattle.promises.specs.LentWords.{few-refused, few-why, only-few, only-few-set, only-few-why, same-result, same-measured, same-set, same-why}
 pub use Rattle.promises.specs.Examples.{words-refused, client-index}
 -- ---- request 14: nodes as the body of a page
 
 -- what is written reads back to the same bytes, and what reads is what the writer writes
 pub use Rattle.dvi.specs.RoundTrip.{there-and-back, made-by, made-is, only-nodes}
+-- and so over two calls, with a buffer each that has room: what the first has written at the front of its buffer, the second turns back
+pub use Rattle.promises.specs.PageCalls.{BackAgain, calls-back}
 -- the nodes of every accepted formula can be written
 pub use Rattle.promises.specs.PageNodes.{accepted-written}
 

@@ -1,4 +1,5 @@
--- The line of a refusal, as `refused 5 at 4`, which every program writes alike.
+-- The line of a refusal, as `refused 5 at 4`, which every program writes alike, and the line of what a program cannot hold, as
+-- `too long: 131072 bytes are taken`.
 -- Assumes nothing.
 use mathlib.Core.List.{List, [], _∷_, _++_}
 use Prim.Native.Nat.{ℕ}
@@ -19,3 +20,13 @@ atMark = 32 ∷ 97 ∷ 116 ∷ 32 ∷ []
 
 abbrev pub refusalText : ℕ → ℕ → List ℕ
 refusalText number place = refusedMark ++ decimalOf number ++ (atMark ++ decimalOf place) ++ newline
+
+-- `too long: ` and ` bytes are taken`
+abbrev pub tooLongMark : List ℕ
+tooLongMark = 116 ∷ 111 ∷ 111 ∷ 32 ∷ 108 ∷ 111 ∷ 110 ∷ 103 ∷ 58 ∷ 32 ∷ []
+
+abbrev pub takenMark : List ℕ
+takenMark = 32 ∷ 98 ∷ 121 ∷ 116 ∷ 101 ∷ 115 ∷ 32 ∷ 97 ∷ 114 ∷ 101 ∷ 32 ∷ 116 ∷ 97 ∷ 107 ∷ 101 ∷ 110 ∷ []
+
+abbrev pub tooLongText : ℕ → List ℕ
+tooLongText taken = tooLongMark ++ decimalOf taken ++ (takenMark ++ newline)

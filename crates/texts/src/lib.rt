@@ -1,5 +1,5 @@
 // Text that a program writes, made piece by piece in a lent buffer: numbers in decimals, and the line of a refusal, which is defined in
-// specs/Refusals.antt. `write_refusal` and `print` hand a line to a file descriptor.
+// specs/Refusals.antt. `write_refusal`, `write_too_long` and `print` hand a line to a file descriptor.
 
 ghost use mathlib.Core.Path.{_≡_};
 ghost use mathlib.Core.List.{_++_};
@@ -7,7 +7,7 @@ ghost use Prim.Native.Nat.{_+_, _≤_};
 ghost use lib.IntN.{natAbs};
 ghost use lib.ListN.{length};
 ghost use Rattle.texts.specs.Decimals.{decimalOf, textOf};
-ghost use Rattle.texts.specs.Refusals.{refusalText};
+ghost use Rattle.texts.specs.Refusals.{refusalText, tooLongText};
 ghost use Rattle.texts.specs.Written.{Written, Put, PutNear, numberText};
 use scaled::Sp;
 
@@ -27,6 +27,13 @@ pub fn write_refusal(fd: i32, number: u8, place: usize) {
     print(fd, &line, end);
 }
 
+// Writes to a file the line of what a program cannot hold, which takes so many bytes.
+pub fn write_too_long(fd: i32, taken: usize) {
+    let mut line = [0u8; LINE_SPACE];
+    let end = too_long_text(taken, &mut line);
+    print(fd, &line, end);
+}
+
 // Writes the front of a buffer to a file.
 pub fn print(fd: i32, line: &[u8], end: usize) {
     if end <= line.len() {
@@ -42,6 +49,15 @@ pub fn refusal_text(number: u8, place: usize, out: &mut [u8]) -> usize
     let a = put_number(b"refused ", of_count(number as u64), out, 0);
     let b = put_number(b" at ", of_count(place as u64), out, a);
     put_bytes(b"\n", out, b)
+}
+
+// Writes the line of what a program cannot hold at the front of the buffer, and gives its length.
+pub fn too_long_text(taken: usize, out: &mut [u8]) -> usize
+    requires { ⌜ 128 ≤ length (now out) ⌝ }
+    ensures { λ r. ⌜ Written (tooLongText taken) (now (out .entry)) (now (out .exit)) r ⌝ }
+{
+    let a = put_number(b"too long: ", of_count(taken as u64), out, 0);
+    put_bytes(b" bytes are taken\n", out, a)
 }
 
 pub fn of_length(length: Sp) -> Number

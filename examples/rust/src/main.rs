@@ -1,18 +1,20 @@
 //! Sets a formula over a font table and prints its sizes and nodes.
 //!
 //! `set_formula TABLE FORMULA [--typed NAMES STYLE] [--client CLIENT]
-//! [--svg SVG] [--dvi FONTS DVI]`; a formula is a stored record, a style byte
-//! and the formula's bytes; or typed text with the words of a name table, to be
-//! set in a style from 0 to 7. A client's table has symbols that go before the
-//! font table's. A picture of the boxes is written to SVG; a page with the
-//! formula in the fonts that FONTS names is written to DVI. An empty record is
+//! [--svg FONTS SVG] [--dvi FONTS DVI]`; a formula is a stored record, a style
+//! byte and the formula's bytes; or typed text with the words of a name table, to
+//! be set in a style from 0 to 7. A client's table has symbols that go before the
+//! font table's. A picture is written to SVG, with the letters of the fonts that
+//! FONTS names, and a page with the formula in them to DVI. An empty record is
 //! refused as style, a font table that can't be read as table. The status is 1
-//! for a refusal, 2 if another file can't be read or written, or a font has no
-//! name.
+//! for a refusal, 2 if another file can't be read or written, a font has no name,
+//! or a glyph no letter to be drawn as; then nothing is printed or written.
 
 mod fonts;
+mod letters;
 mod page;
 mod picture;
+mod shapes;
 mod tables;
 
 use fonts::Fonts;
@@ -22,7 +24,7 @@ use tables::Tables;
 use torfianka::{eqn, measure, nodes, set, Font, Measured, Node, Refusal, NODE_BYTES};
 
 const USAGE: &str = "usage: set_formula TABLE FORMULA [--typed NAMES STYLE] [--client CLIENT] \
-                     [--svg SVG] [--dvi FONTS DVI]";
+                     [--svg FONTS SVG] [--dvi FONTS DVI]";
 const STYLES: u8 = 8;
 
 /// Why nothing is printed.
@@ -66,7 +68,7 @@ struct Arguments<'a> {
     formula: &'a str,
     typed: Option<Typed<'a>>,
     client: Option<&'a str>,
-    svg: Option<&'a str>,
+    svg: Option<[&'a str; 2]>,
     dvi: Option<[&'a str; 2]>,
 }
 
@@ -103,8 +105,8 @@ impl<'a> Arguments<'a> {
                     arguments.client = Some(client);
                     rest
                 }
-                ["--svg", svg, rest @ ..] => {
-                    arguments.svg = Some(svg);
+                ["--svg", fonts, svg, rest @ ..] => {
+                    arguments.svg = Some([fonts, svg]);
                     rest
                 }
                 ["--dvi", fonts, dvi, rest @ ..] => {
@@ -129,15 +131,20 @@ fn run(arguments: &Arguments) -> Result<(), Failure> {
     };
     let (measured, buffer) = set_formula(style, &mut tables.font(), &formula)?;
     let nodes: Vec<Node> = nodes(&buffer).collect();
-    print(&measured, &nodes);
-    if let Some(path) = arguments.svg {
-        let picture = picture::svg(&measured, &nodes, &tables);
-        named(path, fs::write(path, picture))?;
+    let mut files = Vec::new();
+    if let Some([fonts, path]) = arguments.svg {
+        let picture = picture::svg(&measured, &nodes, &tables, &read_fonts(fonts)?);
+        let picture = picture.map_err(|glyph| format!("{path}: {glyph}"))?;
+        files.push((path, picture.into_bytes()));
     }
     if let Some([fonts, path]) = arguments.dvi {
         let page = page::file(&measured, &buffer, &read_fonts(fonts)?)?;
-        named(path, fs::write(path, page))?;
+        files.push((path, page));
     }
+    for (path, bytes) in files {
+        named(path, fs::write(path, bytes))?;
+    }
+    print(&measured, &nodes);
     Ok(())
 }
 

@@ -1,29 +1,32 @@
 -- `last_outside` meets its contract. The loop's invariant: the last keyword of the text is the last one in the rest, if there is one
 -- there, and else the one that has been found.
 -- Assumes nothing.
-use mathlib.Core.Path.{_≡_, refl, sym, _∙_}
-use mathlib.Core.Bool.{Bool, true, false, _&&_, and-false, true≢false}
+use mathlib.Core.Path.{_≡_, refl, sym, ap, _∙_}
+use mathlib.Core.Bool.{Bool, true, false, _&&_, and-false, true≢false, false≢true}
 use mathlib.Core.List.{List, [], _∷_, _++_, append-nil, append-assoc}
 use mathlib.Core.Logic.{inl, inr, ⊎-elim}
 use mathlib.Core.Option.{Option, none, some}
-use Prim.Native.Nat.{ℕ, _≤_, _<_, _-_}
+use Prim.Native.Nat.{ℕ, zero, suc, _≤_, _<_, _-_}
 use native.Mathlib.Nat.{le-refl, sub-zero}
 use native.Mathlib.Omega.{arith}
 use borrow.Author.Needs.{needs}
-use borrow.Author.Tests.{ltb-true, ltb-false, lt-ltb, le-ltb}
+use borrow.Author.Tests.{eqb-true, ltb-true, ltb-false, lt-ltb, le-ltb}
 use lib.Dec.{eqb, ltb}
 use lib.ListN.{length, take, drop}
-use Rattle.laws.specs.Truths.{by-test}
-use Rattle.eqn_tokens.specs.Tokens.{Token, tokensFrom, tokensIn}
+use Rattle.laws.specs.Truths.{by-test, both-true}
+use Rattle.eqn_tokens.specs.Tokens.{Token, keywordBytes, tokensFrom, tokensIn}
+use Rattle.eqn_tokens.specs.declared.tokens.TokenKind.{TokenKind}
+use Rattle.eqn_tokens.specs.declared.tokens.TokenKind.the-variants.{Word, Keyword as Joining, Open, Close, Other, End}
 use Rattle.eqn_tokens.specs.declared.tokens.Token as code
-use Rattle.eqn_tokens.specs.Values.{kindAs, TokenAt}
+use Rattle.eqn_tokens.specs.Values.{kindAs, IsSpelled, TokenAt}
 use Rattle.eqn_tokens.specs.PlacesLaws.{token-separators, token-moves}
-use Rattle.eqn_grammar.specs.Splits.{levelAfter, isThisKeyword, withFront, lastFrom, lastOutside}
-use Rattle.eqn_cuts.specs.Values.{kindToken, SplitAt}
-use Rattle.eqn_cuts.specs.CutLaws.{between, Boundary, boundary-first, none-behind, taken-tokens, alike, Passes, Stops, turn-boundary, turn, level-grows}
+use Rattle.eqn_grammar.specs.Splits.{levelAfter, keywordNumber, isThisKeyword, withFront, lastFrom, lastOutside}
+use Rattle.eqn_cuts.specs.Values.{kindToken, StandsAt, SplitAt}
+use Rattle.eqn_cuts.specs.CutLaws.{between, Boundary, boundary-first, none-behind, taken-tokens, start-place, alike, Passes, Stops, turn-boundary, turn, level-grows}
 use Rattle.eqn_cuts.proofs.last_outside.Statement.{statement}
 use Rattle.eqn_cuts.proofs.last_outside.Tie as tie
 use Rattle.eqn_tokens.specs.declared.tokens.Keyword.{Keyword}
+use Rattle.eqn_tokens.specs.declared.tokens.Keyword.the-variants.{Sub, Sup, Over, From, To}
 
 abbrev TwoSides : Type 0
 TwoSides = List Token × List Token
@@ -55,6 +58,33 @@ last-goes j n front found t us = go (eqb n 0 && isThisKeyword j t) (lastFrom j (
     go true none = rw append-nil
     go false none = refl
 
+-- ---- the bytes of a keyword
+
+same-keyword : (k j : Keyword) → keywordNumber k ≡ keywordNumber j → k ≡ j
+same-keyword k j e = sym (told k) ∙ ap numbered e ∙ told j
+  where
+    numbered : ℕ → Keyword
+    numbered zero = Sub
+    numbered (suc zero) = Sup
+    numbered (suc (suc zero)) = Over
+    numbered (suc (suc (suc zero))) = From
+    numbered (suc (suc (suc (suc n)))) = To
+
+    told : (k : Keyword) → numbered (keywordNumber k) ≡ k
+    told Sub = refl
+    told Sup = refl
+    told Over = refl
+    told From = refl
+    told To = refl
+
+keyword-there : (j : Keyword) (kind : TokenKind) {w : List ℕ} → isThisKeyword j (kindToken kind) ≡ true → IsSpelled kind w → w ≡ keywordBytes j
+keyword-there j Word e h = absurd (false≢true e)
+keyword-there j (Joining k) e h = h ∙ ap keywordBytes (same-keyword k j (eqb-true (keywordNumber k) (keywordNumber j) e))
+keyword-there j Open e h = absurd (false≢true e)
+keyword-there j Close e h = absurd (false≢true e)
+keyword-there j Other e h = absurd (false≢true e)
+keyword-there j End e h = absurd (false≢true e)
+
 -- ---- the loop
 
 -- the parts at a keyword that starts before the end of the text
@@ -66,6 +96,7 @@ record Passing (s : List ℕ) (j : Keyword) (at level start end : ℕ) : Type 0 
   low : level ≤ at
   ordered : start ≤ end
   within : end ≤ length s
+  stands : start < length s → StandsAt s j start end
   so-far : lastOutside j (tokensIn s) ≡ latest (tokensIn (between s 0 at)) (sidesAt s start end) (lastFrom j level (tokensIn (drop at s)))
 
 passing-first : (s : List ℕ) (j : Keyword) → Passing s j 0 0 (length s) (length s)
@@ -76,6 +107,7 @@ passing-first s j =
       low = omega arith;
       ordered = le-refl (length s);
       within = le-refl (length s);
+      stands = λ l. absurd (omega arith);
       so-far = rw (le-ltb (length s) (length s) (le-refl (length s))) (latest-all (lastOutside j (tokensIn s)));
     }
 
@@ -88,7 +120,7 @@ module _ {s : List ℕ} {j : Keyword} {at level start end : ℕ} (g : Passing s 
         ordered = g .ordered;
         within = g .within;
         split =
-            by-test (ltb start (length s)) (λ e. inl (record { there = ltb-true start (length s) e; parts = rw e at all }))
+            by-test (ltb start (length s)) (λ e. inl (record { there = ltb-true start (length s) e; stands = g .stands (ltb-true start (length s) e); parts = rw e at all }))
             (λ e. inr (record { nowhere = omega (arith, ltb-false start (length s) e, g .ordered, g .within); none-is = rw e at all }));
       }
 
@@ -121,27 +153,31 @@ module _ {s : List ℕ} {j : Keyword} {at level start end : ℕ} (g : Passing s 
     unfolding lastFrom
     stops p = g .so-far ∙ rw (p .rest, p .rest-next, stops-not p)
 
-    passing : {start′ end′ : ℕ} → start′ ≤ end′ → end′ ≤ length s → foundNext ≡ sidesAt s start′ end′ →
+    passing : {start′ end′ : ℕ} → start′ ≤ end′ → end′ ≤ length s → (start′ < length s → StandsAt s j start′ end′) → foundNext ≡ sidesAt s start′ end′ →
         Passing s j (t .end) (levelAfter level (kindToken (t .kind))) start′ end′
-    passing m n e =
+    passing m n stands e =
         let onward = token-moves f l in
         record {
           boundary = turn-boundary (g .boundary) f l;
           low = omega (arith, g .low, level-grows level (t .kind));
           ordered = m;
           within = n;
+          stands = stands;
           so-far = rw e at (⊎-elim goes stops (turn (g .boundary) f l));
         }
 
     passing-on : isHere ≡ false → Passing s j (t .end) (levelAfter level (kindToken (t .kind))) start end
-    passing-on e = passing (g .ordered) (g .within) (rw e)
+    passing-on e = passing (g .ordered) (g .within) (g .stands) (rw e)
 
     passing-here : isHere ≡ true → Passing s j (t .end) (levelAfter level (kindToken (t .kind))) (t .start) (t .end)
     passing-here e =
         let some = ⊎-elim (λ p. p .some) (λ p. absurd (true≢false (sym e ∙ stops-not p))) (turn (g .boundary) f l) in
         let there = lt-ltb (t .start) (length s) (omega (arith, f .within)) in
         let before = taken-tokens (token-separators f) in
-        passing (omega arith) (f .within) (rw (e, there, sub-zero, before))
+        let this = both-true {p = eqb level 0} e .1 in
+        let stands : StandsAt s j (t .start) (t .end) =
+        record { first = start-place (g .boundary) f; bytes = keyword-there j (t .kind) this (f .spelled) } in
+        passing (omega arith) (f .within) (λ m. stands) (rw (e, there, sub-zero, before))
 
 abbrev Inv-loop : tie.InvT-loop
 Inv-loop s keyword₀ at₀ level₀ start₀ end₀ at level start end = Passing s keyword₀ at level start end

@@ -16,8 +16,8 @@ use Rattle.eqn_names.proofs.WalkLaws.{front-told, nameAt, Stands, stand
 use Rattle.eqn_names.proofs.find.Statement.{statement}
 use Rattle.eqn_names.proofs.find.Tie as tie
 
-abbrev lookFor : List ℕ → List Name → Option Name
-lookFor w ns = named ns w
+abbrev lookFor : List ℕ → ℕ → List Name → Option Name
+lookFor w at ns = named ns w
 
 abbrev Inv-loop : tie.InvT-loop
 Inv-loop names word at₀ at = Passed (lookFor word) names at

@@ -1,20 +1,21 @@
 -- `first_for` meets its contract: the records that the loop has passed are not for the symbol.
 -- Assumes nothing.
-use mathlib.Core.Path.{_≡_, refl, sym, _∙_}
+use mathlib.Core.Path.{_≡_, refl, sym, ap, ap₂, _∙_}
 use mathlib.Core.List.{List}
 use mathlib.Core.Option.{Option}
 use Prim.Native.Nat.{ℕ, _-_}
 use native.Mathlib.Omega.{arith}
 use borrow.Author.Needs.{needs}
 use lib.ListN.{length}
-use Rattle.eqn_names.specs.Names.{Name, firstFor, askedAs}
-use Rattle.eqn_names.specs.NamesLaws.{isFor, first-here, first-next}
+use Rattle.eqn_names.specs.Names.{Name, firstFor, firstPlace, askedAs}
+use Rattle.eqn_names.specs.NamesLaws.{isFor, first-here, first-next, place-here, place-next}
 use Rattle.eqn_names.proofs.WalkLaws.{front-told, nameAt, Stands, stands, Passed, passed-none, passed-next, passed-found, passed-stopped, passed-all}
 use Rattle.eqn_names.proofs.first_for.Statement.{statement}
 use Rattle.eqn_names.proofs.first_for.Tie as tie
 
-abbrev lookFor : ℕ → ℕ → ℕ → List Name → Option Name
-lookFor family code class ns = firstFor family code (askedAs class) ns
+-- the name, and the place of its record
+abbrev lookFor : ℕ → ℕ → ℕ → ℕ → List Name → Option Name × ℕ
+lookFor family code class at ns = (firstFor family code (askedAs class) ns, firstPlace family code (askedAs class) at ns)
 
 abbrev Inv-loop : tie.InvT-loop
 Inv-loop names family code class at₀ at = Passed (lookFor family code class) names at
@@ -52,6 +53,10 @@ fitting : (c : tie.After-fits2 Inv-loop μ-loop) →
     isFor (args .family) (args .code) (askedAs (args .class)) (nameAt (args .names .now) (loop .loop .at) (given .0) (given .1 .0)) ≡ c .fits2 .result
 fitting c = sym (c .fits2 .ensures)
 
+-- what is found there, and its place
+both : {o p : Option Name} {i k : ℕ} → o ≡ p → i ≡ k → _≡_ {A = Option Name × ℕ} (o, i) (p, k)
+both e f = ap₂ (λ (o : Option Name) (i : ℕ). (o, i)) e f
+
 returns-2 : tie.Need-returns-2 Inv-loop μ-loop
 returns-2 c =
     let told = c .before .before in
@@ -59,12 +64,20 @@ returns-2 c =
     let args = loop .before .before .args in
     let stood = there told in
     let given = told .before .front .given .0 in
-    λ ns r. (
-      nameAt (args .names .now) (loop .loop .at) (given .0) (given .1 .0),
-      passed-found _ _ (loop .loop .inv) stood (λ ms. first-here (args .family) (args .code) (askedAs (args .class)) _ ms (fitting (c .before) ∙ c .if1 .taken)) ns r,
+    let fits = fitting (c .before) ∙ c .if1 .taken in
+    let asked = askedAs (args .class) in
+    let at = loop .loop .at in
+    let m = nameAt (args .names .now) at (given .0) (given .1 .0) in
+    λ ns r.
+    let found =
+    passed-found _ _ (loop .loop .inv) stood
+    (λ ms. both (first-here (args .family) (args .code) asked m ms fits) (place-here (args .family) (args .code) asked at m ms fits)) ns r in (
+      m,
+      ap (λ (p : Option Name × ℕ). p .0) found,
       omega arith,
       omega (arith, stood .room),
       sym (stood .bytes),
+      omega (arith, ap (λ (p : Option Name × ℕ). p .1) found),
     )
 
 loop-again : tie.Need-loop-again Inv-loop μ-loop
@@ -72,12 +85,17 @@ loop-again c =
     let told = c .before .before in
     let loop = loop-of told in
     let args = loop .before .before .args in
+    let given = told .before .front .given .0 in
+    let fails = fitting (c .before) ∙ c .if1 .left in
+    let asked = askedAs (args .class) in
+    let at = loop .loop .at in
+    let m = nameAt (args .names .now) at (given .0) (given .1 .0) in
     passed-next _ _ (loop .loop .inv) (there told)
-    (λ ms. first-next (args .family) (args .code) (askedAs (args .class)) _ ms (fitting (c .before) ∙ c .if1 .left))
+    (λ ms. both (first-next (args .family) (args .code) asked m ms fails) (place-next (args .family) (args .code) asked at m ms fails))
 
 returns-3 : tie.Need-returns-3 Inv-loop μ-loop
-unfolding firstFor
-returns-3 c = λ ns r. passed-all _ _ (c .before .loop .inv) (c .loop-test .left) refl ns r
+unfolding firstFor firstPlace
+returns-3 c = λ ns r. ap (λ (p : Option Name × ℕ). p .0) (passed-all _ _ (c .before .loop .inv) (c .loop-test .left) refl ns r)
 
 pub first-for-spec : {M : Type 1} → statement M
 first-for-spec =

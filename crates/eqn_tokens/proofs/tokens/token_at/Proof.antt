@@ -9,7 +9,7 @@ use lib.ListN.{length, take, drop, length-drop}
 use Rattle.eqn_tokens.specs.BytesLaws.{here}
 use Rattle.eqn_tokens.specs.Tokens.{runLength}
 use Rattle.eqn_tokens.specs.TokensLaws.{run-most, word-at, mark-at}
-use Rattle.eqn_tokens.specs.PlacesLaws.{keyword-then, token-made, token-ended}
+use Rattle.eqn_tokens.specs.PlacesLaws.{keyword-then, keyword-spelled, mark-spelled, token-made, token-ended}
 use Rattle.eqn_tokens.proofs.tokens.token_at.Statement.{statement}
 use Rattle.eqn_tokens.proofs.tokens.token_at.Tie as tie
 
@@ -33,8 +33,10 @@ returns-2 c =
     let r = start .behind-separators .result in
     let begins = word-at s r (omega arith) (sym (called .is-word-byte .ensures) ∙ end .before .if2 .taken) in
     let long : end .word-end .result - r ≡ runLength (drop r s) = omega (arith, end .word-end .ensures) in
-    token-made (start .behind-separators .ensures) (c .word-kind .result) begins (end .word-end .ensures)
-    (keyword-then (c .word-kind .result) (take (runLength (drop r s)) (drop r s)) (rw long at (c .word-kind .ensures)))
+    let w = take (runLength (drop r s)) (drop r s) in
+    let kind = c .word-kind .result in
+    let is = rw long at (c .word-kind .ensures) in
+    token-made (start .behind-separators .ensures) kind begins (end .word-end .ensures) (keyword-then kind w is) (keyword-spelled kind w is)
 
 returns-3 : tie.Need-returns-3
 returns-3 c =
@@ -46,6 +48,7 @@ returns-3 c =
     let inside : r < length s = omega arith in
     let begins = mark-at s r inside (separators .last inside) (sym (called .is-word-byte .ensures) ∙ c .before .if2 .left) in
     token-made separators (c .mark .result) begins refl (λ ts. rw (here s r inside) (c .mark .ensures [] ts))
+    (rw (here s r inside) (mark-spelled _ (c .mark .result) (c .mark .ensures)))
 
 pub token-at-spec : {M : Type 1} → statement M
 token-at-spec =

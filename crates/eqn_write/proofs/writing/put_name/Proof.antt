@@ -3,7 +3,7 @@
 use mathlib.Core.Path.{subst}
 use native.Mathlib.Omega.{arith}
 use borrow.Author.Needs.{needs}
-use Rattle.eqn_names.specs.Names.{firstFor, askedAs}
+use Rattle.eqn_names.specs.Names.{firstFor, firstPlace, askedAs}
 use Rattle.eqn_names.specs.Values.{NameFound}
 use Rattle.eqn_write.proofs.NameLaws.{text-size, Lent, partOf, name-lent, word-put, wordless}
 use Rattle.eqn_write.proofs.writing.put_name.Statement.{statement}
@@ -36,8 +36,8 @@ returns c =
       ends = (omega (arith, ends, size, name .some), omega (arith, ends, size, name .most));
       text =
           λ ns rs.
-          let is = subst (NameFound (args .names .now) (firstFor (args .family) (args .code) (askedAs (args .class)) ns)) (range .range .given .1) (found .first-for .ensures ns rs) in
-          word-put (args .names .now) _ is ends (put .put-token .ensures .1);
+          let is = subst (NameFound (args .names .now) (firstFor (args .family) (args .code) (askedAs (args .class)) ns) (firstPlace (args .family) (args .code) (askedAs (args .class)) 0 ns)) (range .range .given .1) (found .first-for .ensures ns rs) in
+          word-put (args .names .now) _ (firstPlace (args .family) (args .code) (askedAs (args .class)) 0 ns) is ends (put .put-token .ensures .1);
     }
 
 returns-2 : tie.Need-returns-2
@@ -48,8 +48,8 @@ returns-2 c =
       ends = tt;
       text =
           λ ns rs.
-          let is = subst (NameFound (args .names .now) (firstFor (args .family) (args .code) (askedAs (args .class)) ns)) (c .enum-told .given .1) (found .first-for .ensures ns rs) in
-          wordless (args .names .now) _ (args .out .now) is;
+          let is = subst (NameFound (args .names .now) (firstFor (args .family) (args .code) (askedAs (args .class)) ns) (firstPlace (args .family) (args .code) (askedAs (args .class)) 0 ns)) (c .enum-told .given .1) (found .first-for .ensures ns rs) in
+          wordless _ (args .out .now) is;
     }
 
 pub put-name-spec : {M : Type 1} → statement M

@@ -6,7 +6,7 @@
 --     texts               10, 11 and 12, with their places: `each-refused`; `deepest-read` is just not 12
 --     tables              20, with its place, of the reader and of the writer: `each-table-refused`, `each-table-refused-writing`
 --     unmade              21, of formulas that read: `each-unmade`, `each-unmade-reads`; `no-formula`
---     no-room, room       13; `unchanged`, `kept-behind` what a refusal and an acceptance leave of the buffer
+--     no-room, room       13 of the reader, and of the writer `no-room-writing`, `room-writing`; `unchanged`, `kept-behind` what a refusal and an acceptance leave of the buffer
 -- Assumes nothing.
 use mathlib.Core.Path.{_≡_, refl}
 use mathlib.Core.List.{List, [], _∷_, _++_, map}
@@ -33,13 +33,13 @@ use Rattle.eqn_names.specs.Names.{frontName, named, recordThen, tableStep, tabl
 use Rattle.eqn_names.specs.Unknown.{firstUnknown}
 use Rattle.eqn_grammar.specs.Grammar.{rowTokens}
 use Rattle.eqn_grammar.specs.Parsing as parsing
 use Rattle.eqn_meaning.specs.Meaning.{atomOf, limitsOf, rowItems, itemsWithin, fitsFormula}
 use Rattle.eqn_meaning.specs.Writing.{derivedBy, rowOf, spaced, textOf}
 use Rattle.results.specs.Results.{Result, made, refused, accepted, refusal, answerBy, bufferBy}
 use Rattle.eqn_meaning.specs.Answers.{noRoom, ifFits, ifWhole, ifKnown, withNames, readResult, ifDerived, ifRead, writeResult}
 
 -- the definitions that the examples compute with
-definitions : Unit {0}
+unfoldable pub definitions : Unit {0}
 unfolding littleEndian signedWord wordOf fourBytes listOpeningBytes itemsBytes markIn markOf heads.atomOf heads.atomOpening heads.fractionOf heads.fractionOpening heads.kernWithin heads.kernOpening heads.styleOpening heads.opens heads.openingOf heads.symbolHead heads.sublistHead heads.listHead heads.longListHead heads.fieldHeadUnder reading.listGot reading.fieldBy reading.onlyList reading.heldIn reading.fieldAt reading.firstAt reading.thirdAt reading.noadAt reading.listAt reading.choiceAt reading.openedBy reading.itemBy reading.before reading.restBy reading.listBy reading.readBy reading.readUnder reading.readFormulaUnder listOpening spelling allWordBytes same keywordOf tokenBytes runLength tokenOf tokensFrom placeFrom frontName named recordThen tableStep tableBy tableOf firstFor firstUnknown rowTokens parsing.withLast parsing.joined parsing.mayFollow parsing.taking parsing.joining parsing.ended parsing.read parsing.parseThen parsing.parseFrom parsing.parse atomOf limitsOf rowItems itemsWithin fitsFormula derivedBy rowOf spaced textOf ifFits ifWhole ifKnown withNames readResult ifDerived ifRead writeResult answerBy bufferBy
 definitions = tt
 
@@ -306,6 +306,15 @@ no-room = refl
 pub room : answerBy noRoom 9 (readResult table (typed "x")) ≡ accepted 9
 unfolding definitions
 room = refl
+
+-- `a over b` is 8 bytes
+pub no-room-writing : answerBy noRoom 7 (writeResult table (spelling (fraction a b beside nil))) ≡ refusal 13 0
+unfolding definitions
+no-room-writing = refl
+
+pub room-writing : answerBy noRoom 8 (writeResult table (spelling (fraction a b beside nil))) ≡ accepted 8
+unfolding definitions
+room-writing = refl
 
 -- a refusal leaves the buffer, an acceptance what stands behind its result
 pub unchanged : bufferBy (replicate 8 7) (readResult table (typed "x")) ≡ replicate 8 7
