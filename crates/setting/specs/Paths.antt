@@ -98,6 +98,10 @@ spotPlace s (within before a b c spot after) i =
     let t = styleAfter s before in
     itemsBytes before + (listPlace (t .level) a b c + listOpeningBytes (itemsBytes (put t spot i))) + spotPlace t spot i
 
+-- the style current at the item
+abbrev pub spotStyle : Style → Spot → Style
+spotStyle s spot = styleAfter s (itemsBefore spot)
+
 -- ---- from a list into a field of one of its items
 
 pub record Step : Type 0 where
@@ -111,9 +115,8 @@ holder t l = holding (t .kind) (t .arm) l
 abbrev pub listWith : Style → Step → Items → Items
 listWith s t l = put s (t .spot) (holder t l)
 
--- the style current at the item
 abbrev pub itemStyle : Style → Step → Style
-itemStyle s t = styleAfter s (itemsBefore (t .spot))
+itemStyle s t = spotStyle s (t .spot)
 
 abbrev pub stepStyle : Style → Step → Style
 stepStyle s t = fieldStyle (t .kind) (t .arm) (itemStyle s t)
