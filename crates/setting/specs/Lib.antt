@@ -14,3 +14,4 @@ pub mod FieldAlone
 pub mod Picked
 pub mod PickedLaws
 pub mod ItemOnPage
+pub mod PickedSet

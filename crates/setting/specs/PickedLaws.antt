@@ -81,7 +81,7 @@ module _ (s : Style) (place : ℕ) (d t sc ss : Items) where
       ap (ifReached (leb start place))
       (sym (taken-all f s {d = d} {t = t} {sc = sc} {ss = ss} {d′ = f d} {t′ = f t} {sc′ = f sc} {ss′ = f ss} refl refl refl refl))
 
-split : (a b : ℕ) → (a < b) ⊎ (b ≤ a)
+pub split : (a b : ℕ) → (a < b) ⊎ (b ≤ a)
 split a b = go (ltb a b) refl
   where
     go : (t : Bool) → ltb a b ≡ t → (a < b) ⊎ (b ≤ a)
@@ -95,11 +95,11 @@ pub record Sound (F : Font) (q : Picked) : Type 0 where
   pub present : missingItem F (q .style) (pickedItem q) ≡ none
   pub fits : itemFits F (q .style) (pickedItem q) ≡ true
 
-orIn-some : (a b : Option Picked) {q : Picked} → a orIn b ≡ some q → (a ≡ some q) ⊎ (b ≡ some q)
+pub orIn-some : (a b : Option Picked) {q : Picked} → a orIn b ≡ some q → (a ≡ some q) ⊎ (b ≡ some q)
 orIn-some none b e = inr e
 orIn-some (some x) b e = inl e
 
-reached : (t : Bool) (a : Option Picked) {q : Picked} → ifReached t a ≡ some q → a ≡ some q
+pub reached : (t : Bool) (a : Option Picked) {q : Picked} → ifReached t a ≡ some q → a ≡ some q
 reached true a e = e
 reached false a e = let z : _≡_ {A = ℕ} 0 1 = cc in absurd (omega arith)
 
