@@ -5,7 +5,7 @@
 --     contents-shorter     the items of a list field have as many bytes as it says, and fewer than what holds it
 --     head-under, list-under     what a field is under another format
 --     opening-fits         the bytes of an item before its fields
---     kern-small           a kern is within its bounds
+--     kern-small, style-small     a kern is within its bounds, and a style's number
 -- Each goes by the cases of the definition, whose tests `either` takes apart.
 -- Assumes nothing.
 use mathlib.Core.Path.{_≡_, refl, sym, subst, _∙_}
@@ -166,7 +166,7 @@ NumberIn : Opening → Type 0
 NumberIn NoItem = Unit {0}
 NumberIn (Fields kind) = Unit {0}
 NumberIn (Kern n) = Within greatestKern (n .0)
-NumberIn (Restyle n) = Unit {0}
+NumberIn (Restyle n) = n ≤ greatestStyle
 NumberIn Choice = Unit {0}
 
 OpeningIn : List ℕ → Opening → Type 0
@@ -203,7 +203,7 @@ style-in : (s : List ℕ) (n : ℕ) → restyleBytes ≤ length s →
     OpeningIn s (elim (leb n greatestStyle) [ true ↦ Restyle n | false ↦ NoItem ])
 unfolding OpeningIn NumberIn
 style-in s n h =
-    either (OpeningIn s) (leb n greatestStyle) (λ e. (h, tt)) (λ e. (omega arith, tt))
+    either (OpeningIn s) (leb n greatestStyle) (λ e. (h, leb-true n greatestStyle e)) (λ e. (omega arith, tt))
 
 root-in : (s : List ℕ) (sign : Delimiter) → 6 ≤ length s → OpeningIn s (rootOf sign)
 unfolding rootOf
@@ -261,3 +261,7 @@ opening-fits s o e = subst (OpeningIn s) e (opening-in s) .0
 pub kern-small : (s : List ℕ) (n : Sp) → openingOf s ≡ Kern n → Within greatestKern (n .0)
 unfolding OpeningIn NumberIn
 kern-small s n e = subst (OpeningIn s) e (opening-in s) .1
+
+pub style-small : (s : List ℕ) (n : ℕ) → openingOf s ≡ Restyle n → n ≤ greatestStyle
+unfolding OpeningIn NumberIn
+style-small s n e = subst (OpeningIn s) e (opening-in s) .1

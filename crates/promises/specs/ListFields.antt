@@ -22,15 +22,17 @@ use native.Mathlib.Omega.{arith}
 use lib.Dec.{leb, eqb}
 use lib.ListN.{length, take, drop, length-drop}
 use lib.Seq.{drop-drop}
+use borrow.Author.Tests.{eqb-true}
+use Rattle.laws.specs.Truths.{either, both-true}
 use Rattle.scaled.specs.declared.Sp.{Sp}
 use Rattle.words.specs.Words.{littleEndian}
 use Rattle.formula.specs.declared.Kind.{Kind}
 use Rattle.formula.specs.declared.Opening.{Opening}
 use Rattle.formula.specs.declared.Opening.the-variants.{Fields, Kern, Restyle, Choice}
 use Rattle.formula.specs.declared.FieldHead.{FieldHead}
-use Rattle.formula.specs.declared.FieldHead.the-variants.{Sublist, CutSublist}
+use Rattle.formula.specs.declared.FieldHead.the-variants.{NoField, Empty, Symbol, Sublist, CutSublist}
 use Rattle.formula.specs.Tree.{Items, Item, Field, nil, cons, noad, list, openingBytes, holdsList, shortOpeningBytes, longOpeningBytes, listOpeningBytes, sublistBytes, itemsBytes}
-use Rattle.formula.specs.Heads.{openingOf, sublistHead, listHead, longListHead, fieldHeadUnder, fieldHead}
+use Rattle.formula.specs.Heads.{openingOf, greatestFamily, symbolHead, sublistHead, listHead, longListHead, fieldHeadUnder, fieldHead}
 use Rattle.formula.specs.HeadLaws.{list-opening, contents-shorter, opening-fits}
 use Rattle.formula.specs.Places.{Readable, treeOf, headBytes, contents, fieldOf, GoodField, listOf, choiceLists, hasThird, openedBytes, headAt, second, third, listPlace, itemSize, fieldIn, thirdIn, listIn, itemOf}
 use Rattle.formula.specs.PlacesLaws.{tree-none, items-bytes, Noad, noad-at, choice-at, step, third-good, list-good-field, item-bytes, list-bytes, second-field, third-field}
@@ -164,19 +166,64 @@ list-read s field (listField a b rest) good =
 list-read s field (longListField a b c d rest) good =
     sublist-read (3 ∷ a ∷ b ∷ c ∷ d ∷ rest) longOpeningBytes (littleEndian 4 (a ∷ b ∷ c ∷ d ∷ [])) refl good
 
+-- a list field begins so
+ListShown : List ℕ → FieldHead → Type 0
+ListShown s NoField = Unit {0}
+ListShown s Empty = Unit {0}
+ListShown s (Symbol family code) = Unit {0}
+ListShown s (Sublist opening n) = ListField s (contents opening n s)
+ListShown s CutSublist = Unit {0}
+
+list-shown : (s : List ℕ) → ListShown s (fieldHead s)
+unfolding fieldHeadUnder symbolHead listHead longListHead sublistHead ListShown
+list-shown [] = tt
+list-shown (kind ∷ s) =
+    let P = ListShown (kind ∷ s) in
+    either P (eqb kind 0) (λ e. tt) (λ e.
+    either P (eqb kind 1) (λ e. symbols s) (λ e.
+    either P (eqb kind 2) (λ e. subst (λ (k : ℕ). ListShown (k ∷ s) (listHead s)) (sym (eqb-true kind 2 e)) (short s)) (λ e.
+    either P (eqb kind 3 && true)
+    (λ e. subst (λ (k : ℕ). ListShown (k ∷ s) (longListHead s)) (sym (eqb-true kind 3 (both-true e .0))) (long s)) (λ e. tt))))
+  where
+    symbols : (t : List ℕ) → ListShown (kind ∷ s) (symbolHead t)
+    symbols [] = tt
+    symbols (family ∷ []) = tt
+    symbols (family ∷ code ∷ t) = either (ListShown (kind ∷ s)) (leb family greatestFamily) (λ e. tt) (λ e. tt)
+
+    sublists : (t : List ℕ) (opening n : ℕ) (rest : List ℕ) → ListField t (contents opening n t) → ListShown t (sublistHead opening n rest)
+    sublists t opening n rest f =
+        either (ListShown t) (eqb opening (listOpeningBytes n) && leb n (length rest)) (λ e. f) (λ e. tt)
+
+    short : (t : List ℕ) → ListShown (2 ∷ t) (listHead t)
+    short [] = tt
+    short (a ∷ []) = tt
+    short (a ∷ b ∷ t) = sublists (2 ∷ a ∷ b ∷ t) shortOpeningBytes (littleEndian 2 (a ∷ b ∷ [])) t (listField a b t)
+
+    long : (t : List ℕ) → ListShown (3 ∷ t) (longListHead t)
+    long [] = tt
+    long (a ∷ []) = tt
+    long (a ∷ b ∷ []) = tt
+    long (a ∷ b ∷ c ∷ []) = tt
+    long (a ∷ b ∷ c ∷ d ∷ t) =
+        sublists (3 ∷ a ∷ b ∷ c ∷ d ∷ t) longOpeningBytes (littleEndian 4 (a ∷ b ∷ c ∷ d ∷ [])) t (longListField a b c d t)
+
+pub list-field : (s : List ℕ) (opening n : ℕ) → fieldHead s ≡ Sublist opening n → ListField s (contents opening n s)
+unfolding ListShown
+list-field s opening n e = subst (ListShown s) e (list-shown s)
+
 -- ---- the list that a choice takes
 
-record TakenRead (u : Style) (s inner : List ℕ) : Type 0 where
-  readable : Readable inner
-  items-are : taken u (listIn s 0) (listIn s 1) (listIn s 2) (listIn s 3) ≡ treeOf inner
-  a : Items
-  b : Items
-  c : Items
-  is : itemOf s Choice ≡ choiceWith (u .level) (treeOf inner) a b c
-  place : placeAmong (u .level) a b c ≡ takenPlace u s
-  part : PartAt s (takenPlace u s + listOpeningBytes (length inner)) inner
+pub record TakenRead (u : Style) (s inner : List ℕ) : Type 0 where
+  pub readable : Readable inner
+  pub items-are : taken u (listIn s 0) (listIn s 1) (listIn s 2) (listIn s 3) ≡ treeOf inner
+  pub a : Items
+  pub b : Items
+  pub c : Items
+  pub is : itemOf s Choice ≡ choiceWith (u .level) (treeOf inner) a b c
+  pub place : placeAmong (u .level) a b c ≡ takenPlace u s
+  pub part : PartAt s (takenPlace u s + listOpeningBytes (length inner)) inner
 
-taken-read : (u : Style) (s inner : List ℕ) → openingOf s ≡ Choice → Readable s → ListField (drop (takenPlace u s) s) inner →
+pub taken-read : (u : Style) (s inner : List ℕ) → openingOf s ≡ Choice → Readable s → ListField (drop (takenPlace u s) s) inner →
     TakenRead u s inner
 taken-read u s inner e r f =
     let k = among-lists (u .level) (u .cramped) in

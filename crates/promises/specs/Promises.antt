@@ -53,7 +53,9 @@ pub use Rattle.promises.specs.WhyLaws.{WhyTrue, why-true}
 -- and on the page: what is asked about is the item that is set at the place; its superscript or numerator stands on the page as far above its
 -- baseline as the shift up says, its subscript or denominator as far below as the shift down
 pub use Rattle.promises.specs.WhyLaws.{WhyOnPage, why-on-page}
--- asking finds exactly the items that are set, each in the style current at it
+-- asking finds exactly the items that are set, each in the style current at it: by the place of the first byte (and `picks` of `ItemStands`,
+-- below), and in the tree
+pub use Rattle.promises.specs.FoundItems.{FoundAt, found-at}
 pub use Rattle.setting.specs.PickedSet.{set-picked, picked-set}
 pub use Rattle.promises.specs.Examples.{why-hold}
 -- ---- request 8: long formulas

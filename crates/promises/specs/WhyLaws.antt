@@ -2,7 +2,7 @@
 --     WhyTrue      the item that starts at the place, as the setter sets it, and what makes its reasons true: what is named is the shift
 --                        at which the setter puts the script or part, and none of its stage is larger (`Because`)
 --     why-true     of every acceptance
---     WhyOnPage    that item is the one that is set at the place, and it stands on the page: the nodes of its superscript or numerator as
+--     WhyOnPage    that item is set at that place of the bytes, and it stands on the page: the nodes of its superscript or numerator as
 --                        far above its baseline as the answer's shift up says, those of its subscript or denominator as far below as its
 --                        shift down
 --     why-on-page  of every acceptance
@@ -27,11 +27,12 @@ use Rattle.reasons.specs.Reasons.{Reasons}
 use Rattle.setting.specs.Setting.{Box, noSides, setList}
 use Rattle.setting.specs.Picked.{Picked, pickIn, pickedReasons}
 use Rattle.setting.specs.PickedLaws.{Because, picked-because, picked-of}
-use Rattle.setting.specs.ItemOnPage.{SetAt, ItemOnPage, item-on-page, raisedField, loweredField, StandsAbove, raised-on-page, lowered-on-page}
+use Rattle.setting.specs.ItemOnPage.{ItemOnPage, item-on-page, raisedField, loweredField, StandsAbove, raised-on-page, lowered-on-page}
 use Rattle.setting.specs.PickedSet.{picked-set}
 use Rattle.answers.specs.Lent.{Lent}
 use Rattle.answers.specs.Answers.{acceptedNumber, Result, boxed, refused, resultOf, hasRoom, setBy, settingBetween}
 use Rattle.promises.specs.Accepting.{Accepted, accepted-reads, passed, boxed-of, Page, page-of}
+use Rattle.promises.specs.FoundItems.{FoundAt, found-at}
 use Rattle.answers.specs.Why.{ifPicked, whyBy, reasonsIn, whyOf}
 
 pub record WhyTrue (style : ℕ) (table client : List ℕ) (lent : Lent) (formula : List ℕ) (place : ℕ) (r : Reasons) : Type 0 where
@@ -100,7 +101,7 @@ module _ (style : ℕ) (table client : List ℕ) (lent : Lent) (formula : List �
 
 pub record WhyOnPage (style : ℕ) (table client : List ℕ) (lent : Lent) (formula : List ℕ) (place : ℕ) (r : Reasons) : Type 0 where
   pub why : WhyTrue style table client lent formula place r
-  pub set-there : SetAt (why .s) place (why .tree) (why .item)
+  pub found : FoundAt (why .s) formula place (why .item)
   pub size : Size
   pub nodes : List Node
   pub page : Page style table client lent formula size nodes
@@ -114,12 +115,11 @@ pub why-on-page : (style : ℕ) (table client : List ℕ) (lent : Lent) (formula
 why-on-page style table client lent formula place e =
     let F = fontWith table client in
     let why = why-true style table client lent formula place e in
-    let set = picked-set (why .picks) in
     let b = setList F noSides (why .s) (why .tree) in
-    let there = item-on-page F set in
+    let there = item-on-page F (picked-set (why .picks)) in
     record {
       why = why;
-      set-there = set;
+      found = found-at (why .s) formula place (why .reads .reads) (why .picks);
       size = b .size;
       nodes = b .nodes;
       page = page-of (why .reads);

@@ -81,7 +81,7 @@ pick-behind s (cons i b) r k =
     ∙ pick-behind (styleBehind s i) b r k
 
 -- a choice with l for the style's level
-pickAt-chosen : (s : Style) (place : ℕ) (l a b c : Items) →
+pub pickAt-chosen : (s : Style) (place : ℕ) (l a b c : Items) →
     let start = listPlace (s .level) a b c + listOpeningBytes (itemsBytes l) in
     pickAt s place (choiceWith (s .level) l a b c) ≡ ifReached (leb start place) (pickIn s (place - start) l)
 pickAt-chosen s place l a b c = go (s .level) (s .cramped)
@@ -288,7 +288,7 @@ taken-with s d t sc ss = go (s .level) (s .cramped)
     go Scriptscript cramped = record { a = d; b = t; c = sc; choice-is = refl; start-is = refl }
 
 -- what is reached lies behind the opening
-reached-there : (start place : ℕ) (o : Option Picked) {q : Picked} → ifReached (leb start place) o ≡ some q → start ≤ place
+pub reached-there : (start place : ℕ) (o : Option Picked) {q : Picked} → ifReached (leb start place) o ≡ some q → start ≤ place
 reached-there start place o {q} = go (leb start place) refl
   where
     go : (t : Bool) → leb start place ≡ t → ifReached t o ≡ some q → start ≤ place
