@@ -31,17 +31,17 @@ record Cleared (φ upper lower shift r : ℤ) : Type 0 where
 
 cleared-free : (φ upper lower shift : ℤ) → Cleared φ upper lower shift (cleared φ upper lower shift)
 unfolding cleared pick
-cleared-free φ upper lower shift = go (ltZ open φ) refl
+cleared-free φ upper lower shift = go (ltZ room φ) refl
   where
-    open : ℤ
-    open = upper -ℤ lower
+    room : ℤ
+    room = upper -ℤ lower
 
-    go : (t : Bool) → ltZ open φ ≡ t → Cleared φ upper lower shift (pick t (shift +ℤ (φ -ℤ open)) shift)
+    go : (t : Bool) → ltZ room φ ≡ t → Cleared φ upper lower shift (pick t (shift +ℤ (φ -ℤ room)) shift)
     go true e =
-        let l : Less open φ (ltZ open φ) = less refl in
-        omega (arith, l .yes e, sound (# upper ⊖ # lower) (tt, tt), sound (# shift ⊕ (# φ ⊖ # open)) (tt, (tt, tt)))
+        let l : Less room φ (ltZ room φ) = less refl in
+        omega (arith, l .yes e, sound (# upper ⊖ # lower) (tt, tt), sound (# shift ⊕ (# φ ⊖ # room)) (tt, (tt, tt)))
     go false e =
-        let l : Less open φ (ltZ open φ) = less refl in
+        let l : Less room φ (ltZ room φ) = less refl in
         omega (arith, l .no e, sound (# upper ⊖ # lower) (tt, tt))
 
 -- ---- 15c: each part gains half of what is free too little, rounded up
