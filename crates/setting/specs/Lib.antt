@@ -1,4 +1,4 @@
--- The box of a list, what is missing and what is too large; and how a list field stands in the whole; the item at a place. Assumes nothing.
+-- The box of a list, what is missing and what is too large; and how a list field stands in the whole; the item at a place, and on the page. Assumes nothing.
 pub mod Setting
 pub mod Missing
 pub mod Fitting
@@ -13,3 +13,5 @@ pub mod FieldInPlace
 pub mod FieldAlone
 pub mod Picked
 pub mod PickedLaws
+pub mod ItemOnPage
+pub mod PickedSet
