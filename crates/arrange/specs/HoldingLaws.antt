@@ -1,5 +1,5 @@
 -- What an item holds (request 12): its fields, where they stand, and its own nodes, of whatever kind it is.
---     SignThere, SignsThere     what was found for delimiters is in the font
+--     SignsThere                what was found for delimiters is in the font
 --     ArrangedHolds F x y z a   the item a of three shapes does; of a shape that is nothing no claim is made
 --     arranged-holds            every item does, whose fields are upright, as all are that are set
 -- Assumes nothing.
@@ -57,6 +57,11 @@ given-upright : (y : Shape) → Upright (sizeOf y) → UprightIf (given y)
 given-upright nothing u = tt
 given-upright (char m) u = u
 given-upright (box z) u = u
+
+-- a fraction has no third field
+abbrev pub NoThird : Kind → Shape → Type 0
+NoThird (Scripted base) z = Unit {0}
+NoThird (Fraction bar) z = z ≡ nothing
 
 -- ---- signs
 
@@ -148,11 +153,7 @@ module _ (F : Font) where
     bar-own true w r h = rule-held F r h
     bar-own false w r h = none-held F w
 
-    -- ---- any item; a fraction has no third field
-
-    abbrev pub NoThird : Kind → Shape → Type 0
-    NoThird (Scripted base) z = Unit {0}
-    NoThird (Fraction bar) z = z ≡ nothing
+    -- ---- any item
 
     pub arranged-holds : (kind : Kind) (signs : Signs) (x y z : Shape) → NoThird kind z → SignsThere signs →
         Upright (sizeOf x) → Upright (sizeOf y) → Upright (sizeOf z) → ArrangedHolds x y z (arrange p s kind signs x y z)
