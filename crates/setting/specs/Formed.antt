@@ -87,39 +87,39 @@ formula-formed formula = go (ltb formulaLimit (length formula))
     go true = tt
     go false = if-formed (length formula) (read (depthLimit - 1) formula) (read-in formedParts formed-so (depthLimit - 1) formula)
 
-pub read-formed : {formula : List ℕ} {l : Items} → readFormula formula ≡ good l → Formed l
-read-formed {formula} e = subst IfFormed e (formula-formed formula)
+pub read-formed : (formula : List ℕ) (l : Items) → readFormula formula ≡ good l → Formed l
+read-formed formula l e = subst IfFormed e (formula-formed formula)
 
 -- ---- an item at a site
 
-formed-join : (b : Items) {i : Item} {r : Items} → Formed (join b (cons i r)) → FormedItem i
+formed-join : (b : Items) (i : Item) (r : Items) → Formed (join b (cons i r)) → FormedItem i
 unfolding Formed
-formed-join nil h = h .0
-formed-join (cons j b) h = formed-join b (h .1)
+formed-join nil i r h = h .0
+formed-join (cons j b) i r h = formed-join b i r (h .1)
 
-formed-choice : (level : Level) {l a b c : Items} → FormedItem (choiceWith level l a b c) → Formed l
+formed-choice : (level : Level) (l a b c : Items) → FormedItem (choiceWith level l a b c) → Formed l
 unfolding FormedItem
-formed-choice Display h = h .0
-formed-choice Text h = h .1
-formed-choice Script h = h .2
-formed-choice Scriptscript h = h .3
+formed-choice Display l a b c h = h .0
+formed-choice Text l a b c h = h .1
+formed-choice Script l a b c h = h .2
+formed-choice Scriptscript l a b c h = h .3
 
-formed-put : (s : Style) (spot : Spot) {i : Item} → Formed (put s spot i) → FormedItem i
-formed-put s (among before after) h = formed-join before h
-formed-put s (within before a b c spot after) h =
+formed-put : (s : Style) (spot : Spot) (i : Item) → Formed (put s spot i) → FormedItem i
+formed-put s (among before after) i h = formed-join before i after h
+formed-put s (within before a b c spot after) i h =
     let t = styleAfter s before in
-    formed-put t spot (formed-choice (t .level) (formed-join before h))
+    formed-put t spot i (formed-choice (t .level) (put t spot i) a b c (formed-join before (choiceWith (t .level) (put t spot i) a b c) after h))
 
-formed-arm : (kind : Kind) (arm : Arm) {l : Items} → FormedItem (holding kind arm l) → Formed l
+formed-arm : (kind : Kind) (arm : Arm) (l : Items) → FormedItem (holding kind arm l) → Formed l
 unfolding FormedItem FormedField
-formed-arm kind (inFirst y z) h = h .0
-formed-arm kind (inSecond x z) h = h .1
-formed-arm kind (inThird x y) h = h .2
+formed-arm kind (inFirst y z) l h = h .0
+formed-arm kind (inSecond x z) l h = h .1
+formed-arm kind (inThird x y) l h = h .2
 
 formed-fill : (s : Style) (p : Path) (l : Items) → Formed (fill s p l) → Formed l
 formed-fill s whole l h = h
 formed-fill s (into p t) l h =
-    formed-arm (t .kind) (t .arm) (formed-put (styleAt s p) (t .spot) (formed-fill s p (listWith (styleAt s p) t l) h))
+    formed-arm (t .kind) (t .arm) l (formed-put (styleAt s p) (t .spot) (holder t l) (formed-fill s p (listWith (styleAt s p) t l) h))
 
-pub formed-at : (s : Style) (t : Site) {i : Item} → Formed (withItem s t i) → FormedItem i
-formed-at s t {i} h = formed-put (styleAt s (t .path)) (t .spot) (formed-fill s (t .path) (put (styleAt s (t .path)) (t .spot) i) h)
+pub formed-at : (s : Style) (t : Site) (i : Item) → Formed (withItem s t i) → FormedItem i
+formed-at s t i h = formed-put (styleAt s (t .path)) (t .spot) i (formed-fill s (t .path) (put (styleAt s (t .path)) (t .spot) i) h)

@@ -3,7 +3,7 @@
 --     ink-raised                       the ink of a node that is moved is moved with it
 --     held-ink                         what a box holds, it holds the ink of (`Holds` of the rules)
 --     span-moved                       the ink of a box that is raised
---     clear-by, clear-moved            runs that are clear of each other by their heights, and so when both are moved
+--     clear-by, clear-none             runs that are clear of each other by their heights, or because there are no nodes
 -- Assumes nothing.
 use mathlib.Core.Path.{_≡_, refl, sym, ap, ap₂, subst}
 use mathlib.Core.List.{List, [], _∷_, _++_}
@@ -67,26 +67,26 @@ ink-raised F dx dy (glyph x y size family code) = go (F .symbol size family code
 ink-raised F dx dy (rule x y width thickness) =
     ap (inkFrom (y +ℤ dy)) (eq-by ((# y ⊕ # dy) ⊕ # thickness) ((# y ⊕ # thickness) ⊕ # dy) (omega arith))
 
-inked-raised : {C D : Ink → Type 0} (dy : ℤ) (o : Option Ink) → ((i : Ink) → C i → D (raisedInk dy i)) → Inked C o → Inked D (raisedIf dy o)
-inked-raised dy none f h = h
-inked-raised dy (some i) f h = f i h
+inked-raised : (C D : Ink → Type 0) (dy : ℤ) (o : Option Ink) → ((i : Ink) → C i → D (raisedInk dy i)) → Inked C o → Inked D (raisedIf dy o)
+inked-raised C D dy none f h = h
+inked-raised C D dy (some i) f h = f i h
 
-inked-so : {C D : Ink → Type 0} (o : Option Ink) → ((i : Ink) → C i → D i) → Inked C o → Inked D o
-inked-so none f h = h
-inked-so (some i) f h = f i h
+inked-so : (C D : Ink → Type 0) (o : Option Ink) → ((i : Ink) → C i → D i) → Inked C o → Inked D o
+inked-so C D none f h = h
+inked-so C D (some i) f h = f i h
 
 module _ (F : Font) where
   -- a claim of a node that is moved
-  inked-moved : {C D : Ink → Type 0} (dx dy : ℤ) (n : Node) → ((i : Ink) → C i → D (raisedInk dy i)) → Inked C (inkOf F n) →
+  inked-moved : (C D : Ink → Type 0) (dx dy : ℤ) (n : Node) → ((i : Ink) → C i → D (raisedInk dy i)) → Inked C (inkOf F n) →
       Inked D (inkOf F (movedNode dx dy n))
-  inked-moved {C} {D} dx dy n f h = subst (Inked D) (sym (ink-raised F dx dy n)) (inked-raised dy (inkOf F n) f h)
+  inked-moved C D dx dy n f h = subst (Inked D) (sym (ink-raised F dx dy n)) (inked-raised C D dy (inkOf F n) f h)
 
   -- ---- what a box holds
 
   pub held-ink : {w z : Size} {up : ℤ} (across : ℤ) (ns : List Node) → Holds w z up → InkIn F z ns → InkIn F w (moved across up ns)
   held-ink {w} {z} {up} across ns holds h =
       every-moved (InkBetween F (negℤ (z .depth)) (z .height)) (InkBetween F (negℤ (w .depth)) (w .height)) across up ns
-      (λ n b. inked-moved across up n lies b) h
+      (λ n b. inked-moved (Between (negℤ (z .depth)) (z .height)) (Between (negℤ (w .depth)) (w .height)) across up n lies b) h
     where
       lies : (i : Ink) → Between (negℤ (z .depth)) (z .height) i → Between (negℤ (w .depth)) (w .height) (raisedInk up i)
       lies i b =
@@ -100,7 +100,7 @@ module _ (F : Font) where
   pub held-there : {w z : Size} (ns : List Node) → Holds w z (pos 0) → InkIn F z ns → InkIn F w ns
   held-there {w} {z} ns holds h =
       every-so (InkBetween F (negℤ (z .depth)) (z .height)) (InkBetween F (negℤ (w .depth)) (w .height)) ns
-      (λ n b. inked-so (inkOf F n) lies b) h
+      (λ n b. inked-so (Between (negℤ (z .depth)) (z .height)) (Between (negℤ (w .depth)) (w .height)) (inkOf F n) lies b) h
     where
       lies : (i : Ink) → Between (negℤ (z .depth)) (z .height) i → Between (negℤ (w .depth)) (w .height) i
       lies i b =
@@ -115,7 +115,7 @@ module _ (F : Font) where
       Every (InkBetween F (up -ℤ z .depth) (z .height +ℤ up)) (moved across up ns)
   span-moved z across up ns h =
       every-moved (InkBetween F (negℤ (z .depth)) (z .height)) (InkBetween F (up -ℤ z .depth) (z .height +ℤ up)) across up ns
-      (λ n b. inked-moved across up n lies b) h
+      (λ n b. inked-moved (Between (negℤ (z .depth)) (z .height)) (Between (up -ℤ z .depth) (z .height +ℤ up)) across up n lies b) h
     where
       lies : (i : Ink) → Between (negℤ (z .depth)) (z .height) i → Between (up -ℤ z .depth) (z .height +ℤ up) (raisedInk up i)
       lies i b =
@@ -128,7 +128,7 @@ module _ (F : Font) where
 
   -- ---- runs that are clear of each other
 
-  module _ {low₁ high₁ low₂ high₂ gap : ℤ} (apart : (high₂ +ℤ gap) ≤ℤ low₁) where
+  module _ (gap low₁ high₁ low₂ high₂ : ℤ) (apart : (high₂ +ℤ gap) ≤ℤ low₁) where
     over-by : (o p : Option Ink) → Inked (Between low₁ high₁) o → Inked (Between low₂ high₂) p → Inked (λ (i : Ink). Inked (λ (j : Ink). Over gap i j) p) o
     over-by none p h k = h
     over-by (some i) none h k = k
@@ -142,3 +142,8 @@ module _ (F : Font) where
     clear-by ns ms h k =
         every-so (InkBetween F low₁ high₁) (λ (n : Node). Every (InkOver F gap n) ms) ns
         (λ n b. every-so (InkBetween F low₂ high₂) (InkOver F gap n) ms (λ m c. over-by (inkOf F n) (inkOf F m) b c) k) h
+
+  -- of no nodes nothing is claimed
+  pub clear-none : (gap : ℤ) (ns : List Node) → Clear F gap ns []
+  clear-none gap [] = tt
+  clear-none gap (n ∷ ns) = (tt, clear-none gap ns)

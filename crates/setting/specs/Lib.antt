@@ -20,3 +20,4 @@ pub mod Formed
 pub mod Ink
 pub mod InkLaws
 pub mod BoxInk
+pub mod Clearances
