@@ -279,6 +279,8 @@ questions =
     -- behind another item, and in a list
     ∷ ask (plus ++ fraction 0) T 9 (because (shiftBy Sigma (pos 400)) (shiftBy Sigma (pos 350)))
     ∷ ask (alone ord (sublist 13 (atom ord f a a))) T 7 (because (shiftBy Sigma (pos 370)) (shiftBy Sigma (pos 250)))
+    -- behind a style change, D in T: σ13
+    ∷ ask (83 ∷ 84 ∷ D ∷ atom ord a a empty) T 3 (because (shiftBy Sigma (pos 420)) unshifted)
     -- in the list that a choice takes
     ∷ ask chosenForD D 5 (because (shiftBy Sigma (pos 420)) (shiftBy Sigma (pos 250)))
     -- 9: in one that it does not take

@@ -9,6 +9,7 @@ pub mod MovedBytes
 pub mod FieldBytes
 pub mod ListFields
 pub mod Demand3
+pub mod ItemsOnPage
 pub mod AsBefore
 pub mod OursAlone
 pub mod Formats

@@ -42,7 +42,7 @@ use Rattle.arrange.specs.Arrange.{firstStyle, secondStyle, thirdStyle, firstMan
 use Rattle.setting.specs.Setting.{taken, styleAfter, styleBehind, Sides, noSides, sidesOf}
 use Rattle.setting.specs.SettingLaws.{heldSides, first-sides, taken-all, styleBehind-choice}
 use Rattle.setting.specs.Lines.{styleAfter-join}
-use Rattle.setting.specs.Paths.{Arm, inFirst, inSecond, inThird, holding, fieldStyle, fieldManner, fieldPlace, join, choiceWith, listPlace as placeAmong, Spot, among, within, put, itemsBefore, spotPlace, Step, listWith, itemStyle, stepStyle, stepSides, stepPlace, Path, whole, into, fill, styleAt, sidesAt, placeOf}
+use Rattle.setting.specs.Paths.{Arm, inFirst, inSecond, inThird, holding, fieldStyle, fieldManner, fieldPlace, HasField, join, choiceWith, listPlace as placeAmong, Spot, among, within, put, itemsBefore, spotPlace, Step, listWith, itemStyle, stepStyle, stepSides, stepPlace, Path, whole, into, fill, styleAt, sidesAt, placeOf, HasFields}
 use Rattle.promises.specs.FieldBytes.{PartAt, part-behind, part-within}
 
 -- ---- what stands where
@@ -264,13 +264,13 @@ items-before (pastChoice {u} {v} {w} {s} {inner} at e f t i) r =
 
 -- ---- an item that is set: a spot
 
-record SpotOf (u : Style) (s : List ℕ) (at : ℕ) (v : Style) (item : List ℕ) (kind : Kind) : Type 0 where
-  spot : Spot
-  noad : Noad item kind
-  tree : treeOf s ≡ put u spot (itemOf item (Fields kind))
-  style : styleAfter u (itemsBefore spot) ≡ v
-  place : spotPlace u spot (itemOf item (Fields kind)) ≡ at
-  part : PartAt s at item
+pub record SpotOf (u : Style) (s : List ℕ) (at : ℕ) (v : Style) (item : List ℕ) (kind : Kind) : Type 0 where
+  pub spot : Spot
+  pub noad : Noad item kind
+  pub tree : treeOf s ≡ put u spot (itemOf item (Fields kind))
+  pub style : styleAfter u (itemsBefore spot) ≡ v
+  pub place : spotPlace u spot (itemOf item (Fields kind)) ≡ at
+  pub part : PartAt s at item
 
 -- in the list that a choice takes
 spot-within : (u v w : Style) (s inner item : List ℕ) (at k : ℕ) (kind : Kind) → Behind u s at v → openingOf (drop at s) ≡ Choice →
@@ -294,7 +294,7 @@ spot-within u v w s inner item at k kind h e t m =
       part = part-within s inner item (at + place) k (part-within s q inner at place (part-behind s at) (t .part)) (m .part);
     }
 
-spot-of : {u : Style} {s : List ℕ} {at : ℕ} {v : Style} {item : List ℕ} → SetItem u s at v item → Readable s → (kind : Kind) →
+pub spot-of : {u : Style} {s : List ℕ} {at : ℕ} {v : Style} {item : List ℕ} → SetItem u s at v item → Readable s → (kind : Kind) →
     openingOf item ≡ Fields kind → SpotOf u s at v item kind
 spot-of (inList {s = s} {at} i) r kind e =
     let h = items-before i r in
@@ -321,6 +321,7 @@ record Held (s : List ℕ) (kind : Kind) (u : Style) (at : ℕ) (v : Style) (sid
   is : itemOf s (Fields kind) ≡ holding kind arm (treeOf field)
   style : fieldStyle kind arm u ≡ v
   between : sidesOf (fieldManner kind arm u) ≡ sides
+  has : HasField kind arm
   place : fieldPlace kind arm ≡ at
   read : ListRead (drop at s) field
 
@@ -335,6 +336,7 @@ held s kind u at v sides field n inOne f =
       is = ap (λ (x : Field). noad kind x y z) (r .is);
       style = refl;
       between = refl;
+      has = tt;
       place = refl;
       read = r;
     }
@@ -347,6 +349,7 @@ held s kind u at v sides field n inTwo f =
       is = ap (λ (y : Field). noad kind x y z) (r .is);
       style = refl;
       between = refl;
+      has = tt;
       place = second-field s kind n;
       read = r;
     }
@@ -359,6 +362,7 @@ held s kind u at v sides field n (inThree has) f =
       is = ap (λ (b : Bool). noad kind x y (thirdIn s b (third s kind))) has ∙ ap (noad kind x y) (r .is);
       style = refl;
       between = refl;
+      has = has;
       place = third-field s kind n;
       read = r;
     }
@@ -371,6 +375,7 @@ record Entered (u : Style) (s : List ℕ) (place : ℕ) (v : Style) (sides : Sid
   tree : treeOf s ≡ listWith u by (treeOf field)
   style : stepStyle u by ≡ v
   between : stepSides u by ≡ sides
+  has : HasField (by .kind) (by .arm)
   there : stepPlace u by (treeOf field) ≡ place + listOpeningBytes (length field)
   part : PartAt s (stepPlace u by (treeOf field)) field
 
@@ -391,6 +396,7 @@ entered u s place v sides field r f =
       tree = h .tree ∙ ap (put u (h .spot)) (g .is);
       style = ap (fieldStyle (f .kind) (g .arm)) (h .style) ∙ g .style;
       between = ap (λ (w : Style). sidesOf (fieldManner (f .kind) (g .arm) w)) (h .style) ∙ g .between;
+      has = g .has;
       there = omega (arith, there, f .place-is);
       part =
           subst (λ (x : ℕ). PartAt s x field) there
@@ -408,6 +414,7 @@ pub record Reached (u : Style) (formula : List ℕ) (place : ℕ) (v : Style) (s
   pub tree : treeOf formula ≡ fill u (into p t) (treeOf field)
   pub style : styleAt u (into p t) ≡ v
   pub between : sidesAt u (into p t) ≡ sides
+  pub has-fields : HasFields (into p t)
   pub there : placeOf u (into p t) (treeOf field) ≡ place + listOpeningBytes (length field)
   pub part : PartAt formula (placeOf u (into p t) (treeOf field)) field
 
@@ -424,6 +431,7 @@ module _ (u : Style) (formula : List ℕ) (r : Readable formula) where
         tree = e .tree;
         style = e .style;
         between = e .between;
+        has-fields = (tt, e .has);
         there = omega (arith, e .there);
         part = subst (λ (k : ℕ). PartAt formula k field) start (e .part);
       }
@@ -440,6 +448,7 @@ module _ (u : Style) (formula : List ℕ) (r : Readable formula) where
         tree = o .tree ∙ ap (fill u p) (e .tree);
         style = e .style;
         between = e .between;
+        has-fields = (o .has-fields, e .has);
         there = omega (arith, o .there, e .there, outer);
         part =
             subst (λ (k : ℕ). PartAt formula (k + step) field) outer

@@ -50,6 +50,11 @@ pub use Rattle.promises.specs.Examples.{client-set, client-refused}
 
 -- of every acceptance: what is named is the shift that the setter used, none of its stage is larger, and of equals it is the first
 pub use Rattle.promises.specs.WhyLaws.{WhyTrue, why-true}
+-- and on the page: what is asked about is the item that is set at the place; its superscript or numerator stands on the page as far above its
+-- baseline as the shift up says, its subscript or denominator as far below as the shift down
+pub use Rattle.promises.specs.WhyLaws.{WhyOnPage, why-on-page}
+-- asking finds exactly the items that are set, each in the style current at it
+pub use Rattle.setting.specs.PickedSet.{set-picked, picked-set}
 pub use Rattle.promises.specs.Examples.{why-hold}
 -- ---- request 8: long formulas
 
@@ -61,6 +66,11 @@ pub use Rattle.promises.specs.Formats.{accepted-on, measured-on, set-on,
 pub use Rattle.answers.specs.LentLaws.{measuring-leaves}
 pub use Rattle.promises.specs.LentWords.{setting-leaves, words-last, words-settle, few-refused, only-few, only-few-set, same-result, same-measured, same-set}
 pub use Rattle.promises.specs.Examples.{words-refused, client-index}
+-- ---- request 12: the finished page
+
+-- every item with fields of what is set, by the place of its first byte: of the nodes in the buffer some stand before it, some after it, and
+-- its own between them, moved by one distance, each part where the rules put it, in the style current at the item
+pub use Rattle.promises.specs.ItemsOnPage.{ItemSetAt, ItemStands, item-stands}
 -- ---- request 14: nodes as the body of a page
 
 -- what is written reads back to the same bytes, and what reads is what the writer writes

@@ -7,19 +7,24 @@
 --                    puts it (`itemNodes`). The distance is the item's reference point on the page, and its `up` the item's baseline
 --     PartsOnPage    so each of these five is on the page a run of nodes, moved by the sum of two distances
 --     item-on-page, parts-on-page     of every item that is set
+--     StandsAbove    nodes that stand so far above a point of the page. So do those of the field that is shifted up, a superscript or a
+--                    numerator, and of that which is shifted down (`raised-on-page`, `lowered-on-page`)
 -- It is shown as demand 3 is (`FieldInPlace`), by frames: the item in its list, and that list in the whole.
 -- Assumes nothing.
 use mathlib.Core.Path.{_≡_, ap, subst, _∙_}
 use mathlib.Core.List.{List, [], _++_, append-assoc}
 use Prim.Native.Nat.{ℕ, _+_}
+use lib.IntN.{ℤ, _+ℤ_}
 use Rattle.font.specs.Font.{Font}
 use Rattle.formula.specs.declared.Kind.{Kind}
+use Rattle.formula.specs.declared.Kind.the-variants.{Scripted, Fraction}
 use Rattle.formula.specs.Tree.{Items, Item, Field, noad}
 use Rattle.boxes.specs.declared.styles.Style.{Style}
-use Rattle.boxes.specs.Boxes.{Size, Offset}
-use Rattle.nodes.specs.Nodes.{Node}
+use Rattle.boxes.specs.Boxes.{Size, Offset, Arranged}
+use Rattle.nodes.specs.Nodes.{Node, moved}
 use Rattle.nodes.specs.NodeLaws.{moved-append, moved-twice}
-use Rattle.setting.specs.Setting.{Box, noSides, movedBy, ownNodes, itemNodes, itemBox, setList}
+use Rattle.arrange.specs.ReasonsLaws.{raised, lowered}
+use Rattle.setting.specs.Setting.{Box, FieldBox, noSides, movedBy, ownNodes, itemNodes, itemBox, setList}
 use Rattle.setting.specs.Frames.{Frame, framed, nest, further, framed-nest, firstFrame, secondFrame, thirdFrame, first-framed, second-framed, third-framed}
 use Rattle.setting.specs.Paths.{Spot, put, spotStyle, spotPlace, Path, fill, styleAt, sidesAt, placeOf, HasFields}
 use Rattle.setting.specs.FieldInPlace.{itemSet, listFrame, listSize, listAround, list-in-place, frame, boxAround, field-in-place}
@@ -154,3 +159,56 @@ module _ {F : Font} {q : Picked} {page : List Node} (h : ItemOnPage F q page) wh
         second = field-run (secondFrame a x z) (y .nodes) (second-framed a x y z);
         third = field-run (thirdFrame a x y) (z .nodes) (third-framed a x y z);
       }
+
+-- ---- what is shifted up and down
+
+pub record StandsAbove (reference : Offset) (shift : ℤ) (nodes page : List Node) : Type 0 where
+  pub across : ℤ
+  pub run : Run (moved across (shift +ℤ reference .up) nodes) page
+
+abbrev pub raisedOf : {A : Type 0} → Kind → A → A → A → A
+raisedOf (Scripted base) first second third = second
+raisedOf (Fraction bar) first second third = first
+
+abbrev pub loweredOf : {A : Type 0} → Kind → A → A → A → A
+loweredOf (Scripted base) first second third = third
+loweredOf (Fraction bar) first second third = second
+
+abbrev pub raisedField : Font → Picked → FieldBox
+raisedField F q = raisedOf (q .kind) (pickedFirst F q) (pickedSecond F q) (pickedThird F q)
+
+abbrev pub loweredField : Font → Picked → FieldBox
+loweredField F q = loweredOf (q .kind) (pickedFirst F q) (pickedSecond F q) (pickedThird F q)
+
+module _ {F : Font} {q : Picked} {page : List Node} (h : ItemOnPage F q page) where
+  above : (d : Offset) (shift : ℤ) (ns : List Node) → d .up ≡ shift → Run (movedBy (further (h .reference) d) ns) page →
+      StandsAbove (h .reference) shift ns page
+  above d shift ns e run =
+      record {
+        across = d .across +ℤ h .reference .across;
+        run = subst (λ (z : ℤ). Run (moved (d .across +ℤ h .reference .across) (z +ℤ h .reference .up) ns) page) e run;
+      }
+
+  pub raised-on-page : {shift : ℤ} → raised (q .kind) (pickedArranged F q) ≡ shift →
+      StandsAbove (h .reference) shift (raisedField F q .nodes) page
+  raised-on-page {shift} = go (q .kind)
+    where
+      a : Arranged
+      a = pickedArranged F q
+
+      go : (kind : Kind) → raised kind a ≡ shift →
+          StandsAbove (h .reference) shift (raisedOf kind (pickedFirst F q) (pickedSecond F q) (pickedThird F q) .nodes) page
+      go (Scripted base) e = above (a .second) shift (pickedSecond F q .nodes) e (parts-on-page h .second)
+      go (Fraction bar) e = above (a .first) shift (pickedFirst F q .nodes) e (parts-on-page h .first)
+
+  pub lowered-on-page : {shift : ℤ} → lowered (q .kind) (pickedArranged F q) ≡ shift →
+      StandsAbove (h .reference) shift (loweredField F q .nodes) page
+  lowered-on-page {shift} = go (q .kind)
+    where
+      a : Arranged
+      a = pickedArranged F q
+
+      go : (kind : Kind) → lowered kind a ≡ shift →
+          StandsAbove (h .reference) shift (loweredOf kind (pickedFirst F q) (pickedSecond F q) (pickedThird F q) .nodes) page
+      go (Scripted base) e = above (a .third) shift (pickedThird F q .nodes) e (parts-on-page h .third)
+      go (Fraction bar) e = above (a .second) shift (pickedSecond F q .nodes) e (parts-on-page h .second)
