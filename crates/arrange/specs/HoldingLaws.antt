@@ -3,15 +3,12 @@
 --     ArrangedHolds F x y z a   the item a of three shapes does; of a shape that is nothing no claim is made
 --     arranged-holds            every item does, whose fields are upright, as all are that are set
 -- Assumes nothing.
-use mathlib.Core.Path.{_≡_, refl, sym, subst}
+use mathlib.Core.Path.{_≡_, sym, subst}
 use mathlib.Core.Bool.{Bool, true, false}
-use mathlib.Core.List.{List}
 use mathlib.Core.Option.{Option, none, some}
 use native.Mathlib.Omega.{arith}
-use lib.IntN.{ℤ, pos}
-use Rattle.scaled.specs.Length.{maxℤ}
+use lib.IntN.{ℤ}
 use Rattle.font.specs.Font.{Font}
-use Rattle.formula.specs.declared.Bar.{Bar}
 use Rattle.formula.specs.declared.Base.{Base}
 use Rattle.formula.specs.declared.Base.the-variants.{Atom, Over, Under, Root, Fence}
 use Rattle.formula.specs.declared.Kind.{Kind}
@@ -20,21 +17,21 @@ use Rattle.formula.specs.Heads.{isOp}
 use Rattle.boxes.specs.declared.styles.Style.{Style}
 use Rattle.boxes.specs.Styles.{fontSize}
 use Rattle.boxes.specs.Parameters.{Parameters, axisHeight, ruleThickness}
-use Rattle.boxes.specs.Boxes.{Size, Shape, nothing, char, box, blankSize, sizeOf, given, Offset, Rule, Own, noOwn, ruledBehind, Arranged}
+use Rattle.boxes.specs.Boxes.{Size, Shape, nothing, char, box, sizeOf, given, Offset, Rule, noOwn, ruledBehind, Arranged}
 use Rattle.boxes.specs.Holding.{Upright, UprightIf, upright-within, Holds, HoldsIf, holds-within, AllHeld, OwnHeld, none-held, rule-held, own-within, ruleSize}
 use Rattle.delimiters.specs.Delimiters.{Sign, signSize, signNodes, Signs}
-use Rattle.delimiters.specs.FoundSigns.{There, IfThere}
+use Rattle.delimiters.specs.FoundSigns.{IfThere}
 use Rattle.roots.specs.Roots.{Radical, root}
-use Rattle.roots.specs.HoldingLaws.{RadicalHolds, root-holds}
+use Rattle.roots.specs.HoldingLaws.{root-holds}
 use Rattle.fences.specs.Fences.{fenceOf}
-use Rattle.fences.specs.HoldingLaws.{FenceHolds, fence-holds}
+use Rattle.fences.specs.HoldingLaws.{fence-holds}
 use Rattle.nucleus.specs.Nucleus.{Nucleus}
 use Rattle.nucleus.specs.HoldingLaws.{NucleusHolds, ScriptsHeld, atom-holds, overline-holds, underline-holds}
 use Rattle.limits.specs.Limits.{hasLimits}
 use Rattle.limits.specs.HoldingLaws.{limits-hold}
 use Rattle.scripts.specs.ClearanceLaws.{scripts-hold}
 use Rattle.fractions.specs.Fractions.{barThickness, hasBar, fraction}
-use Rattle.fractions.specs.ClearanceLaws.{BarHeld, FractionHolds, fraction-holds}
+use Rattle.fractions.specs.ClearanceLaws.{BarHeld, fraction-holds}
 use Rattle.arrange.specs.Arrange.{isGiven, setsLimits, rootNucleus, fenceNucleus, nucleusOf, setScripts, arrange}
 
 -- a part of a fraction stands where it stands though it is nothing: no claim is made of it

@@ -3,7 +3,7 @@
 --     fence-holds            every fence does
 -- Assumes nothing.
 use native.Mathlib.Omega.{arith}
-use lib.IntN.{ℤ, pos}
+use lib.IntN.{ℤ}
 use Rattle.scaled.specs.Linear.{#, _⊕_, _⊖_, greatest, sound}
 use Rattle.boxes.specs.declared.styles.Style.{Style}
 use Rattle.boxes.specs.Parameters.{Parameters}

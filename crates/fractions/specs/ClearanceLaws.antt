@@ -18,10 +18,10 @@ use Rattle.formula.specs.declared.Bar.{Bar}
 use Rattle.formula.specs.declared.Bar.the-variants.{Default, Without}
 use Rattle.boxes.specs.declared.styles.Style.{Style}
 use Rattle.boxes.specs.Styles.{isDisplay, fontSize}
-use Rattle.boxes.specs.Parameters.{Parameters, num1, num2, num3, denom1, denom2, axisHeight, ruleThickness}
+use Rattle.boxes.specs.Parameters.{Parameters, axisHeight, ruleThickness}
 use Rattle.boxes.specs.Boxes.{Size, Shifts, Rule, Arranged, at, nullDelimiterWidth}
 use Rattle.boxes.specs.Holding.{Upright, Holds, ruleSize}
-use Rattle.fractions.specs.Fractions.{barThickness, hasBar, numeratorUp, denominatorDown, fractionShifts, leastClearance, clearance, parted, shiftsWithoutBar, leastFromBar, cleared, shiftsWithBar, enclosed, finalShifts, fraction}
+use Rattle.fractions.specs.Fractions.{barThickness, hasBar, fractionShifts, leastClearance, clearance, parted, shiftsWithoutBar, leastFromBar, cleared, shiftsWithBar, enclosed, finalShifts, fraction}
 
 -- ---- 15d, on the parts of numbers: the shift grew to r, and with r φ is free
 

@@ -5,11 +5,11 @@ use mathlib.Core.Path.{refl}
 use mathlib.Core.Option.{Option, none, some}
 use Prim.Native.Nat.{ℕ, _+_, _≤_}
 use native.Mathlib.Omega.{arith}
-use lib.IntN.{ℤ, pos, negℤ, _+ℤ_, _-ℤ_}
+use lib.IntN.{ℤ, pos, negℤ}
 use Rattle.scaled.specs.Length.{half}
-use Rattle.scaled.specs.Signed.{above, below, NotNegative}
+use Rattle.scaled.specs.Signed.{above, below}
 use Rattle.scaled.specs.Linear.{#, _⊕_, _⊖_, neg, greatest, sound}
-use Rattle.boxes.specs.Parameters.{Parameters, bigOpSpacing1, bigOpSpacing2, bigOpSpacing3, bigOpSpacing4, bigOpSpacing5}
+use Rattle.boxes.specs.Parameters.{Parameters}
 use Rattle.boxes.specs.Boxes.{Size}
 use Rattle.boxes.specs.Holding.{Upright, UprightIf, Holds, HoldsIf}
 use Rattle.nucleus.specs.Nucleus.{Nucleus}
@@ -18,17 +18,17 @@ use Rattle.limits.specs.Limits.{Side, side, turned, limited}
 use Rattle.limits.specs.Limits as limits
 
 -- a script beyond an edge of the nucleus: its far side is within the reach, and its near side not short of the edge
-record BeyondIf (edge : ℤ) (z : Size) (l : Side) : Type 0 where
+record Beyond (edge : ℤ) (z : Size) (l : Side) : Type 0 where
   far : above (z .height) + above (l .shift) + below (l .reach) ≤ above (l .reach) + below (z .height) + below (l .shift)
   near : above edge + above (z .depth) + below (l .shift) ≤ above (l .shift) + below edge + below (z .depth)
 
-abbrev Beyond : ℤ → Option Size → Side → Type 0
-Beyond edge none l = Unit {0}
-Beyond edge (some z) l = BeyondIf edge z l
+abbrev BeyondIf : ℤ → Option Size → Side → Type 0
+BeyondIf edge none l = Unit {0}
+BeyondIf edge (some z) l = Beyond edge z l
 
 record SideHolds (edge : ℤ) (o : Option Size) (l : Side) : Type 0 where
   edge-in : above edge + below (l .reach) ≤ above (l .reach) + below edge
-  script-in : Beyond edge o l
+  script-in : BeyondIf edge o l
 
 -- no parameter is negative
 side-holds : (leastGap leastDistance blank : ℕ) (edge w right : ℤ) (o : Option Size) → UprightIf o →
@@ -51,11 +51,11 @@ module _ (n : Nucleus) (u : Upright (n .size)) (over under : Side) (w : ℤ) whe
   nucleus-in : {y z : Option Size} → SideHolds (n .size .height) y over → SideHolds (n .size .depth) z under → Holds whole (n .size) (pos 0)
   nucleus-in up down = record { top = omega (arith, up .edge-in); bottom = omega (arith, down .edge-in) }
 
-  superscript-in : (y : Option Size) (down : Holds whole (n .size) (pos 0)) → Beyond (n .size .height) y over → HoldsIf whole y (over .shift)
+  superscript-in : (y : Option Size) (down : Holds whole (n .size) (pos 0)) → BeyondIf (n .size .height) y over → HoldsIf whole y (over .shift)
   superscript-in none down h = tt
   superscript-in (some y) down h = omega arith
 
-  subscript-in : (z : Option Size) (down : Holds whole (n .size) (pos 0)) → Beyond (n .size .depth) (turned z) under → HoldsIf whole z (negℤ (under .shift))
+  subscript-in : (z : Option Size) (down : Holds whole (n .size) (pos 0)) → BeyondIf (n .size .depth) (turned z) under → HoldsIf whole z (negℤ (under .shift))
   subscript-in none down h = tt
   subscript-in (some z) down h = omega (arith, sound (neg (# (under .shift))) tt)
 

@@ -7,13 +7,13 @@ use mathlib.Core.Path.{_≡_}
 use mathlib.Core.Bool.{Bool, true, false, _&&_, not}
 use mathlib.Core.Option.{Option}
 use native.Mathlib.Omega.{arith}
-use lib.IntN.{ℤ, pos, negℤ, _+ℤ_, _-ℤ_, _*ℤ_}
+use lib.IntN.{ℤ, pos}
 use Rattle.scaled.specs.Signed.{NotNegative}
 use Rattle.scaled.specs.Linear.{#, _⊕_, _⊖_, neg, times, greatest, sound}
 use Rattle.font.specs.Font.{Metrics, Font}
 use Rattle.boxes.specs.Boxes.{Size, Shape, nothing, char, box, charSize, zeroSize, sizeOf, Arranged}
 use Rattle.boxes.specs.Holding.{Upright, Holds, HoldsIf, holds-itself, OwnHeld, none-held, rule-held}
-use Rattle.nucleus.specs.Nucleus.{Nucleus, boxNucleus, symbolNucleus, operatorShift, operatorSize, operatorNucleus, atomNucleus, overline, underline}
+use Rattle.nucleus.specs.Nucleus.{Nucleus, boxNucleus, symbolNucleus, operatorShift, operatorNucleus, atomNucleus, overline, underline}
 
 pub record ScriptsHeld (n : Nucleus) (y z : Option Size) (a : Arranged) : Type 0 where
   pub nucleus : Holds (a .size) (n .size) (pos 0)

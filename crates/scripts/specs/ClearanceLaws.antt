@@ -10,7 +10,6 @@ use Prim.Native.Nat.{ℕ}
 use native.Mathlib.Omega.{arith}
 use lib.IntN.{ℤ, pos, negℤ, _+ℤ_, _-ℤ_}
 use lib.Signed.{ltZ, _≤ℤ_}
-use Rattle.scaled.specs.Length.{maxℤ}
 use Rattle.scaled.specs.Linear.{Exp, #, _⊕_, _⊖_, neg, greatest, sound, le-by}
 use Rattle.scaled.specs.Made.{Less, less}
 use Rattle.boxes.specs.declared.styles.Style.{Style}

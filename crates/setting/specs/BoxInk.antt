@@ -4,13 +4,12 @@
 --     item-ink             the box of an item whose fields do
 --     list-ink, field-ink  every list that is set, between any sides and in any style, and every field
 -- Assumes nothing.
-use mathlib.Core.Path.{_≡_, refl, sym, subst}
+use mathlib.Core.Path.{_≡_, refl}
 use mathlib.Core.List.{List, [], _∷_, _++_}
 use mathlib.Core.Option.{Option, none, some}
 use Prim.Native.Nat.{ℕ}
 use native.Mathlib.Omega.{arith}
 use lib.IntN.{ℤ, pos, negℤ, _+ℤ_, _-ℤ_}
-use Rattle.scaled.specs.Length.{maxℤ}
 use Rattle.scaled.specs.Linear.{#, _⊕_, _⊖_, neg, greatest, sound, le-by}
 use Rattle.font.specs.Font.{Font, Metrics}
 use Rattle.formula.specs.declared.Class.{Class}
@@ -21,10 +20,9 @@ use Rattle.boxes.specs.declared.styles.Level.{Level}
 use Rattle.boxes.specs.declared.styles.Level.the-variants.{Display, Text, Script, Scriptscript}
 use Rattle.boxes.specs.declared.styles.Style.{Style}
 use Rattle.boxes.specs.Styles.{fontSize}
-use Rattle.boxes.specs.Boxes.{Size, Shape, nothing, char, box, charSize, sizeOf, OwnNode, ruled, signed, Rule, Glyph}
-use Rattle.boxes.specs.Holding.{Upright, upright-within, Holds, ruleSize, SignHeld, AllHeld}
-use Rattle.spacing.specs.Classes.{Neighbour, classOf, changedClass}
-use Rattle.spacing.specs.Spacing.{spaceBefore}
+use Rattle.boxes.specs.Boxes.{Size, Shape, nothing, char, box, charSize, sizeOf, OwnNode, ruled, signed, Rule}
+use Rattle.boxes.specs.Holding.{Upright, upright-within, Holds, ruleSize, AllHeld}
+use Rattle.spacing.specs.Classes.{Neighbour, classOf}
 use Rattle.arrange.specs.declared.Manner.{Manner}
 use Rattle.arrange.specs.declared.Manner.the-variants.{Plain}
 use Rattle.arrange.specs.Arrange.{firstStyle, secondStyle, thirdStyle, firstManner}

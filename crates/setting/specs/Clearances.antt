@@ -5,10 +5,9 @@
 --     item-clear       every item of a formed formula does, wherever it stands
 -- The parameters are those of the item's size, and the claims are of nodes: a part without any is claimed nothing of.
 -- Assumes nothing.
-use mathlib.Core.Path.{_≡_, refl, sym, subst}
 use mathlib.Core.Bool.{Bool, true, false}
-use mathlib.Core.List.{List, [], _∷_}
-use mathlib.Core.Option.{Option, none, some}
+use mathlib.Core.List.{List}
+use mathlib.Core.Option.{none, some}
 use native.Mathlib.Omega.{arith}
 use lib.IntN.{ℤ, pos, negℤ, _+ℤ_, _-ℤ_}
 use lib.Signed.{_≤ℤ_, ≤ℤ-refl}
@@ -16,29 +15,27 @@ use Rattle.scaled.specs.Length.{maxℤ}
 use Rattle.scaled.specs.Signed.{le-parts}
 use Rattle.scaled.specs.Linear.{#, _⊕_, _⊖_, neg, sound, le-by}
 use Rattle.font.specs.Font.{Font}
-use Rattle.formula.specs.declared.Bar.{Bar}
-use Rattle.formula.specs.declared.Base.{Base}
 use Rattle.formula.specs.declared.Kind.{Kind}
 use Rattle.formula.specs.declared.Kind.the-variants.{Scripted, Fraction}
 use Rattle.boxes.specs.declared.styles.Style.{Style}
 use Rattle.boxes.specs.Styles.{fontSize}
 use Rattle.boxes.specs.Parameters.{Parameters, axisHeight}
-use Rattle.boxes.specs.Boxes.{Size, Shape, nothing, char, box, charSize, sizeOf, given, Offset, Shifts, Own, noOwn, ruledBehind, Arranged}
+use Rattle.boxes.specs.Boxes.{Size, Shape, nothing, char, box, charSize, sizeOf, given, Offset, Shifts, noOwn, ruledBehind, Arranged}
 use Rattle.delimiters.specs.Delimiters.{Signs}
 use Rattle.nucleus.specs.Nucleus.{Nucleus}
 use Rattle.scripts.specs.Scripts.{gap, fourRules, pairShifts, scripted}
 use Rattle.scripts.specs.ClearanceLaws.{pair-gap}
-use Rattle.fractions.specs.Fractions.{barThickness, hasBar, leastClearance, clearance, leastFromBar, stacked, finalShifts, fraction}
-use Rattle.fractions.specs.ClearanceLaws.{Centred, bar-centred, barLow, barRule, BarClear, PartsClear, parts-clear}
+use Rattle.fractions.specs.Fractions.{barThickness, hasBar, leastClearance, leastFromBar, stacked, finalShifts, fraction}
+use Rattle.fractions.specs.ClearanceLaws.{Centred, bar-centred, barLow, barRule, PartsClear, parts-clear}
 use Rattle.arrange.specs.declared.Manner.the-variants.{Plain}
 use Rattle.arrange.specs.Arrange.{firstStyle, secondStyle, thirdStyle, firstManner, isGiven, setsLimits, nucleusOf, setScripts, arrange}
 use Rattle.nodes.specs.Nodes.{Node, moved}
-use Rattle.setting.specs.Setting.{FieldBox, movedBy, ownNodes, setField}
+use Rattle.setting.specs.Setting.{FieldBox, movedBy, ownNodes}
 use Rattle.setting.specs.Frames.{further}
 use Rattle.setting.specs.Picked.{Picked, pickedItem, pickedFirst, pickedSecond, pickedThird, pickedSigns, pickedArranged}
-use Rattle.setting.specs.Formed.{FormedItem, FormedField}
-use Rattle.setting.specs.Ink.{Ink, inkOf, Inked, Every, Between, InkBetween, InkIn, Clear}
-use Rattle.setting.specs.InkLaws.{span-moved, clear-by, clear-none}
+use Rattle.setting.specs.Formed.{FormedItem}
+use Rattle.setting.specs.Ink.{Ink, inkOf, Inked, Every, InkBetween, Clear}
+use Rattle.setting.specs.InkLaws.{clear-by, clear-none}
 use Rattle.setting.specs.BoxInk.{ShapeInk, FieldInk, shape-span, field-ink}
 
 -- ---- what is claimed of an item that is arranged so

@@ -20,7 +20,7 @@ use Rattle.boxes.specs.declared.styles.Level.{Level}
 use Rattle.boxes.specs.declared.styles.Level.the-variants.{Display, Text, Script, Scriptscript}
 use Rattle.boxes.specs.declared.styles.Style.{Style}
 use Rattle.setting.specs.Setting.{styleAfter}
-use Rattle.setting.specs.Paths.{Arm, inFirst, inSecond, inThird, holding, join, choiceWith, Spot, among, within, put, Step, holder, listWith, Path, whole, into, styleAt, fill}
+use Rattle.setting.specs.Paths.{Arm, inFirst, inSecond, inThird, holding, join, choiceWith, Spot, among, within, put, holder, listWith, Path, whole, into, styleAt, fill}
 use Rattle.setting.specs.ItemOnPage.{Site, withItem}
 
 abbrev pub ThirdFormed : Kind → Field → Type 0

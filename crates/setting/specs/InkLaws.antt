@@ -26,12 +26,6 @@ module _ (P : Node → Type 0) where
   every-append [] ns h k = k
   every-append (m ∷ ms) ns h k = (h .0, every-append ms ns (h .1) k)
 
-  -- of a run in the middle
-  pub every-run : (before ns after : List Node) → Every P (before ++ (ns ++ after)) → Every P ns
-  every-run [] [] after h = tt
-  every-run [] (n ∷ ns) after h = (h .0, every-run [] ns after (h .1))
-  every-run (m ∷ before) ns after h = every-run before ns after (h .1)
-
 module _ (P Q : Node → Type 0) where
   pub every-so : (ns : List Node) → ((n : Node) → P n → Q n) → Every P ns → Every Q ns
   every-so [] f h = tt
