@@ -30,7 +30,7 @@ use Rattle.nucleus.specs.HoldingLaws.{NucleusHolds, ScriptsHeld, atom-holds, ov
 use Rattle.limits.specs.Limits.{hasLimits}
 use Rattle.limits.specs.HoldingLaws.{limits-hold}
 use Rattle.scripts.specs.ClearanceLaws.{scripts-hold}
-use Rattle.fractions.specs.Fractions.{barThickness, hasBar, fraction}
+use Rattle.fractions.specs.Fractions.{barThickness, hasBar}
 use Rattle.fractions.specs.ClearanceLaws.{BarHeld, fraction-holds}
 use Rattle.arrange.specs.Arrange.{isGiven, setsLimits, rootNucleus, fenceNucleus, nucleusOf, setScripts, arrange}
 
@@ -154,7 +154,7 @@ module _ (F : Font) where
 
     pub arranged-holds : (kind : Kind) (signs : Signs) (x y z : Shape) → NoThird kind z → SignsThere signs →
         Upright (sizeOf x) → Upright (sizeOf y) → Upright (sizeOf z) → ArrangedHolds x y z (arrange p s kind signs x y z)
-    unfolding arrange fraction
+    unfolding arrange
     arranged-holds (Scripted base) signs x y z only there ux uy uz =
         let n = nucleusOf p s base signs (isGiven (given z)) x in
         let h = nucleus-holds base signs (isGiven (given z)) x there ux in
@@ -166,5 +166,5 @@ module _ (F : Font) where
           first = shape-held x (h .numerator);
           second = shape-held y (h .denominator);
           third = rw only tt;
-          own = bar-own (hasBar (barThickness p (fontSize s) bar)) _ _ (h .held);
+          own = subst (OwnHeld F _) (sym (h .own-is)) (bar-own (hasBar (barThickness p (fontSize s) bar)) _ _ (h .held));
         }

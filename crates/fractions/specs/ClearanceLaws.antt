@@ -19,7 +19,7 @@ use Rattle.formula.specs.declared.Bar.the-variants.{Default, Without}
 use Rattle.boxes.specs.declared.styles.Style.{Style}
 use Rattle.boxes.specs.Styles.{isDisplay, fontSize}
 use Rattle.boxes.specs.Parameters.{Parameters, axisHeight, ruleThickness}
-use Rattle.boxes.specs.Boxes.{Size, Shifts, Rule, Arranged, at, nullDelimiterWidth}
+use Rattle.boxes.specs.Boxes.{Size, Shifts, Rule, noOwn, ruledBehind, Arranged, at, nullDelimiterWidth}
 use Rattle.boxes.specs.Holding.{Upright, Holds, ruleSize}
 use Rattle.fractions.specs.Fractions.{barThickness, hasBar, fractionShifts, leastClearance, clearance, parted, shiftsWithoutBar, leastFromBar, cleared, shiftsWithBar, enclosed, finalShifts, fraction}
 
@@ -134,17 +134,25 @@ bar-centred axis θ =
 
 -- ---- what is free between the parts, by whether there is a bar
 
+-- φ of 15d: three times the bar's thickness in display styles, else the thickness
+abbrev pub fromBar : Style → ℤ → ℤ
+fromBar s θ = θ *ℤ pick (isDisplay (s .level)) (pos 3) (pos 1)
+
+-- φ of 15c: seven rules in display styles, else three
+abbrev pub betweenParts : Parameters → Style → ℤ
+betweenParts p s = ruleThickness p (fontSize s) *ℤ pick (isDisplay (s .level)) (pos 7) (pos 3)
+
 module _ (p : Parameters) (s : Style) (θ : ℤ) (x z : Size) where
   abbrev axis : ℤ
   axis = axisHeight p (fontSize s)
 
   pub record BarClear (t : Shifts) : Type 0 where
-    pub over : leastFromBar s θ ≤ℤ ((t .up -ℤ x .depth) -ℤ (barLow axis θ +ℤ θ))
-    pub under : leastFromBar s θ ≤ℤ (barLow axis θ -ℤ (z .height -ℤ t .down))
+    pub over : fromBar s θ ≤ℤ ((t .up -ℤ x .depth) -ℤ (barLow axis θ +ℤ θ))
+    pub under : fromBar s θ ≤ℤ (barLow axis θ -ℤ (z .height -ℤ t .down))
 
   abbrev pub PartsClear : Bool → Shifts → Type 0
   PartsClear true t = BarClear t
-  PartsClear false t = leastClearance p s ≤ℤ clearance x z t
+  PartsClear false t = betweenParts p s ≤ℤ clearance x z t
 
   abbrev first : Shifts
   first = fractionShifts p s θ
@@ -243,6 +251,7 @@ pub record FractionHolds (bar : Bool) (r : Rule) (x z : Size) (a : Arranged) : T
   pub upright : Upright (a .size)
   pub numerator : Holds (a .size) x (a .first .up)
   pub denominator : Holds (a .size) z (a .second .up)
+  pub own-is : a .own ≡ elim bar [ true ↦ ruledBehind r | false ↦ noOwn ]
   pub held : BarHeld (a .size) r bar
 
 thickness-up : (p : Parameters) (size : ℕ) (bar : Bar) → NotNegative (barThickness p size bar)
@@ -259,4 +268,4 @@ fraction-holds p s bar x z ux uz =
     let t = finalShifts p s θ x z in
     let stands : Stands p s θ x z t = stands-by p s θ x z (hasBar θ) in
     let h = held-by p s θ x z (enclosed w) w (thickness-up p (fontSize s) bar) ux uz t stands (hasBar θ) (parts-clear p s θ x z) in
-    record { upright = h .upright; numerator = h .numerator; denominator = h .denominator; held = h .held }
+    record { upright = h .upright; numerator = h .numerator; denominator = h .denominator; own-is = refl; held = h .held }

@@ -10,6 +10,7 @@ pub mod FieldBytes
 pub mod ListFields
 pub mod Demand3
 pub mod ItemsOnPage
+pub mod Clearances
 pub mod AsBefore
 pub mod OursAlone
 pub mod Formats

@@ -8,13 +8,13 @@ use mathlib.Core.List.{[], _∷_}
 use mathlib.Core.Option.{Option, none, some}
 use Prim.Native.Nat.{ℕ}
 use native.Mathlib.Omega.{arith}
-use lib.IntN.{ℤ, pos, negℤ, _+ℤ_, _-ℤ_}
+use lib.IntN.{ℤ, pos, negℤ, _+ℤ_, _-ℤ_, _*ℤ_}
 use lib.Signed.{ltZ, _≤ℤ_}
 use Rattle.scaled.specs.Linear.{Exp, #, _⊕_, _⊖_, neg, greatest, sound, le-by}
 use Rattle.scaled.specs.Made.{Less, less}
 use Rattle.boxes.specs.declared.styles.Style.{Style}
 use Rattle.boxes.specs.Styles.{fontSize}
-use Rattle.boxes.specs.Parameters.{Parameters}
+use Rattle.boxes.specs.Parameters.{Parameters, ruleThickness}
 use Rattle.boxes.specs.Boxes.{Size, Offset, Shifts}
 use Rattle.boxes.specs.Holding.{Holds, HoldsIf, holds-if-within}
 use Rattle.nucleus.specs.Nucleus.{Nucleus}
@@ -61,7 +61,7 @@ module _ (p : Parameters) (size : ℕ) (x y : Size) where
 
 pub pair-gap : (p : Parameters) (s : Style) (n : Nucleus) (x y : Size) →
     let t = pairShifts p s n x y in
-    fourRules p (fontSize s) ≤ℤ gap x y (t .up) (t .down)
+    (ruleThickness p (fontSize s) *ℤ pos 4) ≤ℤ gap x y (t .up) (t .down)
 unfolding pairShifts
 pair-gap p s n x y = spread-clear p (fontSize s) x y _
 

@@ -9,7 +9,7 @@ use mathlib.Core.Bool.{Bool, true, false}
 use mathlib.Core.List.{List}
 use mathlib.Core.Option.{none, some}
 use native.Mathlib.Omega.{arith}
-use lib.IntN.{ℤ, pos, negℤ, _+ℤ_, _-ℤ_}
+use lib.IntN.{ℤ, pos, negℤ, _+ℤ_, _-ℤ_, _*ℤ_}
 use lib.Signed.{_≤ℤ_, ≤ℤ-refl}
 use Rattle.scaled.specs.Length.{maxℤ}
 use Rattle.scaled.specs.Signed.{le-parts}
@@ -19,14 +19,14 @@ use Rattle.formula.specs.declared.Kind.{Kind}
 use Rattle.formula.specs.declared.Kind.the-variants.{Scripted, Fraction}
 use Rattle.boxes.specs.declared.styles.Style.{Style}
 use Rattle.boxes.specs.Styles.{fontSize}
-use Rattle.boxes.specs.Parameters.{Parameters, axisHeight}
+use Rattle.boxes.specs.Parameters.{Parameters, axisHeight, ruleThickness}
 use Rattle.boxes.specs.Boxes.{Size, Shape, nothing, char, box, charSize, sizeOf, given, Offset, Shifts, noOwn, ruledBehind, Arranged}
 use Rattle.delimiters.specs.Delimiters.{Signs}
 use Rattle.nucleus.specs.Nucleus.{Nucleus}
-use Rattle.scripts.specs.Scripts.{gap, fourRules, pairShifts, scripted}
+use Rattle.scripts.specs.Scripts.{pairShifts, scripted}
 use Rattle.scripts.specs.ClearanceLaws.{pair-gap}
-use Rattle.fractions.specs.Fractions.{barThickness, hasBar, leastClearance, leastFromBar, stacked, finalShifts, fraction}
-use Rattle.fractions.specs.ClearanceLaws.{Centred, bar-centred, barLow, barRule, PartsClear, parts-clear}
+use Rattle.fractions.specs.Fractions.{barThickness, hasBar, stacked, finalShifts, fraction}
+use Rattle.fractions.specs.ClearanceLaws.{Centred, bar-centred, barLow, barRule, fromBar, betweenParts, PartsClear, parts-clear}
 use Rattle.arrange.specs.declared.Manner.the-variants.{Plain}
 use Rattle.arrange.specs.Arrange.{firstStyle, secondStyle, thirdStyle, firstManner, isGiven, setsLimits, nucleusOf, setScripts, arrange}
 use Rattle.nodes.specs.Nodes.{Node, moved}
@@ -62,7 +62,7 @@ module _ (F : Font) (s : Style) (reference : Offset) (a : Arranged) where
   -- of limits nothing is claimed
   abbrev pub ScriptsClear : Bool → List Node → List Node → Type 0
   ScriptsClear true ys zs = Unit {0}
-  ScriptsClear false ys zs = Clear F (fourRules (F .parameter) (fontSize s)) (secondThere ys) (thirdThere zs)
+  ScriptsClear false ys zs = Clear F (ruleThickness (F .parameter) (fontSize s) *ℤ pos 4) (secondThere ys) (thirdThere zs)
 
   pub record BarClearThere (φ : ℤ) (xs ys : List Node) : Type 0 where
     pub over : Clear F φ (firstThere xs) barThere
@@ -70,8 +70,8 @@ module _ (F : Font) (s : Style) (reference : Offset) (a : Arranged) where
     pub middle : Every (λ (n : Node). Inked (λ (i : Ink). Centred axisThere (i .bottom) (i .top)) (inkOf F n)) barThere
 
   abbrev pub FractionClear : ℤ → Bool → List Node → List Node → Type 0
-  FractionClear θ true xs ys = BarClearThere (leastFromBar s θ) xs ys
-  FractionClear θ false xs ys = Clear F (leastClearance (F .parameter) s) (firstThere xs) (secondThere ys)
+  FractionClear θ true xs ys = BarClearThere (fromBar s θ) xs ys
+  FractionClear θ false xs ys = Clear F (betweenParts (F .parameter) s) (firstThere xs) (secondThere ys)
 
   -- by whether its scripts are limits, and whether it has a bar
   abbrev pub KindClear : Kind → List Node → List Node → List Node → Type 0
@@ -105,7 +105,7 @@ module _ (F : Font) (s : Style) (reference : Offset) where
   r = reference .up
 
   abbrev four : ℤ
-  four = fourRules p (fontSize s)
+  four = ruleThickness p (fontSize s) *ℤ pos 4
 
   scripts-apart : (a : Arranged) (y z : Shape) (ys zs : List Node) →
       ((sizeOf z .height +ℤ (a .third .up +ℤ r)) +ℤ four) ≤ℤ ((a .second .up +ℤ r) -ℤ sizeOf y .depth) → ShapeInk F y ys → ShapeInk F z zs →
@@ -186,7 +186,7 @@ module _ (F : Font) (s : Style) (reference : Offset) (θ : ℤ) (x y : FieldBox)
       FractionClear F s reference (arrangedBy bar t) θ bar (x .nodes) (y .nodes)
   fraction-by true t clear =
       let a = arrangedBy true t in
-      let φ = leastFromBar s θ in
+      let φ = fromBar s θ in
       let low = barLow axis θ in
       let u = t .up +ℤ up in
       let d = negℤ (t .down) +ℤ up in
@@ -211,7 +211,7 @@ module _ (F : Font) (s : Style) (reference : Offset) (θ : ℤ) (x y : FieldBox)
       }
   fraction-by false t clear =
       let a = arrangedBy false t in
-      let φ = leastClearance (F .parameter) s in
+      let φ = betweenParts (F .parameter) s in
       let free = le-parts clear in
       let between = sound ((# (t .up) ⊖ # (X .depth)) ⊖ (# (Y .height) ⊖ # (t .down))) ((tt, tt), (tt, tt)) in
       let apart : ((Y .height +ℤ (negℤ (t .down) +ℤ up)) +ℤ φ) ≤ℤ ((t .up +ℤ up) -ℤ X .depth) =
