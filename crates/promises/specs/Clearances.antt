@@ -2,14 +2,15 @@
 --     ItemKeeps      an item stands on the page (`ItemOnPage`, `PartsOnPage` of crate setting), and keeps clear what it has to (`ItemClear`): four
 --                    rules between scripts that are no limits, φ between a bar and the parts of its fraction, or between the parts, and the bar's middle
 --                    is within half a scaled point of the axis
---     Clearances     all ink of the nodes that setting leaves in the buffer lies between the depth and the height that are answered, so that each
---                    glyph's symbol is in the font; and every item with fields that is set, at any depth, keeps clear what it has to
+--     Clearances     all ink of the nodes that setting leaves in the buffer lies between the depth and the height that are answered; each
+--                    glyph's symbol is in the font; every item with fields that is set, at any depth, keeps clear what it has to
 --     clearances     of every acceptance
 -- Assumes nothing.
 use mathlib.Core.Path.{_≡_, subst}
 use mathlib.Core.List.{List}
 use mathlib.Core.Option.{some}
 use Prim.Native.Nat.{ℕ}
+use lib.IntN.{negℤ}
 use Rattle.font.specs.Font.{Font, fontWith}
 use Rattle.formula.specs.declared.Kind.{Kind}
 use Rattle.formula.specs.declared.Opening.the-variants.{Fields}
@@ -26,7 +27,8 @@ use Rattle.setting.specs.Setting.{noSides, setList}
 use Rattle.setting.specs.Picked.{Picked, pickedItem}
 use Rattle.setting.specs.ItemOnPage.{SetAt, ItemOnPage, item-on-page, PartsOnPage, parts-on-page}
 use Rattle.setting.specs.Formed.{Formed, read-formed, formed-at}
-use Rattle.setting.specs.Ink.{InkIn}
+use Rattle.setting.specs.Ink.{HasSymbol, Every, InkBetween, InkIn}
+use Rattle.setting.specs.InkLaws.{every-so, inked-symbol}
 use Rattle.setting.specs.BoxInk.{list-ink}
 use Rattle.setting.specs.Clearances.{ItemClear, item-clear}
 use Rattle.answers.specs.Lent.{Lent}
@@ -44,6 +46,7 @@ pub record Clearances (style : ℕ) (table client : List ℕ) (lent : Lent) (for
   pub nodes : List Node
   pub page : Page style table client lent formula size nodes
   pub inside : InkIn (fontWith table client) size nodes
+  pub symbols : Every (HasSymbol (fontWith table client)) nodes
   pub items : (place : ℕ) (v : Style) (item : List ℕ) → ItemSetAt s formula place v item → (kind : Kind) → openingOf item ≡ Fields kind →
       ItemKeeps (fontWith table client) (itemRead v item kind) nodes
 
@@ -69,11 +72,15 @@ clearances style table client lent formula room e s is =
     let read = reads-so longFormat formula tree (a .2 .reads) .1 in
     let formed = read-formed formula tree (a .2 .reads) in
     let b = setList F noSides s tree in
+    let inside = list-ink F noSides s tree formed .ink in
     record {
       size = b .size;
       nodes = b .nodes;
       page = page-of reads;
-      inside = list-ink F noSides s tree formed .ink;
+      inside = inside;
+      symbols =
+          every-so (InkBetween F (negℤ (b .size .depth)) (b .size .height)) (HasSymbol F) (b .nodes)
+          (inked-symbol F (negℤ (b .size .depth)) (b .size .height)) inside;
       items = λ place v item h kind opens.
           item-keeps F formed (rw (tree-is formula _ tree read) at (set-in-tree s formula (readable-of formula _ tree read) h kind opens));
     }

@@ -1,11 +1,13 @@
 -- The ink of nodes on a page (request 12), upward as a node's y.
 --     inkOf F n      of a glyph, from its y less the depth of its symbol up to its y and the height, by the font at the glyph's own size, family and
 --                    code; of a rule, from its y up by its thickness. A glyph whose symbol the font lacks has none
---     Inked C        a claim of a node's ink. It holds of a node with ink only, so that it says that a glyph's symbol is in the font
+--     HasSymbol      the font has a glyph's symbol
+--     Inked C        a claim of a node's ink. It holds of a node with ink only, so that it says that a glyph has a symbol (`inked-symbol`)
 --     Every P ns     a claim of every node; where there is none it claims nothing
 --     InkBetween     a node's ink lies between two heights
 --     Clear          all ink of some nodes starts so far above where any ink of others ends
 -- Assumes nothing.
+use mathlib.Core.Path.{_≡_}
 use mathlib.Core.List.{List, [], _∷_}
 use mathlib.Core.Option.{Option, none, some}
 use lib.IntN.{ℤ, pos, negℤ, _+ℤ_, _-ℤ_}
@@ -25,6 +27,10 @@ glyphInk y (some m) = some record { bottom = y -ℤ pos (m .depth); top = y +ℤ
 unfoldable pub inkOf : Font → Node → Option Ink
 inkOf F (glyph x y size family code) = glyphInk y (F .symbol size family code)
 inkOf F (rule x y width thickness) = some record { bottom = y; top = y +ℤ thickness }
+
+abbrev pub HasSymbol : Font → Node → Type 0
+HasSymbol F (glyph x y size family code) = (m : Metrics) × (F .symbol size family code ≡ some m)
+HasSymbol F (rule x y width thickness) = Unit {0}
 
 abbrev pub Inked : (Ink → Type 0) → Option Ink → Type 0
 Inked C none = ⊥

@@ -1,5 +1,6 @@
 -- Laws of the ink of nodes: what the rules do with nodes is to put them together and to move them.
 --     every-append, every-moved        what holds of every node of two runs, and of a run that is moved
+--     inked-symbol                     a glyph with ink has a symbol
 --     ink-raised                       the ink of a node that is moved is moved with it
 --     held-ink                         what a box holds, it holds the ink of (`Holds` of the rules)
 --     span-moved                       the ink of a box that is raised
@@ -17,7 +18,7 @@ use Rattle.font.specs.Font.{Font, Metrics}
 use Rattle.boxes.specs.Boxes.{Size}
 use Rattle.boxes.specs.Holding.{Holds}
 use Rattle.nodes.specs.Nodes.{Node, glyph, rule, movedNode, moved}
-use Rattle.setting.specs.Ink.{Ink, glyphInk, inkOf, Inked, Every, Between, InkBetween, InkIn, Over, InkOver, Clear}
+use Rattle.setting.specs.Ink.{Ink, glyphInk, inkOf, HasSymbol, Inked, Every, Between, InkBetween, InkIn, Over, InkOver, Clear}
 
 -- ---- every node
 
@@ -68,6 +69,18 @@ inked-raised C D dy (some i) f h = f i h
 inked-so : (C D : Ink → Type 0) (o : Option Ink) → ((i : Ink) → C i → D i) → Inked C o → Inked D o
 inked-so C D none f h = h
 inked-so C D (some i) f h = f i h
+
+-- ---- a node with ink
+
+pub inked-symbol : (F : Font) (bottom top : ℤ) (n : Node) → InkBetween F bottom top n → HasSymbol F n
+unfolding inkOf
+inked-symbol F bottom top (glyph x y size family code) h = go (F .symbol size family code) refl h
+  where
+    go : (o : Option Metrics) → F .symbol size family code ≡ o → Inked (Between bottom top) (glyphInk y o) →
+        (m : Metrics) × (F .symbol size family code ≡ some m)
+    go none e h = absurd h
+    go (some m) e h = (m, e)
+inked-symbol F bottom top (rule x y width thickness) h = tt
 
 module _ (F : Font) where
   -- a claim of a node that is moved
