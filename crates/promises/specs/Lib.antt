@@ -11,6 +11,7 @@ pub mod ListFields
 pub mod Demand3
 pub mod ItemsOnPage
 pub mod FoundItems
+pub mod Clearances
 pub mod AsBefore
 pub mod OursAlone
 pub mod Formats

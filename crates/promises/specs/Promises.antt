@@ -73,6 +73,10 @@ pub use Rattle.promises.specs.Examples.{words-refused, client-index}
 -- every item with fields of what is set, by the place of its first byte: of the nodes in the buffer some stand before it, some after it, and
 -- its own between them, moved by one distance, each part where the rules put it, in the style current at the item
 pub use Rattle.promises.specs.ItemsOnPage.{ItemSetAt, ItemStands, item-stands}
+-- all ink is between the depth and the height that are answered; scripts keep four rules apart, a fraction's bar and its parts keep φ apart, and
+-- the bar's middle is within half a scaled point of the axis
+pub use Rattle.promises.specs.Clearances.{ItemKeeps, Clearances, clearances}
+pub use Rattle.promises.specs.Examples.{inks-hold}
 -- ---- request 14: nodes as the body of a page
 
 -- what is written reads back to the same bytes, and what reads is what the writer writes

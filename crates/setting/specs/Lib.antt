@@ -15,3 +15,9 @@ pub mod Picked
 pub mod PickedLaws
 pub mod ItemOnPage
 pub mod PickedSet
+pub mod FoundSymbols
+pub mod Formed
+pub mod Ink
+pub mod InkLaws
+pub mod BoxInk
+pub mod Clearances
