@@ -21,4 +21,5 @@ pub mod BenchTable
 pub mod Definitions
 pub mod Examples
 pub mod FieldExample
+pub mod ItemExample
 pub mod Promises
