@@ -5,8 +5,9 @@
 --     item-clear       every item of a formed formula does, wherever it stands
 -- The parameters are those of the item's size, and the claims are of nodes: a part without any is claimed nothing of.
 -- Assumes nothing.
+use mathlib.Core.Path.{_≡_, refl}
 use mathlib.Core.Bool.{Bool, true, false}
-use mathlib.Core.List.{List}
+use mathlib.Core.List.{List, [], _∷_}
 use mathlib.Core.Option.{none, some}
 use native.Mathlib.Omega.{arith}
 use lib.IntN.{ℤ, pos, negℤ, _+ℤ_, _-ℤ_, _*ℤ_}
@@ -20,7 +21,7 @@ use Rattle.formula.specs.declared.Kind.the-variants.{Scripted, Fraction}
 use Rattle.boxes.specs.declared.styles.Style.{Style}
 use Rattle.boxes.specs.Styles.{fontSize}
 use Rattle.boxes.specs.Parameters.{Parameters, axisHeight, ruleThickness}
-use Rattle.boxes.specs.Boxes.{Size, Shape, nothing, char, box, charSize, sizeOf, given, Offset, Shifts, noOwn, ruledBehind, Arranged}
+use Rattle.boxes.specs.Boxes.{Size, Shape, nothing, char, box, charSize, sizeOf, given, Offset, nullDelimiterWidth, Shifts, noOwn, ruledBehind, Arranged}
 use Rattle.delimiters.specs.Delimiters.{Signs}
 use Rattle.nucleus.specs.Nucleus.{Nucleus}
 use Rattle.scripts.specs.Scripts.{pairShifts, scripted}
@@ -29,12 +30,12 @@ use Rattle.fractions.specs.Fractions.{barThickness, hasBar, stacked, finalShift
 use Rattle.fractions.specs.ClearanceLaws.{Centred, bar-centred, barLow, barRule, fromBar, betweenParts, PartsClear, parts-clear}
 use Rattle.arrange.specs.declared.Manner.the-variants.{Plain}
 use Rattle.arrange.specs.Arrange.{firstStyle, secondStyle, thirdStyle, firstManner, isGiven, setsLimits, nucleusOf, setScripts, arrange}
-use Rattle.nodes.specs.Nodes.{Node, moved}
+use Rattle.nodes.specs.Nodes.{Node, rule, moved}
 use Rattle.setting.specs.Setting.{FieldBox, movedBy, ownNodes}
 use Rattle.setting.specs.Frames.{further}
 use Rattle.setting.specs.Picked.{Picked, pickedItem, pickedFirst, pickedSecond, pickedThird, pickedSigns, pickedArranged}
 use Rattle.setting.specs.Formed.{FormedItem}
-use Rattle.setting.specs.Ink.{Ink, inkOf, Inked, Every, InkBetween, Clear}
+use Rattle.setting.specs.Ink.{inkOf, Every, InkBetween, Clear}
 use Rattle.setting.specs.InkLaws.{clear-by, clear-none}
 use Rattle.setting.specs.BoxInk.{ShapeInk, FieldInk, shape-span, field-ink}
 
@@ -64,13 +65,18 @@ module _ (F : Font) (s : Style) (reference : Offset) (a : Arranged) where
   ScriptsClear true ys zs = Unit {0}
   ScriptsClear false ys zs = Clear F (ruleThickness (F .parameter) (fontSize s) *ℤ pos 4) (secondThere ys) (thirdThere zs)
 
-  pub record BarClearThere (φ : ℤ) (xs ys : List Node) : Type 0 where
-    pub over : Clear F φ (firstThere xs) barThere
-    pub under : Clear F φ barThere (secondThere ys)
-    pub middle : Every (λ (n : Node). Inked (λ (i : Ink). Centred axisThere (i .bottom) (i .top)) (inkOf F n)) barThere
+  -- the bar is one rule, of the thickness θ
+  pub record BarClear (θ : ℤ) (xs ys : List Node) : Type 0 where
+    pub left : ℤ
+    pub low : ℤ
+    pub width : ℤ
+    pub bar-is : barThere ≡ rule left low width θ ∷ []
+    pub over : Clear F (fromBar s θ) (firstThere xs) barThere
+    pub under : Clear F (fromBar s θ) barThere (secondThere ys)
+    pub middle : Centred axisThere low (low +ℤ θ)
 
   abbrev pub FractionClear : ℤ → Bool → List Node → List Node → Type 0
-  FractionClear θ true xs ys = BarClearThere (fromBar s θ) xs ys
+  FractionClear θ true xs ys = BarClear θ xs ys
   FractionClear θ false xs ys = Clear F (betweenParts (F .parameter) s) (firstThere xs) (secondThere ys)
 
   -- by whether its scripts are limits, and whether it has a bar
@@ -163,14 +169,18 @@ module _ (F : Font) (s : Style) (reference : Offset) (θ : ℤ) (x y : FieldBox)
   abbrev arrangedBy : Bool → Shifts → Arranged
   arrangedBy bar t = stacked X Y w t (elim bar [ true ↦ ruledBehind (barRule axis θ w) | false ↦ noOwn ])
 
+  bar-there : (t : Shifts) →
+      barThere F s reference (arrangedBy true t) ≡ rule (nullDelimiterWidth +ℤ reference .across) (barLow axis θ +ℤ up) w θ ∷ []
+  unfolding ownNodes moved
+  bar-there t = refl
+
   bar-span : (t : Shifts) → Every (InkBetween F (barLow axis θ +ℤ up) ((barLow axis θ +ℤ up) +ℤ θ)) (barThere F s reference (arrangedBy true t))
   unfolding ownNodes moved inkOf
   bar-span t = (record { lower = ≤ℤ-refl _; upper = ≤ℤ-refl _ }, tt)
 
-  bar-middle : (t : Shifts) →
-      Every (λ (n : Node). Inked (λ (i : Ink). Centred (axisThere F s reference (arrangedBy true t)) (i .bottom) (i .top)) (inkOf F n)) (barThere F s reference (arrangedBy true t))
-  unfolding ownNodes moved inkOf
-  bar-middle t =
+  -- its middle on the page
+  bar-middle : Centred (up +ℤ axis) (barLow axis θ +ℤ up) ((barLow axis θ +ℤ up) +ℤ θ)
+  bar-middle =
       let low = barLow axis θ in
       let c = bar-centred axis θ in
       let over = le-parts (c .over) in
@@ -180,7 +190,10 @@ module _ (F : Font) (s : Style) (reference : Offset) (θ : ℤ) (x y : FieldBox)
       let edges = sound (# low ⊕ (# low ⊕ # θ)) (tt, (tt, tt)) in
       let line = # up ⊕ # axis in
       let bar = (# low ⊕ # up) ⊕ ((# low ⊕ # up) ⊕ # θ) in
-      (record { over = le-by (line ⊕ line) bar (omega (arith, over, twice, edges)); under = le-by bar ((line ⊕ line) ⊕ # (pos 1)) (omega (arith, under, more, edges)) }, tt)
+      record {
+        over = le-by (line ⊕ line) bar (omega (arith, over, twice, edges));
+        under = le-by bar ((line ⊕ line) ⊕ # (pos 1)) (omega (arith, under, more, edges));
+      }
 
   fraction-by : (bar : Bool) (t : Shifts) → PartsClear (F .parameter) s θ X Y bar t →
       FractionClear F s reference (arrangedBy bar t) θ bar (x .nodes) (y .nodes)
@@ -199,6 +212,10 @@ module _ (F : Font) (s : Style) (reference : Offset) (θ : ℤ) (x y : FieldBox)
       let below-it : ((Y .height +ℤ d) +ℤ φ) ≤ℤ (low +ℤ up) =
       le-by ((# (Y .height) ⊕ (neg (# (t .down)) ⊕ # up)) ⊕ # φ) (# low ⊕ # up) (omega (arith, under, free-under)) in
       record {
+        left = nullDelimiterWidth +ℤ reference .across;
+        low = low +ℤ up;
+        width = w;
+        bar-is = bar-there t;
         over =
             clear-by F φ (u -ℤ X .depth) (X .height +ℤ u) (low +ℤ up) ((low +ℤ up) +ℤ θ) above-it
             (firstThere F s reference a (x .nodes)) (barThere F s reference a)
@@ -207,7 +224,7 @@ module _ (F : Font) (s : Style) (reference : Offset) (θ : ℤ) (x y : FieldBox)
             clear-by F φ (low +ℤ up) ((low +ℤ up) +ℤ θ) (d -ℤ Y .depth) (Y .height +ℤ d) below-it
             (barThere F s reference a) (secondThere F s reference a (y .nodes))
             (bar-span t) (shape-span F (y .shape) (a .second .across +ℤ reference .across) d (y .nodes) (hy .ink));
-        middle = bar-middle t;
+        middle = bar-middle;
       }
   fraction-by false t clear =
       let a = arrangedBy false t in
