@@ -3,3 +3,4 @@ pub mod Arrange
 pub mod Values
 pub mod Reasons
 pub mod ReasonsLaws
+pub mod HoldingLaws
