@@ -103,6 +103,48 @@ pub fn nested(letters: &Alphabet, bytes: usize, depth: usize) -> Vec<u8> {
     (0..levels).fold(innermost, |inner, _| phrase(letters, &list(&inner)))
 }
 
+/// Makes an item that holds a list.
+pub type Holder = fn(&[u8]) -> Vec<u8>;
+
+/// An item with a list in each field that can hold one, and a choice that takes it.
+pub const HOLDERS: [Holder; 8] = [
+    |list| ord([list, EMPTY, EMPTY]),
+    |list| root(SOUGHT, [list, EMPTY, EMPTY]),
+    |list| fence([SOUGHT; 2], [list, EMPTY, EMPTY]),
+    |list| choice([list, &NO_ITEMS, &NO_ITEMS, &NO_ITEMS]),
+    |list| ord([&A, list, EMPTY]),
+    |list| ord([&A, EMPTY, list]),
+    |list| fraction(0, list, &A),
+    |list| fraction(0, &A, list),
+];
+/// So many of the first of them have no letter.
+pub const WITHOUT_LETTERS: usize = 4;
+
+/// A phrase, and the place of its fraction.
+pub fn with_letters(letters: &Alphabet) -> (Vec<u8>, usize) {
+    let place = PHRASE_BYTES - FRACTION_AND_KERN_BYTES;
+    (phrase(letters, &A), place)
+}
+
+/// A root and a fraction of nothing, and the fraction's place; the root's sign is
+/// looked for.
+pub fn without_letters() -> (Vec<u8>, usize) {
+    let root = root(SOUGHT, [EMPTY; 3]);
+    let fraction = fraction(0, EMPTY, EMPTY);
+    ([&root[..], &fraction].concat(), root.len())
+}
+
+/// Some items in as many lists, one in the other, as make the depth; and the place
+/// of an item among them, as it is then.
+pub fn held(holder: Holder, items: &[u8], place: usize, depth: usize) -> (Vec<u8>, usize) {
+    (1..depth).fold((items.to_vec(), place), |(inner, place), _| {
+        let item = holder(&list(&inner));
+        let before = item.windows(inner.len()).position(|part| part == inner);
+        let before = before.expect("the item holds the list");
+        (item, before + place)
+    })
+}
+
 /// As many choices between empty lists as there is room for.
 pub fn empty_choices(most: usize) -> Vec<u8> {
     let item = choice([&NO_ITEMS; 4]);

@@ -7,9 +7,9 @@ use reference::{dvi, Converted};
 use std::hint::black_box;
 
 /// A glyph and a rule under it.
-const NODES: &[u8] =
+pub const NODES: &[u8] =
     b"GL\0\0\0\0\0\0\0\0\0\x01a\0\0\0\0\0RU\0\0\0\0\x60\xff\xff\xff\xf4\x01\0\0\x28\0\0\0";
-const BODY: &[u8] = b"\xac\x8d\x92\0\0\0\0\xa0\0\0\0\0\x80a\x8e\
+pub const BODY: &[u8] = b"\xac\x8d\x92\0\0\0\0\xa0\0\0\0\0\x80a\x8e\
                       \x8d\x92\0\0\0\0\xa0\0\0\0\xa0\x84\0\0\0\x28\0\0\x01\xf4\x8e";
 const NODES_IN_BOTH: usize = 2;
 

@@ -42,10 +42,7 @@ const OVER_A_FONT: [Row; 6] = [
 
 /// Over one table each.
 const OVER_ONE: [(OneFont, Row); 15] = [
-    (
-        || &BENCH,
-        ("131,072 bytes, flat", Call::Set, LONGEST_FLAT),
-    ),
+    (|| &BENCH, ("131,072 bytes, flat", Call::Set, LONGEST_FLAT)),
     (
         || &BENCH,
         ("131,070 bytes, nested 32 deep", Call::Set, LONGEST_NESTED),

@@ -117,10 +117,7 @@ fn forms() -> [(&'static str, Vec<u8>); 3] {
     [
         ("flat", flat(letters, LONG)),
         ("empty choices", empty_choices(LONG)),
-        (
-            "flat, in choices 16 deep",
-            chosen(letters, LONG, DEEP),
-        ),
+        ("flat, in choices 16 deep", chosen(letters, LONG, DEEP)),
     ]
 }
 

@@ -82,7 +82,19 @@ fn text(names: &[NameParts], words: usize) -> Vec<u8> {
     phrases.join(" ").into_bytes()
 }
 
-fn formula(names: &[u8], text: &[u8]) -> Vec<u8> {
+/// A table with the name x alone.
+pub fn name_of_x() -> Vec<u8> {
+    let word = b"x".to_vec();
+    let [family, code, class] = [1, b'x', 0];
+    name_table(&[NameParts {
+        word,
+        family,
+        code,
+        class,
+    }])
+}
+
+pub fn formula(names: &[u8], text: &[u8]) -> Vec<u8> {
     let mut formula = vec![0; MOST_BYTES * text.len()];
     let answer = eqn::read(names, text, &mut formula);
     assert_eq!(answer.number, 0, "the text is read");

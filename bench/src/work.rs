@@ -74,7 +74,9 @@ impl Kept {
             Call::Set => torfianka::set(DISPLAY, font, formula, nodes),
             Call::Why => {
                 let place = formula.len() - FRACTION_AND_KERN_BYTES;
-                return torfianka::why(DISPLAY, font, formula, place).ok().map(|_| 0);
+                return torfianka::why(DISPLAY, font, formula, place)
+                    .ok()
+                    .map(|_| 0);
             }
         };
         answer.ok().map(|measured| measured.count)

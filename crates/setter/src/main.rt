@@ -1,11 +1,17 @@
 // The thin program: reads font.tab and, where there is one, client.tab in the working folder, and a style byte and a formula from
-// standard input, and writes what setting gives.
+// standard input, and writes what setting gives. What it answers is defined in specs/Thin.antt.
 
+ghost use mathlib.Core.Path.{_≡_};
+ghost use lib.ListN.{length};
+ghost use Rattle.answers.specs.Lent.{lentOf, indexAfter, clientIndexAfter};
+ghost use Rattle.layout.specs.Values.{answeredAs};
+ghost use Rattle.setter.specs.Thin.{thinSetting, thinBuffer};
 use files::CLIENT_SPACE;
 use files::TABLE_SPACE;
 use files::read_table;
 use font_index::INDEX_WORDS;
 use layout::Answer;
+use layout::report::report_of;
 use libc::STDIN_FILENO;
 
 // The longest formula that the program takes. The library takes longer ones.
@@ -58,13 +64,19 @@ fn answer_to<'a>(
     nodes: &mut [u8],
     index: &mut [u64],
     client_index: &mut [u64],
-) -> Answer {
+) -> Answer
+    ensures { λ r. ⌜ answeredAs r ≡ thinSetting style (now (table .entry)) (now (client .entry)) (lentOf (now (index .entry)) (now («client_index» .entry))) (now (formula .entry)) (length (now (nodes .entry))) ⌝ }
+    ensures { λ _. ⌜ now (nodes .exit) ≡ thinBuffer style (now (table .entry)) (now (client .entry)) (lentOf (now (index .entry)) (now («client_index» .entry))) (now (formula .entry)) (now (nodes .entry)) ⌝ }
+    ensures { λ _. ⌜ now (index .exit) ≡ indexAfter style (now (table .entry)) (now (client .entry)) (now (index .entry)) (now («client_index» .entry)) ⌝ }
+    ensures { λ _. ⌜ now («client_index» .exit) ≡ clientIndexAfter style (now (table .entry)) (now (client .entry)) (now (index .entry)) (now («client_index» .entry)) ⌝ }
+{
     if formula.len() <= LONGEST {
         return layout::set(style, table, client, formula, nodes, index, client_index);
     }
     let tested = layout::measure(style, table, client, &formula[..0], index, client_index);
-    match tested {
-        Answer::Accepted(_, _) => Answer::Unreadable(0),
-        _ => tested,
+    let report = report_of(tested);
+    if report.number == 0 {
+        return Answer::Unreadable(0);
     }
+    tested
 }

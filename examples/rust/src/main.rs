@@ -7,12 +7,14 @@
 //! font table's. A picture of the boxes is written to SVG; a page with the
 //! formula in the fonts that FONTS names is written to DVI. An empty record is
 //! refused as style, a font table that can't be read as table. The status is 1
-//! for a refusal, 2 if another file can't be read or written, or a font has no
-//! name.
+//! for a refusal, 2 if another file can't be read or written, a font has no name,
+//! or a glyph no letter to be drawn as; then nothing is printed or written.
 
 mod fonts;
+mod letters;
 mod page;
 mod picture;
+mod shapes;
 mod tables;
 
 use fonts::Fonts;
@@ -129,15 +131,20 @@ fn run(arguments: &Arguments) -> Result<(), Failure> {
     };
     let (measured, buffer) = set_formula(style, &mut tables.font(), &formula)?;
     let nodes: Vec<Node> = nodes(&buffer).collect();
-    print(&measured, &nodes);
+    let mut files = Vec::new();
     if let Some(path) = arguments.svg {
         let picture = picture::svg(&measured, &nodes, &tables);
-        named(path, fs::write(path, picture))?;
+        let picture = picture.map_err(|glyph| format!("{path}: {glyph}"))?;
+        files.push((path, picture.into_bytes()));
     }
     if let Some([fonts, path]) = arguments.dvi {
         let page = page::file(&measured, &buffer, &read_fonts(fonts)?)?;
-        named(path, fs::write(path, page))?;
+        files.push((path, page));
     }
+    for (path, bytes) in files {
+        named(path, fs::write(path, bytes))?;
+    }
+    print(&measured, &nodes);
     Ok(())
 }
 

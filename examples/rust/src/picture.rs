@@ -1,6 +1,9 @@
 //! A picture of a set formula: its glyphs' boxes, its rules and its baseline.
 
+use crate::letters::{letter, Letter};
+use crate::shapes::{Shape, STROKE};
 use crate::tables::{Metrics, Tables};
+use std::fmt;
 use torfianka::{Measured, Node};
 
 const SP_PER_POINT: f64 = 65_536.0;
@@ -8,12 +11,30 @@ const PIXELS_PER_POINT: f64 = 10.0;
 const MARGIN: f64 = 3.0;
 /// The x-height of usual text fonts in parts of their size.
 const X_HEIGHT_SHARE: f64 = 0.48;
-/// How far a large operator reaches below its baseline in usual text fonts, in
+/// How far a tall character reaches below its baseline in usual text fonts, in
 /// parts of its size.
-const OPERATOR_DEPTH: f64 = 0.2;
+const DEPTH_SHARE: f64 = 0.2;
+
+/// A glyph of which nothing is known but its box. A picture without it would say
+/// something else than the formula.
+pub struct NoLetter {
+    size: u8,
+    family: u8,
+    code: u8,
+}
+
+impl fmt::Display for NoLetter {
+    fn fmt(&self, f: &mut fmt::Formatter) -> fmt::Result {
+        let NoLetter { size, family, code } = self;
+        write!(
+            f,
+            "no letter is known for the glyph of size {size}, family {family}, code {code}"
+        )
+    }
+}
 
 /// Lengths in the picture are points, and y goes down.
-pub fn svg(measured: &Measured, nodes: &[Node], tables: &Tables) -> String {
+pub fn svg(measured: &Measured, nodes: &[Node], tables: &Tables) -> Result<String, NoLetter> {
     let (width, height, depth) = (
         points(measured.width),
         points(measured.height),
@@ -22,8 +43,9 @@ pub fn svg(measured: &Measured, nodes: &[Node], tables: &Tables) -> String {
     let (left, top) = (-MARGIN, -height - MARGIN);
     let (across, down) = (width + 2.0 * MARGIN, height + depth + 2.0 * MARGIN);
     let (pixels_across, pixels_down) = (across * PIXELS_PER_POINT, down * PIXELS_PER_POINT);
-    let drawn: String = nodes.iter().map(|node| draw(node, tables)).collect();
-    format!(
+    let drawn = nodes.iter().map(|node| draw(node, tables));
+    let drawn: String = drawn.collect::<Result<_, _>>()?;
+    Ok(format!(
         r##"<svg xmlns="http://www.w3.org/2000/svg" width="{pixels_across:.0}" height="{pixels_down:.0}" viewBox="{left:.3} {top:.3} {across:.3} {down:.3}">
 <rect x="{left:.3}" y="{top:.3}" width="{across:.3}" height="{down:.3}" fill="white"/>
 <path d="M{left:.3} 0h{across:.3}" stroke="#c33" stroke-width="0.1" stroke-dasharray="0.6 0.4"/>
@@ -31,14 +53,14 @@ pub fn svg(measured: &Measured, nodes: &[Node], tables: &Tables) -> String {
 {drawn}</g>
 </svg>
 "##
-    )
+    ))
 }
 
 fn points(sp: impl Into<i64>) -> f64 {
     sp.into() as f64 / SP_PER_POINT
 }
 
-fn draw(node: &Node, tables: &Tables) -> String {
+fn draw(node: &Node, tables: &Tables) -> Result<String, NoLetter> {
     match *node {
         Node::Glyph {
             x,
@@ -46,22 +68,28 @@ fn draw(node: &Node, tables: &Tables) -> String {
             size,
             family,
             code,
-        } => tables
-            .metrics(size, family, code)
-            .map(|metrics| {
-                let letter = letter(family, code, metrics.is_client).map(|letter| {
-                    let em = points(tables.x_height(size)) / X_HEIGHT_SHARE;
-                    letter.draw(points(x), -points(y), em, &metrics)
-                });
-                outline(points(x), -points(y), &metrics) + &letter.unwrap_or_default()
-            })
-            .unwrap_or_default(),
+        } => {
+            let metrics = tables.metrics(size, family, code);
+            let found = metrics.and_then(|metrics| {
+                let letter = letter(family, code, metrics.is_client)?;
+                Some((metrics, letter))
+            });
+            let (metrics, letter) = found.ok_or(NoLetter { size, family, code })?;
+            let em = points(tables.x_height(size)) / X_HEIGHT_SHARE;
+            let (x, y) = (points(x), -points(y));
+            Ok(outline(x, y, &metrics) + &glyph(&letter, x, y, em, &metrics))
+        }
         Node::Rule {
             x,
             y,
             width,
             thickness,
-        } => rule(points(x), -points(y), points(width), points(thickness)),
+        } => Ok(rule(
+            points(x),
+            -points(y),
+            points(width),
+            points(thickness),
+        )),
     }
 }
 
@@ -84,67 +112,24 @@ fn outline(x: f64, y: f64, metrics: &Metrics) -> String {
     )
 }
 
-enum Letter {
-    Upright(char),
-    Italic(char),
-    /// With a stroke across.
-    Struck(char),
-    /// Its box hangs from the baseline, so it is fitted into the box.
-    Operator(char),
-    /// The sign of a root: two strokes in its box, the second up to the rule.
-    Radical,
-    /// An angle: two strokes in its box.
-    Angle,
-    /// A grown bracket: three strokes in its box.
-    Square(Side),
-    /// A grown parenthesis: an arc in its box.
-    Round(Side),
-}
-
-/// Of a fence.
-enum Side {
-    Left,
-    Right,
-}
-
-impl Side {
-    /// In Computer Modern each right one stands behind its left one.
-    fn of(code: u8) -> Side {
-        if code.is_multiple_of(2) {
-            Side::Left
-        } else {
-            Side::Right
+fn glyph(letter: &Letter, x: f64, y: f64, em: f64, metrics: &Metrics) -> String {
+    let reach = points(metrics.height + metrics.depth);
+    let (top, width) = (y - points(metrics.height), points(metrics.width));
+    let middle = x + width / 2.0;
+    let strokes = |shape: &Shape, title: &str| {
+        let path = shape.path(x, top, width, reach);
+        format!("<path d=\"{path}\" fill=\"none\" stroke=\"black\" stroke-width=\"0.4\">{title}</path>\n")
+    };
+    match letter {
+        Letter::Upright(letter) => text(*letter, "normal", middle, y, em),
+        Letter::Italic(letter) => text(*letter, "italic", middle, y, em),
+        Letter::Struck(letter) => text(*letter, "normal", middle, y, em) + &strokes(&STROKE, ""),
+        Letter::Fitted(letter) => {
+            let baseline = top + reach - DEPTH_SHARE * reach;
+            text(*letter, "normal", middle, baseline, reach)
         }
-    }
-
-    /// Where the strokes turn, and where they end towards what is fenced in.
-    fn reach(&self, x: f64, width: f64) -> [f64; 2] {
-        match self {
-            Side::Left => [x + 0.3 * width, x + 0.8 * width],
-            Side::Right => [x + 0.7 * width, x + 0.2 * width],
-        }
-    }
-}
-
-impl Letter {
-    fn draw(&self, x: f64, y: f64, em: f64, metrics: &Metrics) -> String {
-        let reach = points(metrics.height + metrics.depth);
-        let (top, width) = (y - points(metrics.height), points(metrics.width));
-        let middle = x + width / 2.0;
-        match self {
-            Letter::Upright(letter) => text(*letter, "normal", middle, y, em),
-            Letter::Italic(letter) => text(*letter, "italic", middle, y, em),
-            Letter::Struck(letter) => {
-                text(*letter, "normal", middle, y, em) + &slash(x, top, width, reach)
-            }
-            Letter::Operator(letter) => {
-                let baseline = y + points(metrics.depth) - OPERATOR_DEPTH * reach;
-                text(*letter, "normal", middle, baseline, reach)
-            }
-            Letter::Radical => radical(x, top, width, reach),
-            Letter::Angle => angle(x, top, width, reach),
-            Letter::Square(side) => square(side.reach(x, width), top, reach),
-            Letter::Round(side) => round(side.reach(x, width), top, reach),
+        Letter::Shaped(letter, shape) => {
+            strokes(shape, &format!("<title>{}</title>", escaped(*letter)))
         }
     }
 }
@@ -152,84 +137,17 @@ impl Letter {
 fn text(letter: char, slope: &str, middle: f64, y: f64, em: f64) -> String {
     format!(
         "<text x=\"{middle:.3}\" y=\"{y:.3}\" font-size=\"{em:.3}\" \
-         font-style=\"{slope}\">{letter}</text>\n"
+         font-style=\"{slope}\">{}</text>\n",
+        escaped(letter)
     )
 }
 
-/// The strokes of a root's sign, in the box whose upper left corner is given.
-fn radical(x: f64, top: f64, width: f64, reach: f64) -> String {
-    strokes(&format!(
-        "M{:.3} {:.3}L{:.3} {:.3}L{:.3} {top:.3}",
-        x + 0.2 * width,
-        top + 0.6 * reach,
-        x + 0.5 * width,
-        top + reach,
-        x + width,
-    ))
-}
-
-/// From the upper right to the lower left, then along the baseline.
-fn angle(x: f64, top: f64, width: f64, reach: f64) -> String {
-    let bottom = top + reach;
-    let [left, right] = [0.1, 0.9].map(|share| x + share * width);
-    strokes(&format!(
-        "M{right:.3} {top:.3}L{left:.3} {bottom:.3}H{right:.3}"
-    ))
-}
-
-fn slash(x: f64, top: f64, width: f64, reach: f64) -> String {
-    strokes(&format!(
-        "M{:.3} {:.3}L{:.3} {:.3}",
-        x + 0.25 * width,
-        top + 0.85 * reach,
-        x + 0.75 * width,
-        top + 0.15 * reach,
-    ))
-}
-
-fn square([turn, end]: [f64; 2], top: f64, reach: f64) -> String {
-    strokes(&format!(
-        "M{end:.3} {top:.3}H{turn:.3}V{:.3}H{end:.3}",
-        top + reach
-    ))
-}
-
-/// The arc goes half the way to the point that draws it.
-fn round([turn, end]: [f64; 2], top: f64, reach: f64) -> String {
-    strokes(&format!(
-        "M{end:.3} {top:.3}Q{:.3} {:.3} {end:.3} {:.3}",
-        2.0 * turn - end,
-        top + reach / 2.0,
-        top + reach
-    ))
-}
-
-fn strokes(path: &str) -> String {
-    format!("<path d=\"{path}\" fill=\"none\" stroke=\"black\" stroke-width=\"0.4\"/>\n")
-}
-
-/// The letters of Computer Modern's layout that can be shown with usual fonts,
-/// and those of the examples' client.
-fn letter(family: u8, code: u8, is_client: bool) -> Option<Letter> {
-    const GREEK: &str = "αβγδϵζηθικλμνξπρστυϕχψω";
-    const FIRST_GREEK: u8 = 11;
-    match (family, code) {
-        (0, b'0') if is_client => Some(Letter::Struck('0')),
-        (4, 1) if is_client => Some(Letter::Angle),
-        (0, _) if code.is_ascii_alphanumeric() || b"!()*+,-./:;=?[]".contains(&code) => {
-            Some(Letter::Upright(code.into()))
-        }
-        (1, _) if code.is_ascii_alphabetic() => Some(Letter::Italic(code.into())),
-        (1, FIRST_GREEK..) => {
-            let letter = GREEK.chars().nth((code - FIRST_GREEK).into());
-            letter.map(Letter::Italic)
-        }
-        (2, 0) => Some(Letter::Upright('−')),
-        (2, 14) => Some(Letter::Upright('∘')),
-        (3, 0 | 1 | 16..=19 | 32 | 33) => Some(Letter::Round(Side::of(code))),
-        (3, 2 | 3 | 20 | 21 | 34 | 35 | 104 | 105) => Some(Letter::Square(Side::of(code))),
-        (3, 80 | 88) => Some(Letter::Operator('∑')),
-        (2, 112) | (3, 112..=115) => Some(Letter::Radical),
-        _ => None,
+/// As a picture's file has it.
+fn escaped(letter: char) -> String {
+    match letter {
+        '&' => "&amp;".to_string(),
+        '<' => "&lt;".to_string(),
+        '>' => "&gt;".to_string(),
+        _ => letter.to_string(),
     }
 }

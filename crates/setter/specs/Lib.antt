@@ -1,0 +1,3 @@
+-- What the thin program answers.
+-- Assumes nothing.
+pub mod Thin
