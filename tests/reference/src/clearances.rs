@@ -79,11 +79,23 @@ impl Pen for Gathered {
     }
 }
 
-/// How far a node's ink reaches on the page.
+/// How far a node's ink reaches on the page, up and down; across, how far its
+/// box does.
 #[derive(Clone, Copy)]
 struct Reach {
     bottom: i64,
     top: i64,
+    left: i64,
+    right: i64,
+}
+
+/// A part of the page that has to be free of ink; x, y is its lower left corner.
+#[derive(Clone, Copy, Debug, PartialEq, Eq)]
+pub struct Band {
+    pub x: i64,
+    pub y: i64,
+    pub width: i64,
+    pub height: i64,
 }
 
 /// A page of an accepted formula, as a call gave it.
@@ -100,27 +112,97 @@ pub struct Page<'a> {
 /// The first thing on the page that stands too near to another, if any. `None`
 /// too if the formula is none that is accepted.
 pub fn fault(page: &Page) -> Option<&'static str> {
-    let [mut index, mut client_index] = [[0; INDEX_WORDS]; 2];
-    let lent = Lent {
-        index: &mut index,
-        client_index: &mut client_index,
-    };
-    let style = Style::new(page.style)?;
-    let tables = Tables::read(page.table, page.client, lent).ok()?;
-    let formula = Formula::read(page.formula).ok()?;
-    let mut layout = Layout::new(&tables, &formula, Gathered::default(), None);
-    layout.list(formula.top, style).ok()?;
-    let clearances = layout.pen.clearances;
-    let Some(reaches) = reaches(page.nodes, &tables) else {
+    let seen = Seen::of(page)?;
+    let Some(reaches) = seen.reaches else {
         return Some("a glyph on the page is no symbol of the tables");
     };
     let is_outside = |reach: &Reach| reach.bottom < -page.depth || reach.top > page.height;
     if reaches.iter().any(is_outside) {
         return Some("ink outside of the reported height and depth");
     }
-    clearances
+    seen.clearances
         .iter()
         .find_map(|clearance| broken(clearance, &reaches))
+}
+
+/// What has to be free between the parts of its items, for a picture; none of a
+/// formula that is not accepted.
+pub fn bands(page: &Page) -> Vec<Band> {
+    let Some(Seen {
+        clearances,
+        reaches: Some(reaches),
+    }) = Seen::of(page)
+    else {
+        return Vec::new();
+    };
+    let bands = clearances
+        .iter()
+        .flat_map(|clearance| free(clearance, &reaches));
+    bands.collect()
+}
+
+/// What the tree asks for, and how far the ink of each node reaches, if every
+/// glyph has a symbol.
+struct Seen {
+    clearances: Vec<Clearance>,
+    reaches: Option<Vec<Reach>>,
+}
+
+impl Seen {
+    fn of(page: &Page) -> Option<Seen> {
+        let [mut index, mut client_index] = [[0; INDEX_WORDS]; 2];
+        let lent = Lent {
+            index: &mut index,
+            client_index: &mut client_index,
+        };
+        let style = Style::new(page.style)?;
+        let tables = Tables::read(page.table, page.client, lent).ok()?;
+        let formula = Formula::read(page.formula).ok()?;
+        let mut layout = Layout::new(&tables, &formula, Gathered::default(), None);
+        layout.list(formula.top, style).ok()?;
+        Some(Seen {
+            clearances: layout.pen.clearances,
+            reaches: reaches(page.nodes, &tables),
+        })
+    }
+}
+
+/// The bands of one clearance, above the ink of the lower part of each two.
+fn free(clearance: &Clearance, reaches: &[Reach]) -> Vec<Band> {
+    let (over, bar, under, gap) = match *clearance {
+        Clearance::Scripts { over, under, gap } => (over, None, under, gap),
+        Clearance::Fraction {
+            over,
+            bar,
+            under,
+            gap,
+            ..
+        } => (over, bar, under, gap),
+    };
+    let [over, under] = [over, under].map(|run| part(reaches, run));
+    let bands = match bar.map(|bar| reaches[bar]) {
+        Some(bar) => vec![
+            band(&[bar], bar.top, gap),
+            band(&[bar], bar.bottom - gap, gap),
+        ],
+        None => {
+            let top = under.iter().map(|reach| reach.top).max();
+            vec![top.and_then(|top| band(&[over, under].concat(), top, gap))]
+        }
+    };
+    bands.into_iter().flatten().collect()
+}
+
+/// As wide as some ink, and so high.
+fn band(across: &[Reach], y: i64, height: i64) -> Option<Band> {
+    let x = across.iter().map(|reach| reach.left).min()?;
+    let right = across.iter().map(|reach| reach.right).max()?;
+    Some(Band {
+        x,
+        y,
+        width: right - x,
+        height,
+    })
 }
 
 fn broken(clearance: &Clearance, reaches: &[Reach]) -> Option<&'static str> {
@@ -177,16 +259,18 @@ fn reaches(nodes: &[u8], tables: &Tables) -> Option<Vec<Reach>> {
 }
 
 fn reach(bytes: &[u8; NODE_BYTES], tables: &Tables) -> Option<Reach> {
-    let Node { y, ink, .. } = Node::read(bytes);
-    let (depth, height) = match ink {
+    let Node { x, y, ink } = Node::read(bytes);
+    let (depth, height, width) = match ink {
         Ink::Glyph { size, family, code } => {
             let character = tables.character(size, family, code)?;
-            (character.depth, character.height)
+            (character.depth, character.height, character.width)
         }
-        Ink::Rule { thickness, .. } => (0, thickness),
+        Ink::Rule { width, thickness } => (0, thickness, width),
     };
     Some(Reach {
         bottom: y - depth,
         top: y + height,
+        left: x,
+        right: x + width,
     })
 }

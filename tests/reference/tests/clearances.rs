@@ -3,7 +3,7 @@
 mod bench;
 
 use bench::*;
-use reference::clearances::{fault, Page};
+use reference::clearances::{bands, fault, Band, Page};
 use reference::compose::*;
 use reference::NODE_BYTES;
 
@@ -31,10 +31,10 @@ impl Set {
         }
     }
 
-    /// The fault of the page as it is now.
-    fn fault(&self) -> Option<&'static str> {
+    /// What a judge says of the page as it is now.
+    fn judged<T>(&self, judge: fn(&Page) -> T) -> T {
         let [_, height, depth] = self.outcome.sizes;
-        fault(&Page {
+        judge(&Page {
             style: self.style,
             table: &table(),
             client: &[],
@@ -43,6 +43,10 @@ impl Set {
             height,
             depth,
         })
+    }
+
+    fn fault(&self) -> Option<&'static str> {
+        self.judged(fault)
     }
 
     /// The fault once a node is raised.
@@ -104,9 +108,15 @@ fn a_bar_between_its_parts() {
     // The numerator stands as its own rules have it, 110 above the bar.
     let set = || Set::of(TEXT, &over(0));
     assert_eq!(set().raised(0, -90), None);
-    assert_eq!(set().raised(0, -91), Some("a bar too near to its numerator"));
+    assert_eq!(
+        set().raised(0, -91),
+        Some("a bar too near to its numerator")
+    );
     assert_eq!(set().raised(2, 110), None);
-    assert_eq!(set().raised(2, 111), Some("a bar too near to its denominator"));
+    assert_eq!(
+        set().raised(2, 111),
+        Some("a bar too near to its denominator")
+    );
     assert_eq!(set().raised(1, 1), Some("a bar off its axis"));
     assert_eq!(set().raised(1, -1), Some("a bar off its axis"));
 }
@@ -146,4 +156,20 @@ fn a_glyph_has_a_symbol() {
         set.fault(),
         Some("a glyph on the page is no symbol of the tables")
     );
+}
+
+#[test]
+fn bands_of_a_pair_and_of_a_fraction() {
+    let band = |x, y, width, height| Band {
+        x,
+        y,
+        width,
+        height,
+    };
+    // P9: the subscript's top is 184 above the baseline, the superscript's bottom 344.
+    let pair = Set::of(CRAMPED_TEXT, &pair()).judged(bands);
+    assert_eq!(pair, [band(490, 184, 610, 160)]);
+    let fraction = Set::of(TEXT, &over(0)).judged(bands);
+    let above = band(78_643, 270, 500, 40);
+    assert_eq!(fraction, [above, band(78_643, 190, 500, 40)]);
 }
