@@ -7,7 +7,8 @@
 --     SetItem        an item that is set: an item of the list, or one of the list that a C4 takes
 --     FieldAt        an item's fields stand one behind the other, the first behind the opening; each has its style, and its sides: the
 --                    first field of an item that must hold a list, a fence, has a fence's, and no other has any (`field-sides`, `step-sides`)
---     ListField      a list field is the byte 2 and two bytes of length, or the byte 3 and four, and that many bytes of items
+--     ListField      a list field is the byte 2 and two bytes of length, or the byte 3 and four, and that many bytes of items; so begins
+--                    what the reading takes for one (`list-field`)
 --     OwnListField   a list field of an item that is set in the list itself
 --     ListFieldAt    a list field at any depth: the items within a list field are looked at in the same way
 -- Every one of them is reached by a path (`reached`): the formula's tree is the path filled with the tree of the field's bytes, and the

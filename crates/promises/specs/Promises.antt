@@ -91,6 +91,8 @@ pub use Rattle.promises.specs.ItemsOnPage.{ItemSetAt, ItemStands, item-s
 -- the bar's middle is within half a scaled point of the axis
 pub use Rattle.promises.specs.Clearances.{ItemKeeps, Clearances, clearances}
 pub use Rattle.promises.specs.Examples.{inks-hold}
+-- instances, from bytes: behind a style change, and in a list
+pub use Rattle.promises.specs.ItemExample.{behind-style, styled-up, behind-style-why, in-list}
 -- ---- request 14: nodes as the body of a page
 
 -- what is written reads back to the same bytes, and what reads is what the writer writes

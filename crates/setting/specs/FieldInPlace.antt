@@ -1,6 +1,8 @@
 -- A list field in the whole, as it stands alone: demand 3 of trees, but for what is accepted (`FieldAlone`).
 --     size-used        the rules arrange the item that holds the field from the size of the list set alone, and see
 --                      nothing else of the list
+--     list-in-place    a list's nodes are a frame around those of an item at a spot of it; the frame goes by the spot, the item's kind and its
+--                      size, whatever its fields are (`ItemOnPage` says it of the whole)
 --     field-in-place   the whole's nodes are a frame around the nodes of the list set alone; the frame goes by the path and
 --                      the size of that list, so that another list of that size has the same frame (`same-frame`)
 -- The proof looks at the three fields of an item and never at its kind: an item comes from three shapes by `arrangedIn`, the

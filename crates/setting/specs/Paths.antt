@@ -1,12 +1,14 @@
 -- Where a list field stands in a formula.
 --     Arm      one field of an item, with the other two
---     Spot     where an item stands in a list: among its items, or at a spot in the list that one of its choices takes
+--     Spot     where an item stands in a list: among its items, or at a spot in the list that one of its choices takes;
+--              `spotStyle` is the style current at it, `spotPlace` its place in the list's bytes
 --     Step     from a list into a field of the item at a spot of it
 --     Path     from the formula to a list within it: no step at all, or one step more from the list at a path
 --     fill s p l     the formula that has the list l at the path p, where the formula is in the style s, by which its choices take
 --                    their lists; every formula with a list field that is set is one in this way
 --     styleAt s p    the style that the rules give the list at p, from the style current at the item that holds it
 --     sidesAt s p    the neighbours that it sees on its sides, though they are not in it: those of a fence, or none
+--     HasFields p    each step of p goes into a field that its item has, as it does in what reads: a fraction has no third one
 --     placeOf s p l  the place of that list's first item in the bytes of the formula, which depends on how long the lists around it are
 -- An item's kind goes along as it is: no function here looks at it but through the rules' own.
 -- Assumes nothing.
