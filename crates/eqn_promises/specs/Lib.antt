@@ -16,4 +16,5 @@ pub mod RoundTrip
 pub mod TokenPlaces
 pub mod Refusals
 pub mod Sizes
+pub mod Room
 pub mod LongText

@@ -42,6 +42,8 @@ pub use Rattle.eqn_promises.specs.RoundTrip.{refuses-exactly}
 
 -- a formula has at most 9 bytes for each byte of its text, and a text at most 9 for each byte of its formula
 pub use Rattle.eqn_promises.specs.Sizes.{read-size, write-size}
+-- so that with as much room no answer is 13
+pub use Rattle.eqn_promises.specs.Room.{read-room, write-room}
 -- ---- places
 
 -- a refusal's place lies within the name table, the text or the formula
