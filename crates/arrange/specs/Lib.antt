@@ -3,4 +3,3 @@ pub mod Arrange
 pub mod Values
 pub mod Reasons
 pub mod ReasonsLaws
-pub mod HoldingLaws

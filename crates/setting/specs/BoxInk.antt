@@ -26,7 +26,7 @@ use Rattle.spacing.specs.Classes.{Neighbour, classOf}
 use Rattle.arrange.specs.declared.Manner.{Manner}
 use Rattle.arrange.specs.declared.Manner.the-variants.{Plain}
 use Rattle.arrange.specs.Arrange.{firstStyle, secondStyle, thirdStyle, firstManner}
-use Rattle.arrange.specs.HoldingLaws.{ShapeHeld, NoThird, arranged-holds}
+use Rattle.arrange_rules.specs.HoldingLaws.{ShapeHeld, NoThird, arranged-holds}
 use Rattle.nodes.specs.Nodes.{Node, moved}
 use Rattle.setting.specs.Setting.{Box, FieldBox, Symbol, symbolIn, symbolFieldBox, signsIn, movedBy, ownNode, ownNodes, arrangedIn, itemNodes, itemBox, taken, styleBehind, nextClass, Line, beside, placed, Sides, sidesOf, start, closed, isEnlarged, setItems, setItem, setField, setList}
 use Rattle.setting.specs.FoundSymbols.{SymbolThere, symbol-there, signs-there}

@@ -29,7 +29,8 @@ use Rattle.scripts.specs.ClearanceLaws.{pair-gap}
 use Rattle.fractions.specs.Fractions.{barThickness, hasBar, stacked, finalShifts, fraction}
 use Rattle.fractions.specs.ClearanceLaws.{Centred, bar-centred, barLow, barRule, fromBar, betweenParts, PartsClear, parts-clear}
 use Rattle.arrange.specs.declared.Manner.the-variants.{Plain}
-use Rattle.arrange.specs.Arrange.{firstStyle, secondStyle, thirdStyle, firstManner, isGiven, setsLimits, nucleusOf, setScripts, arrange}
+use Rattle.arrange_rules.specs.Arrange.{isGiven, setsLimits, nucleusOf, setScripts, arrange}
+use Rattle.arrange.specs.Arrange.{firstStyle, secondStyle, thirdStyle, firstManner}
 use Rattle.nodes.specs.Nodes.{Node, rule, moved}
 use Rattle.setting.specs.Setting.{FieldBox, movedBy, ownNodes}
 use Rattle.setting.specs.Frames.{further}

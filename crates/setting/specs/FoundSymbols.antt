@@ -16,7 +16,7 @@ use Rattle.boxes.specs.Boxes.{Shape, sizeOf}
 use Rattle.delimiters.specs.FoundSigns.{sign-there}
 use Rattle.roots.specs.Roots.{signExtent}
 use Rattle.fences.specs.Fences.{fenceExtent}
-use Rattle.arrange.specs.HoldingLaws.{SignsThere}
+use Rattle.arrange_rules.specs.HoldingLaws.{SignsThere}
 use Rattle.setting.specs.Setting.{Symbol, found, successor, enlarged, symbolIn, signsIn}
 
 module _ (F : Font) where

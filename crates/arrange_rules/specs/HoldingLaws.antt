@@ -32,7 +32,7 @@ use Rattle.limits.specs.HoldingLaws.{limits-hold}
 use Rattle.scripts.specs.ClearanceLaws.{scripts-hold}
 use Rattle.fractions.specs.Fractions.{barThickness, hasBar}
 use Rattle.fractions.specs.ClearanceLaws.{BarHeld, fraction-holds}
-use Rattle.arrange.specs.Arrange.{isGiven, setsLimits, rootNucleus, fenceNucleus, nucleusOf, setScripts, arrange}
+use Rattle.arrange_rules.specs.Arrange.{isGiven, setsLimits, rootNucleus, fenceNucleus, nucleusOf, setScripts, arrange}
 
 -- a part of a fraction stands where it stands though it is nothing: no claim is made of it
 abbrev pub ShapeHeld : Size → Shape → ℤ → Type 0
