@@ -2,6 +2,7 @@
 pub mod Styles
 pub mod Parameters
 pub mod Boxes
+pub mod Holding
 pub mod Values
 pub mod ValueLaws
 pub mod Bounds

@@ -3,3 +3,4 @@ pub mod Fractions
 pub mod Reasons
 pub mod Stages
 pub mod ReasonsLaws
+pub mod ClearanceLaws

@@ -4,13 +4,15 @@
 --     Passed             of a tree between two sides: both tables are good, words enough are lent, no symbol is missing, and all of it
 --                        fits
 --     passed, boxed-of   the tree of an accepted formula passes, without sides; bytes whose tree passes are boxed, between the same sides
+--     Page, page-of      the nodes that are measured, and that setting leaves in the buffer, are those of the tree
 -- Assumes nothing.
 use mathlib.Core.Path.{_≡_, refl, sym, ap, _∙_}
 use mathlib.Core.Bool.{Bool, true, false}
-use mathlib.Core.List.{List}
+use mathlib.Core.List.{List, _++_}
 use mathlib.Core.Option.{Option, none, some}
-use Prim.Native.Nat.{ℕ}
+use Prim.Native.Nat.{ℕ, _*_, _≤_}
 use native.Mathlib.Omega.{arith}
+use lib.ListN.{length, drop}
 use Rattle.font.specs.Table.{goodTable, goodClient}
 use Rattle.font.specs.Font.{Font, fontWith}
 use Rattle.formula.specs.declared.Fault.the-variants.{Unreadable, TooDeep}
@@ -18,12 +20,14 @@ use Rattle.formula.specs.Tree.{Items}
 use Rattle.formula.specs.Reading.{Read, good, fault, readFormula}
 use Rattle.boxes.specs.declared.styles.Style.{Style}
 use Rattle.boxes.specs.Styles.{styleOf}
+use Rattle.boxes.specs.Boxes.{Size}
+use Rattle.nodes.specs.Nodes.{Node, bytesOf, bytesInNode}
 use Rattle.setting.specs.Setting.{Box, Sides, noSides, setList}
 use Rattle.setting.specs.Missing.{missingItems}
 use Rattle.setting.specs.Fitting.{listFits}
 use Rattle.answers.specs.Lent.{Lent, enough}
-use Rattle.answers.specs.Answers.{Result, boxed, acceptedNumber, ifFits, ifPresent, ifRead, ifEnough, ifClient, ifGood, ifStyle, resultBetween, setBy, setting, settingBetween}
-use Rattle.answers.specs.AnswersLaws.{tested-is, read-is, box-is}
+use Rattle.answers.specs.Answers.{Answered, Result, boxed, acceptedNumber, ifFits, ifPresent, ifRead, ifEnough, ifClient, ifGood, ifStyle, resultOf, resultBetween, measured, setBy, setting, settingBetween, bufferAfter}
+use Rattle.answers.specs.AnswersLaws.{tested-is, read-is, box-is, measured-boxed, buffer-boxed}
 
 pub record Accepted (style : ℕ) (table client : List ℕ) (lent : Lent) (formula : List ℕ) (s : Style) (tree : Items) : Type 0 where
   pub style-is : styleOf style ≡ some s
@@ -122,4 +126,28 @@ passed {style} {table} {client} {lent} {formula} {s} {tree} h =
       words-enough = good-tables .2;
       none-missing = none-missing;
       fits = fit-passed room (setList F noSides s tree) (listFits F noSides s tree) tested-fit;
+    }
+
+-- ---- the page of an accepted formula
+
+-- these nodes, in a box of this size, are what is measured and what setting leaves at the front of a buffer that has room for them
+pub record Page (style : ℕ) (table client : List ℕ) (lent : Lent) (formula : List ℕ) (size : Size) (nodes : List Node) : Type 0 where
+  pub size-is : measured style table client lent formula .size ≡ size
+  pub count-is : measured style table client lent formula .count ≡ length nodes
+  pub buffer-is : (buffer : List ℕ) →
+      let bytes = bytesInNode * measured style table client lent formula .count in
+      bytes ≤ length buffer → bufferAfter style table client lent formula buffer ≡ bytesOf nodes ++ drop bytes buffer
+
+pub page-of : {style : ℕ} {table client : List ℕ} {lent : Lent} {formula : List ℕ} {s : Style} {tree : Items} →
+    Accepted style table client lent formula s tree →
+    let b = setList (fontWith table client) noSides s tree in
+    Page style table client lent formula (b .size) (b .nodes)
+page-of {style} {table} {client} {lent} {formula} {s} {tree} h =
+    let b = setList (fontWith table client) noSides s tree in
+    let is = boxed-of noSides style table client lent formula s tree (h .style-is) (h .reads) (passed h) in
+    let answer = measured-boxed noSides style table client lent formula b is in
+    record {
+      size-is = ap (λ (a : Answered). a .size) answer;
+      count-is = ap (λ (a : Answered). a .count) answer;
+      buffer-is = buffer-boxed noSides style table client lent formula b is;
     }

@@ -6,18 +6,23 @@
 -- unseen atoms, which is an Ord, with a blank for the absent delimiter on its left. Of request 6, `client-set`: P12's operator, behind an a,
 -- takes its successor from the client's table, and the a in it, of script size, from ours; `client-refused`: refusal 8, where it stands
 -- among the others. Of request 7, `why-hold`: what decided the shifts of P7 to P10 and of items that each other quantity decided, and
--- refusal 9. Of request 9, `words-refused`: the same of refusal 19; `client-index`: the front of the words for the client's index.
+-- refusal 9. Of request 9, `words-refused`: the same of refusal 19; `client-index`: the front of the words for the client's index. Of
+-- request 12, `inks-hold`: the ink of five pages.
 -- Assumes nothing.
 use mathlib.Core.Path.{_≡_, refl}
 use mathlib.Core.List.{List, [], _∷_, _++_, map}
+use mathlib.Core.Option.{Option, none, some}
 use Prim.Native.Nat.{ℕ}
 use lib.IntN.{ℤ, pos, negℤ}
 use lib.ListN.{take}
+use Rattle.font.specs.Font.{Font, fontWith}
 use Rattle.font_index.specs.Index.{indexWords, each}
+use Rattle.boxes.specs.Boxes.{Size}
 use Rattle.nodes.specs.Nodes.{Node, glyph, rule}
 use Rattle.reasons.specs.declared.Reason.the-variants.{Drop, Sigma, XHeight, Gap, Psi, Clearance}
 use Rattle.reasons.specs.Reasons.{ShiftReason, shiftBy, unshifted}
 use Rattle.setting.specs.Setting.{Box}
+use Rattle.setting.specs.Ink.{Ink, inkOf}
 use Rattle.answers.specs.Lent.{lends, clientIndexAfter}
 use Rattle.answers.specs.Answers.{Result, boxed, refused, resultOf, Answered, measured, setting, bufferAfter}
 use Rattle.answers.specs.Why.{WhyAnswered, whyRefusal, whyOf}
@@ -279,6 +284,8 @@ questions =
     -- behind another item, and in a list
     ∷ ask (plus ++ fraction 0) T 9 (because (shiftBy Sigma (pos 400)) (shiftBy Sigma (pos 350)))
     ∷ ask (alone ord (sublist 13 (atom ord f a a))) T 7 (because (shiftBy Sigma (pos 370)) (shiftBy Sigma (pos 250)))
+    -- behind a style change, D in T: σ13
+    ∷ ask (83 ∷ 84 ∷ D ∷ atom ord a a empty) T 3 (because (shiftBy Sigma (pos 420)) unshifted)
     -- in the list that a choice takes
     ∷ ask chosenForD D 5 (because (shiftBy Sigma (pos 420)) (shiftBy Sigma (pos 250)))
     -- 9: in one that it does not take
@@ -390,3 +397,55 @@ pub underlined-buffer :
     ∷ 9 ∷ 9 ∷ []
 unfolding definitions benchTable underlined buffer
 underlined-buffer = refl
+
+-- ---- the ink of a page, from bottom to top, in the order of the nodes
+
+abbrev ink : ℤ → ℤ → Option Ink
+ink bottom top = some record { bottom = bottom; top = top }
+
+pub record InkExample : Type 0 where
+  formula : List ℕ
+  style : ℕ
+  size : Size
+  inks : List (Option Ink)
+
+abbrev inked : List ℕ → ℕ → ℤ → ℤ → ℤ → List (Option Ink) → InkExample
+inked formula style width height depth inks =
+    record { formula = formula; style = style; size = record { width = width; height = height; depth = depth }; inks = inks }
+
+pub pages : List InkExample
+pages =
+    -- P8 within a list: the scripts are 190 apart, and four rules are 160
+    inked (alone ord (sublist 13 (atom ord f a a))) T (pos 33868) (pos 800) (pos 250)
+    (ink (minus 200) (pos 700) ∷ ink (pos 370) (pos 800) ∷ ink (minus 250) (pos 180) ∷ [])
+    -- P9 within a list: 160 apart
+    ∷ inked (alone ord (sublist 13 (atom ord f a a))) T′ (pos 33868) (pos 774) (pos 246)
+    (ink (minus 200) (pos 700) ∷ ink (pos 344) (pos 774) ∷ ink (minus 246) (pos 184) ∷ [])
+    -- P10 within a superscript, whose baseline is 457 up: the bar's middle is 250 above that, 130 are free over it and 150 under it, and φ is 40
+    ∷ inked (atom ord a (sublist 9 (fraction 0)) empty) T (pos 191054) (pos 1287) (pos 0)
+    (ink (pos 0) (pos 430) ∷ ink (pos 857) (pos 1287) ∷ ink (pos 687) (pos 727) ∷ ink (pos 107) (pos 537) ∷ [])
+    -- a root in a fence: the root's sign is the lowest, and the delimiters are the highest
+    ∷ inked (fence sum sum (sublist 11 (root a empty)) empty) T (pos 3500) (pos 750) (pos 260)
+    (ink (minus 250) (pos 750)
+    ∷ ink (minus 260) (pos 740)
+    ∷ ink (pos 740) (pos 740)
+    ∷ ink (pos 0) (pos 430)
+    ∷ ink (minus 250) (pos 750)
+    ∷ [])
+    -- a superscript that is an empty list has no ink
+    ∷ inked (atom ord a (sublist 0 []) a) T (pos 33768) (pos 430) (pos 250) (ink (pos 0) (pos 430) ∷ ink (minus 250) (pos 180) ∷ [])
+    ∷ []
+
+abbrev inksOf : Font → Result → Option Size × List (Option Ink)
+inksOf F (boxed b) = (some (b .size), map (inkOf F) (b .nodes))
+inksOf F (refused number place) = (none, [])
+
+pub inksComputed : InkExample → Option Size × List (Option Ink)
+inksComputed e = inksOf (fontWith benchTable []) (resultOf (e .style) benchTable [] justEnough (e .formula))
+
+pub inksStated : InkExample → Option Size × List (Option Ink)
+inksStated e = (some (e .size), e .inks)
+
+pub inks-hold : map inksComputed pages ≡ map inksStated pages
+unfolding definitions benchTable pages inksComputed inksStated inkOf
+inks-hold = refl

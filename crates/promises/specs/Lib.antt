@@ -10,6 +10,9 @@ pub mod FieldBytes
 pub mod ListFields
 pub mod EveryField
 pub mod Demand3
+pub mod ItemsOnPage
+pub mod FoundItems
+pub mod Clearances
 pub mod AsBefore
 pub mod OursAlone
 pub mod Formats
@@ -22,4 +25,5 @@ pub mod Examples
 pub mod FieldExample
 pub mod FieldInstances
 pub mod LongField
+pub mod ItemExample
 pub mod Promises

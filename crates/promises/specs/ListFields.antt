@@ -7,7 +7,8 @@
 --     SetItem        an item that is set: an item of the list, or one of the list that a C4 takes
 --     FieldAt        an item's fields stand one behind the other, the first behind the opening; each has its style, and its sides: the
 --                    first field of an item that must hold a list, a fence, has a fence's, and no other has any (`field-sides`, `step-sides`)
---     ListField      a list field is the byte 2 and two bytes of length, or the byte 3 and four, and that many bytes of items
+--     ListField      a list field is the byte 2 and two bytes of length, or the byte 3 and four, and that many bytes of items; so begins
+--                    what the reading takes for one (`list-field`)
 --     OwnListField   a list field of an item that is set in the list itself
 --     ListFieldAt    a list field at any depth: the items within a list field are looked at in the same way
 -- Every one of them is reached by a path (`reached`): the formula's tree is the path filled with the tree of the field's bytes, and the
@@ -22,16 +23,17 @@ use native.Mathlib.Omega.{arith}
 use lib.Dec.{leb, eqb}
 use lib.ListN.{length, take, drop, length-drop}
 use lib.Seq.{drop-drop}
-use Rattle.laws.specs.Truths.{by-test}
+use Rattle.laws.specs.Truths.{by-test, either, both-true}
+use borrow.Author.Tests.{eqb-true}
 use Rattle.scaled.specs.declared.Sp.{Sp}
 use Rattle.words.specs.Words.{littleEndian}
 use Rattle.formula.specs.declared.Kind.{Kind}
 use Rattle.formula.specs.declared.Opening.{Opening}
 use Rattle.formula.specs.declared.Opening.the-variants.{Fields, Kern, Restyle, Choice}
 use Rattle.formula.specs.declared.FieldHead.{FieldHead}
-use Rattle.formula.specs.declared.FieldHead.the-variants.{Sublist, CutSublist}
+use Rattle.formula.specs.declared.FieldHead.the-variants.{Sublist, CutSublist, NoField, Empty, Symbol}
 use Rattle.formula.specs.Tree.{Items, Item, Field, nil, cons, noad, empty, symbol, list, openingBytes, holdsList, shortOpeningBytes, longOpeningBytes, listOpeningBytes, sublistBytes, itemsBytes, fieldBytes}
-use Rattle.formula.specs.Heads.{openingOf, sublistHead, listHead, longListHead, fieldHeadUnder, fieldHead}
+use Rattle.formula.specs.Heads.{openingOf, sublistHead, listHead, longListHead, fieldHeadUnder, fieldHead, greatestFamily, symbolHead}
 use Rattle.formula.specs.HeadLaws.{list-opening, opening-some, contents-shorter, opening-fits}
 use Rattle.formula.specs.Places.{Readable, treeOf, headBytes, contents, fieldOf, GoodField, listOf, choiceLists, hasThird, openedBytes, headAt, second, third, listPlace, itemSize, fieldIn, thirdIn, listIn, itemOf}
 use Rattle.formula.specs.PlacesLaws.{tree-none, items-bytes, Noad, noad-at, choice-at, step, third-good, list-good-field, item-bytes, list-bytes, second-field, third-field}
@@ -43,7 +45,7 @@ use Rattle.arrange.specs.Arrange.{firstStyle, secondStyle, thirdStyle, firstMan
 use Rattle.setting.specs.Setting.{taken, styleAfter, styleBehind, Sides, noSides, fenceSides, sidesOf}
 use Rattle.setting.specs.SettingLaws.{heldSides, first-sides, taken-all, styleBehind-choice}
 use Rattle.setting.specs.Lines.{styleAfter-join}
-use Rattle.setting.specs.Paths.{Arm, inFirst, inSecond, inThird, holding, fieldStyle, fieldManner, fieldPlace, join, choiceWith, listPlace as placeAmong, Spot, among, within, put, itemsBefore, spotPlace, Step, listWith, itemStyle, stepStyle, stepSides, stepPlace, Path, whole, into, fill, styleAt, sidesAt, placeOf}
+use Rattle.setting.specs.Paths.{Arm, inFirst, inSecond, inThird, holding, fieldStyle, fieldManner, fieldPlace, HasField, join, choiceWith, listPlace as placeAmong, Spot, among, within, put, itemsBefore, spotPlace, Step, listWith, itemStyle, stepStyle, stepSides, stepPlace, Path, whole, into, fill, styleAt, sidesAt, placeOf, HasFields}
 use Rattle.promises.specs.FieldBytes.{PartAt, part-behind, part-within}
 
 -- ---- what stands where
@@ -191,6 +193,51 @@ list-read s field (listField a b rest) good =
 list-read s field (longListField a b c d rest) good =
     sublist-read (3 ∷ a ∷ b ∷ c ∷ d ∷ rest) longOpeningBytes (littleEndian 4 (a ∷ b ∷ c ∷ d ∷ [])) refl good
 
+-- a list field begins so
+ListShown : List ℕ → FieldHead → Type 0
+ListShown s NoField = Unit {0}
+ListShown s Empty = Unit {0}
+ListShown s (Symbol family code) = Unit {0}
+ListShown s (Sublist opening n) = ListField s (contents opening n s)
+ListShown s CutSublist = Unit {0}
+
+list-shown : (s : List ℕ) → ListShown s (fieldHead s)
+unfolding fieldHeadUnder symbolHead listHead longListHead sublistHead ListShown
+list-shown [] = tt
+list-shown (kind ∷ s) =
+    let P = ListShown (kind ∷ s) in
+    either P (eqb kind 0) (λ e. tt) (λ e.
+    either P (eqb kind 1) (λ e. symbols s) (λ e.
+    either P (eqb kind 2) (λ e. subst (λ (k : ℕ). ListShown (k ∷ s) (listHead s)) (sym (eqb-true kind 2 e)) (short s)) (λ e.
+    either P (eqb kind 3 && true)
+    (λ e. subst (λ (k : ℕ). ListShown (k ∷ s) (longListHead s)) (sym (eqb-true kind 3 (both-true e .0))) (long s)) (λ e. tt))))
+  where
+    symbols : (t : List ℕ) → ListShown (kind ∷ s) (symbolHead t)
+    symbols [] = tt
+    symbols (family ∷ []) = tt
+    symbols (family ∷ code ∷ t) = either (ListShown (kind ∷ s)) (leb family greatestFamily) (λ e. tt) (λ e. tt)
+
+    sublists : (t : List ℕ) (opening n : ℕ) (rest : List ℕ) → ListField t (contents opening n t) → ListShown t (sublistHead opening n rest)
+    sublists t opening n rest f =
+        either (ListShown t) (eqb opening (listOpeningBytes n) && leb n (length rest)) (λ e. f) (λ e. tt)
+
+    short : (t : List ℕ) → ListShown (2 ∷ t) (listHead t)
+    short [] = tt
+    short (a ∷ []) = tt
+    short (a ∷ b ∷ t) = sublists (2 ∷ a ∷ b ∷ t) shortOpeningBytes (littleEndian 2 (a ∷ b ∷ [])) t (listField a b t)
+
+    long : (t : List ℕ) → ListShown (3 ∷ t) (longListHead t)
+    long [] = tt
+    long (a ∷ []) = tt
+    long (a ∷ b ∷ []) = tt
+    long (a ∷ b ∷ c ∷ []) = tt
+    long (a ∷ b ∷ c ∷ d ∷ t) =
+        sublists (3 ∷ a ∷ b ∷ c ∷ d ∷ t) longOpeningBytes (littleEndian 4 (a ∷ b ∷ c ∷ d ∷ [])) t (longListField a b c d t)
+
+pub list-field : (s : List ℕ) (opening n : ℕ) → fieldHead s ≡ Sublist opening n → ListField s (contents opening n s)
+unfolding ListShown
+list-field s opening n e = subst (ListShown s) e (list-shown s)
+
 -- ---- the list that a choice takes
 
 pub record TakenRead (u : Style) (s inner : List ℕ) : Type 0 where
@@ -291,13 +338,13 @@ items-before (pastChoice {u} {v} {w} {s} {inner} at e f t i) r =
 
 -- ---- an item that is set: a spot
 
-record SpotOf (u : Style) (s : List ℕ) (at : ℕ) (v : Style) (item : List ℕ) (kind : Kind) : Type 0 where
-  spot : Spot
-  noad : Noad item kind
-  tree : treeOf s ≡ put u spot (itemOf item (Fields kind))
-  style : styleAfter u (itemsBefore spot) ≡ v
-  place : spotPlace u spot (itemOf item (Fields kind)) ≡ at
-  part : PartAt s at item
+pub record SpotOf (u : Style) (s : List ℕ) (at : ℕ) (v : Style) (item : List ℕ) (kind : Kind) : Type 0 where
+  pub spot : Spot
+  pub noad : Noad item kind
+  pub tree : treeOf s ≡ put u spot (itemOf item (Fields kind))
+  pub style : styleAfter u (itemsBefore spot) ≡ v
+  pub place : spotPlace u spot (itemOf item (Fields kind)) ≡ at
+  pub part : PartAt s at item
 
 -- in the list that a choice takes
 spot-within : (u v w : Style) (s inner item : List ℕ) (at k : ℕ) (kind : Kind) → Behind u s at v → openingOf (drop at s) ≡ Choice →
@@ -321,7 +368,7 @@ spot-within u v w s inner item at k kind h e t m =
       part = part-within s inner item (at + place) k (part-within s q inner at place (part-behind s at) (t .part)) (m .part);
     }
 
-spot-of : {u : Style} {s : List ℕ} {at : ℕ} {v : Style} {item : List ℕ} → SetItem u s at v item → Readable s → (kind : Kind) →
+pub spot-of : {u : Style} {s : List ℕ} {at : ℕ} {v : Style} {item : List ℕ} → SetItem u s at v item → Readable s → (kind : Kind) →
     openingOf item ≡ Fields kind → SpotOf u s at v item kind
 spot-of (inList {s = s} {at} i) r kind e =
     let h = items-before i r in
@@ -348,6 +395,7 @@ record Held (s : List ℕ) (kind : Kind) (u : Style) (at : ℕ) (v : Style) (sid
   is : itemOf s (Fields kind) ≡ holding kind arm (treeOf field)
   style : fieldStyle kind arm u ≡ v
   between : sidesOf (fieldManner kind arm u) ≡ sides
+  has : HasField kind arm
   place : fieldPlace kind arm ≡ at
   read : ListRead (drop at s) field
 
@@ -362,6 +410,7 @@ held s kind u at v sides field n inOne f =
       is = ap (λ (x : Field). noad kind x y z) (r .is);
       style = refl;
       between = refl;
+      has = tt;
       place = refl;
       read = r;
     }
@@ -374,6 +423,7 @@ held s kind u at v sides field n inTwo f =
       is = ap (λ (y : Field). noad kind x y z) (r .is);
       style = refl;
       between = refl;
+      has = tt;
       place = second-field s kind n;
       read = r;
     }
@@ -386,6 +436,7 @@ held s kind u at v sides field n (inThree has) f =
       is = ap (λ (b : Bool). noad kind x y (thirdIn s b (third s kind))) has ∙ ap (noad kind x y) (r .is);
       style = refl;
       between = refl;
+      has = has;
       place = third-field s kind n;
       read = r;
     }
@@ -398,6 +449,7 @@ record Entered (u : Style) (s : List ℕ) (place : ℕ) (v : Style) (sides : Sid
   tree : treeOf s ≡ listWith u by (treeOf field)
   style : stepStyle u by ≡ v
   between : stepSides u by ≡ sides
+  has : HasField (by .kind) (by .arm)
   there : stepPlace u by (treeOf field) ≡ place + listOpeningBytes (length field)
   part : PartAt s (stepPlace u by (treeOf field)) field
 
@@ -418,6 +470,7 @@ entered u s place v sides field r f =
       tree = h .tree ∙ ap (put u (h .spot)) (g .is);
       style = ap (fieldStyle (f .kind) (g .arm)) (h .style) ∙ g .style;
       between = ap (λ (w : Style). sidesOf (fieldManner (f .kind) (g .arm) w)) (h .style) ∙ g .between;
+      has = g .has;
       there = omega (arith, there, f .place-is);
       part =
           subst (λ (x : ℕ). PartAt s x field) there
@@ -435,6 +488,7 @@ pub record Reached (u : Style) (formula : List ℕ) (place : ℕ) (v : Style) (s
   pub tree : treeOf formula ≡ fill u (into p t) (treeOf field)
   pub style : styleAt u (into p t) ≡ v
   pub between : sidesAt u (into p t) ≡ sides
+  pub has-fields : HasFields (into p t)
   pub there : placeOf u (into p t) (treeOf field) ≡ place + listOpeningBytes (length field)
   pub part : PartAt formula (placeOf u (into p t) (treeOf field)) field
 
@@ -451,6 +505,7 @@ module _ (u : Style) (formula : List ℕ) (r : Readable formula) where
         tree = e .tree;
         style = e .style;
         between = e .between;
+        has-fields = (tt, e .has);
         there = omega (arith, e .there);
         part = subst (λ (k : ℕ). PartAt formula k field) start (e .part);
       }
@@ -467,6 +522,7 @@ module _ (u : Style) (formula : List ℕ) (r : Readable formula) where
         tree = o .tree ∙ ap (fill u p) (e .tree);
         style = e .style;
         between = e .between;
+        has-fields = (o .has-fields, e .has);
         there = omega (arith, o .there, e .there, outer);
         part =
             subst (λ (k : ℕ). PartAt formula (k + step) field) outer

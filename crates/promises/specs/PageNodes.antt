@@ -12,11 +12,10 @@ use mathlib.Core.Option.{Option, none, some}
 use Prim.Native.Nat.{ℕ, _+_, _≤_}
 use native.Mathlib.Omega.{arith}
 use lib.IntN.{ℤ, pos, _+ℤ_}
-use Rattle.laws.specs.Options.{none-some}
 use Rattle.laws.specs.Truths.{both-true as both}
 use Rattle.scaled.specs.Signed.{above, below, own, parts-add, parts-max}
 use Rattle.words.specs.WordLaws.{Bytes}
-use Rattle.font.specs.Font.{Font, Metrics, fontWith}
+use Rattle.font.specs.Font.{Font, fontWith}
 use Rattle.font.specs.Table.{goodTable, goodClient}
 use Rattle.font.specs.FontLaws.{sound-tables}
 use Rattle.font.specs.FairFont.{Held, Fair, fair-font}
@@ -25,7 +24,6 @@ use Rattle.formula.specs.declared.Bar.the-variants.{Default, Without}
 use Rattle.formula.specs.declared.Base.{Base}
 use Rattle.formula.specs.declared.Base.the-variants.{Atom, Over, Under, Root, Fence}
 use Rattle.formula.specs.declared.Class.{Class}
-use Rattle.formula.specs.declared.Delimiter.{Delimiter}
 use Rattle.formula.specs.declared.Kind.{Kind}
 use Rattle.formula.specs.declared.Kind.the-variants.{Scripted, Fraction}
 use Rattle.formula.specs.Heads.{isOp}
@@ -37,10 +35,10 @@ use Rattle.boxes.specs.declared.styles.Style.{Style}
 use Rattle.boxes.specs.Styles.{styleOf, fontSize}
 use Rattle.boxes.specs.Parameters.{Parameters, axisHeight, ruleThickness}
 use Rattle.boxes.specs.Boxes.{Size, Shape, sizeOf, given, Offset, Rule, Own, noOwn, ruledBehind}
-use Rattle.delimiters.specs.Delimiters.{Sign, signSize, signNodes, Signs, noSigns, signFor}
-use Rattle.delimiters.specs.FoundSigns.{IfThere, sign-there}
-use Rattle.roots.specs.Roots.{signExtent, root}
-use Rattle.fences.specs.Fences.{Fence as FenceParts, fenceExtent, fenceOf}
+use Rattle.delimiters.specs.Delimiters.{Sign, signSize, signNodes, Signs}
+use Rattle.delimiters.specs.FoundSigns.{IfThere}
+use Rattle.roots.specs.Roots.{root}
+use Rattle.fences.specs.Fences.{Fence as FenceParts, fenceOf}
 use Rattle.spacing.specs.Classes.{Neighbour, classOf, changedClass}
 use Rattle.spacing.specs.Spacing.{spaceBefore}
 use Rattle.limits.specs.Limits.{hasLimits}
@@ -53,8 +51,9 @@ use Rattle.arrange_rules.specs.ArrangeLaws.{atom-own, set-own}
 use Rattle.nodes.specs.Nodes.{moved, bytesOf}
 use Rattle.nodes.specs.Bounds.{greatestLength, within}
 use Rattle.nodes.specs.HullLaws.{within-true}
-use Rattle.setting.specs.Setting.{Box, Line, Symbol, FieldBox, found, successor, enlarged, symbolIn, symbolFieldBox, signsIn, movedBy, ownNodes, arrangedIn, itemNodes, itemBox, taken, styleBehind, nextClass, placed, Sides, sidesOf, start, closed, isEnlarged, setItems, setItem, setField, setList}
+use Rattle.setting.specs.Setting.{Box, Line, Symbol, FieldBox, symbolIn, symbolFieldBox, signsIn, movedBy, ownNodes, arrangedIn, itemNodes, itemBox, taken, styleBehind, nextClass, placed, Sides, sidesOf, start, closed, isEnlarged, setItems, setItem, setField, setList}
 use Rattle.setting.specs.SettingLaws.{setItem-style}
+use Rattle.setting.specs.FoundSymbols.{SymbolThere, symbol-there, signs-there}
 use Rattle.setting.specs.Missing.{missingItems}
 use Rattle.setting.specs.Fitting.{sizeFits, boxFits, itemsFit, itemFits, fieldFits, listFits}
 use Rattle.dvi.specs.declared.forms.Form.the-variants.{Stored}
@@ -84,9 +83,6 @@ SignFair (some g) = Held (g .size) (g .family) (g .code) (g .metrics)
 record SignsFair (signs : Signs) : Type 0 where
   before : SignFair (signs .before)
   behind : SignFair (signs .behind)
-
-none-found : SignsFair noSigns
-none-found = record { before = tt; behind = tt }
 
 record OwnFair (o : Own) : Type 0 where
   before : AllDrawable (ownNodes (o .before))
@@ -127,38 +123,12 @@ fence-fair f signs fair =
 module _ (F : Font) (fair : Fair F) where
   -- ---- a symbol
 
-  There : ℕ → ℕ → Symbol → Type 0
-  There size family y = F .symbol size family (y .code) ≡ some (y .metrics)
-
-  -- what is set is a symbol of the font
   module _ (size family : ℕ) where
-    found-there : (code : ℕ) (o : Option Metrics) {y : Symbol} → F .symbol size family code ≡ o → found code o ≡ some y → There size family y
-    unfolding There found
-    found-there code none is e = absurd (none-some e)
-    found-there code (some m) {y} is e = let same : record { code = code; metrics = m } ≡ y = cc in rw (← same) is
-
-    next-there : (x : Symbol) (o : Option ℕ) {y : Symbol} → There size family x → successor F size family x o ≡ some y → There size family y
-    unfolding successor
-    next-there x none {y} there e = let same : x ≡ y = cc in rw same at there
-    next-there x (some next) there e = found-there next (F .symbol size family next) refl e
-
-    enlarged-there : (enlarge : Bool) (o : Option Symbol) {y : Symbol} → ((x : Symbol) → o ≡ some x → There size family x) →
-        enlarged F size family enlarge o ≡ some y → There size family y
-    unfolding enlarged
-    enlarged-there enlarge none there e = absurd (none-some e)
-    enlarged-there true (some x) there e = next-there x (x .metrics .successor) (there x refl) e
-    enlarged-there false (some x) {y} there e = there y e
-
-    symbol-there : (enlarge : Bool) (code : ℕ) (y : Symbol) → symbolIn F size enlarge family code ≡ some y → There size family y
-    unfolding symbolIn
-    symbol-there enlarge code y e =
-        enlarged-there enlarge (found code (F .symbol size family code)) (λ x f. found-there code (F .symbol size family code) refl f) e
-
-    symbol-fair : (o : Option Symbol) → ((y : Symbol) → o ≡ some y → There size family y) → FieldBoxFair (symbolFieldBox size family o)
-    unfolding There symbolFieldBox
+    symbol-fair : (o : Option Symbol) → SymbolThere F size family o → FieldBoxFair (symbolFieldBox size family o)
+    unfolding symbolFieldBox
     symbol-fair none there = record { nodes-are = tt; narrow = omega arith }
     symbol-fair (some y) there =
-        let h = fair .held size family (y .code) (y .metrics) (there y refl) in
+        let h = fair .held size family (y .code) (y .metrics) there in
         record {
           nodes-are = ((h .size-is, h .family-is, h .code-is), tt);
           narrow = omega (arith, parts-add (own (pos (y .metrics .width))) (own (pos (y .metrics .italic))), h .width-is, h .italic-is);
@@ -181,19 +151,11 @@ module _ (F : Font) (fair : Fair F) where
     there-fair none there = tt
     there-fair (some g) there = fair .held (g .size) (g .family) (g .code) (g .metrics) there
 
-    for-fair : (d : Delimiter) (needed : ℤ) → SignFair (signFor F (fontSize s) d needed)
-    for-fair d needed = there-fair (signFor F (fontSize s) d needed) (sign-there F (fontSize s) d needed)
-
     signs-fair : (kind : Kind) (x : Shape) → SignsFair (signsIn F s kind x)
-    unfolding signsIn
-    signs-fair (Scripted (Atom class limits)) x = none-found
-    signs-fair (Scripted Over) x = none-found
-    signs-fair (Scripted Under) x = none-found
-    signs-fair (Scripted (Root d)) x = record { before = for-fair d (signExtent p s (sizeOf x)); behind = tt }
-    signs-fair (Scripted (Fence left right)) x =
-        let needed = fenceExtent p s (sizeOf x) in
-        record { before = for-fair left needed; behind = for-fair right needed }
-    signs-fair (Fraction bar) x = none-found
+    signs-fair kind x =
+        let signs = signsIn F s kind x in
+        let there = signs-there F s kind x in
+        record { before = there-fair (signs .before) (there .before); behind = there-fair (signs .behind) (there .behind) }
 
     nucleus-fair : (base : Base) (signs : Signs) (subscript : Bool) (x : Shape) → SignsFair signs → Narrow (sizeOf x .width) →
         OwnFair (nucleusOf p s base signs subscript x .own)
@@ -323,7 +285,7 @@ module _ (F : Font) (fair : Fair F) where
     field-fair empty s manner t = record { nodes-are = tt; narrow = omega arith }
     field-fair (symbol family code) s manner t =
         let enlarge = isEnlarged manner in
-        symbol-fair (fontSize s) family (symbolIn F (fontSize s) enlarge family code) (symbol-there (fontSize s) family enlarge code)
+        symbol-fair (fontSize s) family (symbolIn F (fontSize s) enlarge family code) (symbol-there F (fontSize s) family enlarge code)
     field-fair (list l) s manner t =
         let sides = sidesOf manner in
         let fits = both {p = boxFits (setList F sides s l)} t in

@@ -58,6 +58,13 @@ pub use Rattle.promises.specs.Examples.{client-set, client-refused}
 
 -- of every acceptance: what is named is the shift that the setter used, none of its stage is larger, and of equals it is the first
 pub use Rattle.promises.specs.WhyLaws.{WhyTrue, why-true}
+-- and on the page: what is asked about is the item that is set at the place; its superscript or numerator stands on the page as far above its
+-- baseline as the shift up says, its subscript or denominator as far below as the shift down
+pub use Rattle.promises.specs.WhyLaws.{WhyOnPage, why-on-page}
+-- asking finds exactly the items that are set, each in the style current at it: by the place of the first byte (and `picks` of `ItemStands`,
+-- below), and in the tree
+pub use Rattle.promises.specs.FoundItems.{FoundAt, found-at}
+pub use Rattle.setting.specs.PickedSet.{set-picked, picked-set}
 pub use Rattle.promises.specs.Examples.{why-hold}
 -- ---- request 8: long formulas
 
@@ -75,6 +82,17 @@ pub use Rattle.promises.specs.LentWords.{setting-leaves, why-leaves, unp
 -- 19 where words are few, and nowhere else; with words enough their number makes no difference
 pub use Rattle.promises.specs.LentWords.{few-refused, few-why, only-few, only-few-set, only-few-why, same-result, same-measured, same-set, same-why}
 pub use Rattle.promises.specs.Examples.{words-refused, client-index}
+-- ---- request 12: the finished page
+
+-- every item with fields of what is set, by the place of its first byte: of the nodes in the buffer some stand before it, some after it, and
+-- its own between them, moved by one distance, each part where the rules put it, in the style current at the item
+pub use Rattle.promises.specs.ItemsOnPage.{ItemSetAt, ItemStands, item-stands}
+-- all ink is between the depth and the height that are answered; scripts keep four rules apart, a fraction's bar and its parts keep φ apart, and
+-- the bar's middle is within half a scaled point of the axis
+pub use Rattle.promises.specs.Clearances.{ItemKeeps, Clearances, clearances}
+pub use Rattle.promises.specs.Examples.{inks-hold}
+-- instances, from bytes: behind a style change, and in a list
+pub use Rattle.promises.specs.ItemExample.{behind-style, styled-up, behind-style-why, in-list}
 -- ---- request 14: nodes as the body of a page
 
 -- what is written reads back to the same bytes, and what reads is what the writer writes

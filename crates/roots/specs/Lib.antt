@@ -2,3 +2,4 @@
 pub mod Roots
 pub mod Values
 pub mod Bounds
+pub mod HoldingLaws

@@ -2,3 +2,4 @@
 pub mod Scripts
 pub mod Values
 pub mod Bounds
+pub mod ClearanceLaws

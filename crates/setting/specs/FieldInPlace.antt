@@ -1,6 +1,8 @@
 -- A list field in the whole, as it stands alone: demand 3 of trees, but for what is accepted (`FieldAlone`).
 --     size-used        the rules arrange the item that holds the field from the size of the list set alone, and see
 --                      nothing else of the list
+--     list-in-place    a list's nodes are a frame around those of an item at a spot of it; the frame goes by the spot, the item's kind and its
+--                      size, whatever its fields are (`ItemOnPage` says it of the whole)
 --     field-in-place   the whole's nodes are a frame around the nodes of the list set alone; the frame goes by the path and
 --                      the size of that list, so that another list of that size has the same frame (`same-frame`)
 -- The proof looks at the three fields of an item and never at its kind: an item comes from three shapes by `arrangedIn`, the
@@ -13,7 +15,7 @@ use mathlib.Core.Option.{none, some}
 use lib.IntN.{pos, _+ℤ_}
 use Rattle.font.specs.Font.{Font}
 use Rattle.formula.specs.declared.Kind.{Kind}
-use Rattle.formula.specs.Tree.{Items, Item, Field, nil, cons, noad, kern, restyle, choice}
+use Rattle.formula.specs.Tree.{Items, Item, Field, nil, cons, noad, kern, restyle, choice, list}
 use Rattle.boxes.specs.declared.styles.Style.{Style}
 use Rattle.spacing.specs.Classes.{Neighbour, classOf, changedClass}
 use Rattle.spacing.specs.Spacing.{spaceBefore}
@@ -21,10 +23,10 @@ use Rattle.boxes.specs.Boxes.{Size, box, Offset, Arranged, at}
 use Rattle.arrange.specs.declared.Manner.the-variants.{Plain}
 use Rattle.arrange.specs.Arrange.{firstStyle, secondStyle, thirdStyle, firstManner}
 use Rattle.nodes.specs.Nodes.{Node}
-use Rattle.setting.specs.Setting.{Box, FieldBox, Line, styleBehind, nextClass, classAt, emptyBox, start, movedBy, ownNodes, itemNodes, arrangedIn, itemBox, placed, Sides, noSides, sidesOf, closed, setItems, setItem, setField, setList}
+use Rattle.setting.specs.Setting.{Box, FieldBox, Line, styleBehind, nextClass, classAt, emptyBox, start, movedBy, arrangedIn, itemBox, placed, Sides, noSides, sidesOf, closed, setItems, setItem, setField, setList}
 use Rattle.setting.specs.SettingLaws.{taken-all, setItems-style}
-use Rattle.setting.specs.Frames.{Frame, framed, bare, nest, framed-bare, framed-nest}
-use Rattle.setting.specs.Paths.{Arm, inFirst, inSecond, inThird, holding, fieldStyle, fieldManner, itemsBefore, itemsAfter, Step, holder, listWith, itemStyle, stepStyle, stepSides, Path, whole, into, fill, styleAt, sidesAt}
+use Rattle.setting.specs.Frames.{Frame, framed, bare, nest, framed-bare, framed-nest, firstFrame, secondFrame, thirdFrame, first-framed, second-framed, third-framed}
+use Rattle.setting.specs.Paths.{Arm, inFirst, inSecond, inThird, holding, fieldStyle, fieldManner, Spot, put, itemsBefore, itemsAfter, spotStyle, Step, listWith, itemStyle, stepStyle, stepSides, Path, whole, into, fill, styleAt, sidesAt}
 use Rattle.setting.specs.Lines.{setItems-join, spot-in-place}
 
 abbrev pub listFieldBox : Box → FieldBox
@@ -46,6 +48,9 @@ module _ (F : Font) (s : Style) (kind : Kind) where
   abbrev pub thirdBox : Field → FieldBox
   thirdBox z = setField F (thirdStyle s) Plain z
 
+  abbrev pub itemSet : Field → Field → Field → Box
+  itemSet x y z = itemBox F s kind (firstBox x) (secondBox y) (thirdBox z)
+
   -- what the rules make of it: the list is its size to them
   abbrev pub arrangedAround : Arm → Size → Arranged
   arrangedAround (inFirst y z) size =
@@ -57,31 +62,9 @@ module _ (F : Font) (s : Style) (kind : Kind) where
 
   -- its own nodes, and those of its other fields, around the list's
   abbrev pub itemFrame : Arm → Size → Frame
-  itemFrame (inFirst y z) size =
-      let a = arrangedAround (inFirst y z) size in
-      record {
-        before = ownNodes (a .own .before);
-        distance = a .first;
-        after = ownNodes (a .own .behind) ++ movedBy (a .second) (secondBox y .nodes) ++ movedBy (a .third) (thirdBox z .nodes);
-      }
-  itemFrame (inSecond x z) size =
-      let a = arrangedAround (inSecond x z) size in
-      record {
-        before = ownNodes (a .own .before) ++ movedBy (a .first) (firstBox x .nodes) ++ ownNodes (a .own .behind);
-        distance = a .second;
-        after = movedBy (a .third) (thirdBox z .nodes);
-      }
-  itemFrame (inThird x y) size =
-      let a = arrangedAround (inThird x y) size in
-      record {
-        before =
-            ownNodes (a .own .before)
-            ++ movedBy (a .first) (firstBox x .nodes)
-            ++ ownNodes (a .own .behind)
-            ++ movedBy (a .second) (secondBox y .nodes);
-        distance = a .third;
-        after = [];
-      }
+  itemFrame (inFirst y z) size = firstFrame (arrangedAround (inFirst y z) size) (secondBox y) (thirdBox z)
+  itemFrame (inSecond x z) size = secondFrame (arrangedAround (inSecond x z) size) (firstBox x) (thirdBox z)
+  itemFrame (inThird x y) size = thirdFrame (arrangedAround (inThird x y) size) (firstBox x) (secondBox y)
 
   -- the item around a list of the box b: the list stands in it as a part of that size
   abbrev pub itemAround : Arm → Box → Box
@@ -96,10 +79,13 @@ module _ (F : Font) (s : Style) (kind : Kind) where
   item-size (inThird x y) b = refl
 
   item-nodes : (g : Arm) (b : Box) → itemAround g b .nodes ≡ framed (itemFrame g (b .size)) (b .nodes)
-  unfolding itemBox itemNodes
-  item-nodes (inFirst y z) b = simp append-assoc
-  item-nodes (inSecond x z) b = simp append-assoc
-  item-nodes (inThird x y) b = simp (append-assoc, append-nil)
+  unfolding itemBox
+  item-nodes (inFirst y z) b =
+      first-framed (arrangedAround (inFirst y z) (b .size)) (listFieldBox b) (secondBox y) (thirdBox z)
+  item-nodes (inSecond x z) b =
+      second-framed (arrangedAround (inSecond x z) (b .size)) (firstBox x) (listFieldBox b) (thirdBox z)
+  item-nodes (inThird x y) b =
+      third-framed (arrangedAround (inThird x y) (b .size)) (firstBox x) (secondBox y) (listFieldBox b)
 
   pub item-in-place : (g : Arm) (b : Box) →
       itemAround g b ≡ sized (arrangedAround g (b .size) .size) (framed (itemFrame g (b .size)) (b .nodes))
@@ -147,28 +133,28 @@ module _ (F : Font) where
 
 -- ---- the list that holds the item, which is of the size z, between its own sides
 
-module _ (F : Font) (sides : Sides) (s : Style) (t : Step) where
+module _ (F : Font) (sides : Sides) (s : Style) (spot : Spot) (kind : Kind) where
   -- the items before it; it is the class beyond them
   abbrev pub lineBefore : Line
-  lineBefore = setItems F (some (classOf (t .kind))) (start (sides .left) s) (itemsBefore (t .spot))
+  lineBefore = setItems F (some (classOf kind)) (start (sides .left) s) (itemsBefore spot)
 
   -- the class behind it
   abbrev pub classBehind : Neighbour
-  classBehind = nextClass (itemStyle s t) (sides .right) (itemsAfter (t .spot))
+  classBehind = nextClass (spotStyle s spot) (sides .right) (itemsAfter spot)
 
   -- with the item of the box b
   abbrev pub lineUpTo : Box → Line
-  lineUpTo b = placed F classBehind lineBefore (classOf (t .kind)) b
+  lineUpTo b = placed F classBehind lineBefore (classOf kind) b
 
   -- where the item stands in the line
   abbrev pub itemOffset : Offset
   itemOffset =
-      let class = changedClass (lineBefore .left) (classOf (t .kind)) classBehind in
+      let class = changedClass (lineBefore .left) (classOf kind) classBehind in
       at (lineBefore .box .size .width +ℤ spaceBefore (F .parameter) (lineBefore .style) (lineBefore .left) class) (pos 0)
 
   -- what the items after it add
   abbrev pub lineAfter : Size → Line
-  lineAfter z = setItems F (sides .right) (withoutNodes (lineUpTo (sized z []))) (itemsAfter (t .spot))
+  lineAfter z = setItems F (sides .right) (withoutNodes (lineUpTo (sized z []))) (itemsAfter spot)
 
   abbrev pub listFrame : Size → Frame
   listFrame z = record { before = lineBefore .box .nodes; distance = itemOffset; after = lineAfter z .box .nodes }
@@ -185,61 +171,34 @@ module _ (F : Font) (sides : Sides) (s : Style) (t : Step) where
   unfolding placed
   lineUpTo-after b = simp append-nil
 
-  -- the item is an atom, and leaves the style
-  classAt-holder : (u : Style) (beyond : Neighbour) (l : Items) → classAt u beyond (holder t l) ≡ some (classOf (t .kind))
-  unfolding classAt
-  classAt-holder u beyond l = go (t .arm)
-    where
-      go : (g : Arm) → classAt u beyond (holding (t .kind) g l) ≡ some (classOf (t .kind))
-      go (inFirst y z) = refl
-      go (inSecond x z) = refl
-      go (inThird x y) = refl
-
-  styleBehind-holder : (u : Style) (l : Items) → styleBehind u (holder t l) ≡ u
-  unfolding styleBehind
-  styleBehind-holder u l = go (t .arm)
-    where
-      go : (g : Arm) → styleBehind u (holding (t .kind) g l) ≡ u
-      go (inFirst y z) = refl
-      go (inSecond x z) = refl
-      go (inThird x y) = refl
-
-  abbrev itemWith : Items → Box
-  itemWith l = itemAround F (itemStyle s t) (t .kind) (t .arm) (setList F (stepSides s t) (stepStyle s t) l)
-
   -- the item, behind the line before it
-  line-with-item : (l : Items) →
-      setItem F (nextClass (styleBehind (lineBefore .style) (holder t l)) (sides .right) (itemsAfter (t .spot))) lineBefore (holder t l)
-      ≡ lineUpTo (itemWith l)
-  line-with-item l =
-      let here : lineBefore .style ≡ itemStyle s t = setItems-style F (some (classOf (t .kind))) (start (sides .left) s) (itemsBefore (t .spot)) in
-      ap (λ (u : Style). setItem F (nextClass u (sides .right) (itemsAfter (t .spot))) lineBefore (holder t l))
-      (styleBehind-holder (lineBefore .style) l ∙ here)
-      ∙ size-used F classBehind lineBefore (t .kind) (t .arm) l
-      ∙ ap (λ (u : Style). lineUpTo (itemAround F u (t .kind) (t .arm)
-      (setList F (sidesOf (fieldManner (t .kind) (t .arm) u)) (fieldStyle (t .kind) (t .arm) u) l))) here
+  line-with-item : (x y z : Field) → setItem F classBehind lineBefore (noad kind x y z) ≡ lineUpTo (itemSet F (spotStyle s spot) kind x y z)
+  unfolding setItem
+  line-with-item x y z =
+      ap (λ (u : Style). lineUpTo (itemSet F u kind x y z)) (setItems-style F (some (classOf kind)) (start (sides .left) s) (itemsBefore spot))
 
-  line-through-item : (l : Items) →
-      setItems F (sides .right) (start (sides .left) s) (listWith s t l)
-      ≡ setItems F (sides .right) (lineUpTo (itemWith l)) (itemsAfter (t .spot))
-  unfolding setItems nextClass
-  line-through-item l =
-      let i = holder t l in
-      let rest = itemsAfter (t .spot) in
+  -- the item is an atom, and leaves the style
+  line-through-item : (x y z : Field) →
+      setItems F (sides .right) (start (sides .left) s) (put s spot (noad kind x y z))
+      ≡ setItems F (sides .right) (lineUpTo (itemSet F (spotStyle s spot) kind x y z)) (itemsAfter spot)
+  unfolding setItems nextClass classAt styleBehind
+  line-through-item x y z =
+      let i = noad kind x y z in
       let right = sides .right in
-      spot-in-place s (t .spot) i .set-is F right (sides .left) emptyBox
-      ∙ setItems-join F right (start (sides .left) s) (itemsBefore (t .spot)) (cons i rest)
-      ∙ ap (λ (n : Neighbour). setItems F right (setItems F n (start (sides .left) s) (itemsBefore (t .spot))) (cons i rest))
-      (classAt-holder (itemStyle s t) (nextClass (styleBehind (itemStyle s t) i) right rest) l)
-      ∙ ap (λ (m : Line). setItems F right m rest) (line-with-item l)
+      let rest = itemsAfter spot in
+      spot-in-place s spot i .set-is F right (sides .left) emptyBox
+      ∙ setItems-join F right (start (sides .left) s) (itemsBefore spot) (cons i rest)
+      ∙ ap (λ (u : Style). setItems F right (setItem F (nextClass u right rest) lineBefore i) rest)
+      (setItems-style F (some (classOf kind)) (start (sides .left) s) (itemsBefore spot))
+      ∙ ap (λ (m : Line). setItems F right m rest) (line-with-item x y z)
 
   line-behind-item : (b : Box) →
-      setItems F (sides .right) (lineUpTo b) (itemsAfter (t .spot))
+      setItems F (sides .right) (lineUpTo b) (itemsAfter spot)
       ≡ afterNodes (lineBefore .box .nodes ++ movedBy itemOffset (b .nodes)) (lineAfter (b .size))
   line-behind-item b =
-      ap (λ (m : Line). setItems F (sides .right) m (itemsAfter (t .spot))) (lineUpTo-after b)
+      ap (λ (m : Line). setItems F (sides .right) m (itemsAfter spot)) (lineUpTo-after b)
       ∙ setItems-after F (sides .right) (lineBefore .box .nodes ++ movedBy itemOffset (b .nodes))
-      (withoutNodes (lineUpTo (sized (b .size) []))) (itemsAfter (t .spot))
+      (withoutNodes (lineUpTo (sized (b .size) []))) (itemsAfter spot)
 
   -- the space at a list's end changes none of its nodes
   closed-after : (right : Neighbour) (ns : List Node) (line : Line) →
@@ -247,14 +206,32 @@ module _ (F : Font) (sides : Sides) (s : Style) (t : Step) where
   closed-after none ns line = refl
   closed-after (some class) ns line = refl
 
-  pub list-in-place : (l : Items) → setList F sides s (listWith s t l) ≡ listAround (itemWith l)
+  pub list-in-place : (x y z : Field) →
+      setList F sides s (put s spot (noad kind x y z)) ≡ listAround (itemSet F (spotStyle s spot) kind x y z)
   unfolding setList
-  list-in-place l =
-      let b = itemWith l in
-      ap (closed F s (sides .right)) (line-through-item l ∙ line-behind-item b)
+  list-in-place x y z =
+      let b = itemSet F (spotStyle s spot) kind x y z in
+      ap (closed F s (sides .right)) (line-through-item x y z ∙ line-behind-item b)
       ∙ closed-after (sides .right) (lineBefore .box .nodes ++ movedBy itemOffset (b .nodes)) (lineAfter (b .size))
       ∙ ap (sized (listSize (b .size)))
       (append-assoc (lineBefore .box .nodes) (movedBy itemOffset (b .nodes)) (lineAfter (b .size) .box .nodes))
+
+-- where the item holds a list
+holder-in-place : (F : Font) (sides : Sides) (s : Style) (t : Step) (l : Items) →
+    setList F sides s (listWith s t l)
+    ≡ listAround F sides s (t .spot) (t .kind)
+    (itemAround F (itemStyle s t) (t .kind) (t .arm) (setList F (stepSides s t) (stepStyle s t) l))
+unfolding setField setList
+holder-in-place F sides s t l = go (t .arm)
+  where
+    go : (g : Arm) →
+        let u = itemStyle s t in
+        setList F sides s (put s (t .spot) (holding (t .kind) g l))
+        ≡ listAround F sides s (t .spot) (t .kind)
+        (itemAround F u (t .kind) g (setList F (sidesOf (fieldManner (t .kind) g u)) (fieldStyle (t .kind) g u) l))
+    go (inFirst y z) = list-in-place F sides s (t .spot) (t .kind) (list l) y z
+    go (inSecond x z) = list-in-place F sides s (t .spot) (t .kind) x (list l) z
+    go (inThird x y) = list-in-place F sides s (t .spot) (t .kind) x y (list l)
 
 -- ---- the whole, by the path to a list of the size z within it
 
@@ -265,20 +242,22 @@ module _ (F : Font) where
     itemSize z = arrangedAround F (itemStyle s t) (t .kind) (t .arm) z .size
 
     abbrev pub stepSize : Size → Size
-    stepSize z = listSize F sides s t (itemSize z)
+    stepSize z = listSize F sides s (t .spot) (t .kind) (itemSize z)
 
     abbrev pub stepFrame : Size → Frame
-    stepFrame z = nest (listFrame F sides s t (itemSize z)) (itemFrame F (itemStyle s t) (t .kind) (t .arm) z)
+    stepFrame z =
+        nest (listFrame F sides s (t .spot) (t .kind) (itemSize z)) (itemFrame F (itemStyle s t) (t .kind) (t .arm) z)
 
     step-in-place : (l : Items) →
         let b = setList F (stepSides s t) (stepStyle s t) l in
         setList F sides s (listWith s t l) ≡ sized (stepSize (b .size)) (framed (stepFrame (b .size)) (b .nodes))
     step-in-place l =
         let b = setList F (stepSides s t) (stepStyle s t) l in
-        list-in-place F sides s t l
-        ∙ ap (listAround F sides s t) (item-in-place F (itemStyle s t) (t .kind) (t .arm) b)
+        holder-in-place F sides s t l
+        ∙ ap (listAround F sides s (t .spot) (t .kind)) (item-in-place F (itemStyle s t) (t .kind) (t .arm) b)
         ∙ ap (sized (stepSize (b .size)))
-        (framed-nest (listFrame F sides s t (itemSize (b .size))) (itemFrame F (itemStyle s t) (t .kind) (t .arm) (b .size)) (b .nodes))
+        (framed-nest (listFrame F sides s (t .spot) (t .kind) (itemSize (b .size)))
+        (itemFrame F (itemStyle s t) (t .kind) (t .arm) (b .size)) (b .nodes))
 
   module _ (s : Style) where
     abbrev pub sizeAround : Path → Size → Size

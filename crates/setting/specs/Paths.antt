@@ -1,19 +1,23 @@
 -- Where a list field stands in a formula.
 --     Arm      one field of an item, with the other two
---     Spot     where an item stands in a list: among its items, or at a spot in the list that one of its choices takes
+--     Spot     where an item stands in a list: among its items, or at a spot in the list that one of its choices takes;
+--              `spotStyle` is the style current at it, `spotPlace` its place in the list's bytes
 --     Step     from a list into a field of the item at a spot of it
 --     Path     from the formula to a list within it: no step at all, or one step more from the list at a path
 --     fill s p l     the formula that has the list l at the path p, where the formula is in the style s, by which its choices take
 --                    their lists; every formula with a list field that is set is one in this way
 --     styleAt s p    the style that the rules give the list at p, from the style current at the item that holds it
 --     sidesAt s p    the neighbours that it sees on its sides, though they are not in it: those of a fence, or none
+--     HasFields p    each step of p goes into a field that its item has, as it does in what reads: a fraction has no third one
 --     placeOf s p l  the place of that list's first item in the bytes of the formula, which depends on how long the lists around it are
 -- An item's kind goes along as it is: no function here looks at it but through the rules' own.
 -- Assumes nothing.
+use mathlib.Core.Path.{_≡_}
+use mathlib.Core.Bool.{true}
 use Prim.Native.Nat.{ℕ, _+_}
 use Rattle.formula.specs.declared.Kind.{Kind}
 use Rattle.formula.specs.Tree.{Items, Item, Field, nil, cons, noad, choice, list, openingBytes, choiceOpeningBytes, listOpeningBytes, itemsBytes}
-use Rattle.formula.specs.Places.{secondField, thirdField, secondList, thirdList, fourthList}
+use Rattle.formula.specs.Places.{hasThird, secondField, thirdField, secondList, thirdList, fourthList}
 use Rattle.boxes.specs.declared.styles.Level.{Level}
 use Rattle.boxes.specs.declared.styles.Level.the-variants.{Display, Text, Script, Scriptscript}
 use Rattle.boxes.specs.declared.styles.Style.{Style}
@@ -50,6 +54,12 @@ abbrev pub fieldPlace : Kind → Arm → ℕ
 fieldPlace kind (inFirst y z) = openingBytes kind
 fieldPlace kind (inSecond x z) = secondField kind x
 fieldPlace kind (inThird x y) = thirdField kind x y
+
+-- an item has that field: a fraction has no third
+abbrev pub HasField : Kind → Arm → Type 0
+HasField kind (inFirst y z) = Unit {0}
+HasField kind (inSecond x z) = Unit {0}
+HasField kind (inThird x y) = hasThird kind ≡ true
 
 -- ---- where an item stands in a list
 
@@ -98,6 +108,10 @@ spotPlace s (within before a b c spot after) i =
     let t = styleAfter s before in
     itemsBytes before + (listPlace (t .level) a b c + listOpeningBytes (itemsBytes (put t spot i))) + spotPlace t spot i
 
+-- the style current at the item
+abbrev pub spotStyle : Style → Spot → Style
+spotStyle s spot = styleAfter s (itemsBefore spot)
+
 -- ---- from a list into a field of one of its items
 
 pub record Step : Type 0 where
@@ -111,9 +125,8 @@ holder t l = holding (t .kind) (t .arm) l
 abbrev pub listWith : Style → Step → Items → Items
 listWith s t l = put s (t .spot) (holder t l)
 
--- the style current at the item
 abbrev pub itemStyle : Style → Step → Style
-itemStyle s t = styleAfter s (itemsBefore (t .spot))
+itemStyle s t = spotStyle s (t .spot)
 
 abbrev pub stepStyle : Style → Step → Style
 stepStyle s t = fieldStyle (t .kind) (t .arm) (itemStyle s t)
@@ -146,3 +159,8 @@ fill s (into p t) l = fill s p (listWith (styleAt s p) t l)
 abbrev pub placeOf : Style → Path → Items → ℕ
 placeOf s whole l = 0
 placeOf s (into p t) l = placeOf s p (listWith (styleAt s p) t l) + stepPlace (styleAt s p) t l
+
+-- it goes into fields that the items on its way have
+abbrev pub HasFields : Path → Type 0
+HasFields whole = Unit {0}
+HasFields (into p t) = HasFields p × HasField (t .kind) (t .arm)

@@ -2,6 +2,8 @@
 --     Picked          an item with fields that the setter uses, and the style in which it sets it
 --     pickIn          the one that starts at a place of a list, if one does: the place lies in one item of the list, and is that item's
 --                     first byte, or lies in a list that the item holds
+--     pickedFirst, pickedSecond, pickedThird, pickedSigns, pickedArranged     what the setter makes of it: its fields set, the signs
+--                     found for it, and what the rules make of these
 --     pickedReasons, reasonsAt     what decided its shifts, from the shapes that the setter gives its fields
 --     pickedStages   what its shifts go through
 -- As in the reading, a place within a list counts from the list's first byte, and a place within an item from the item's. Of a choice only
@@ -17,14 +19,14 @@ use Rattle.formula.specs.Tree.{Items, Item, Field, nil, cons, noad, kern, resty
 use Rattle.formula.specs.Places.{secondField, thirdField}
 use Rattle.boxes.specs.declared.styles.Style.{Style}
 use Rattle.boxes.specs.Parameters.{Parameters}
-use Rattle.boxes.specs.Boxes.{Shape}
+use Rattle.boxes.specs.Boxes.{Shape, Arranged}
 use Rattle.delimiters.specs.Delimiters.{Signs}
 use Rattle.arrange.specs.declared.Manner.the-variants.{Plain}
-use Rattle.arrange.specs.Arrange.{firstStyle, secondStyle, thirdStyle, firstManner}
+use Rattle.arrange.specs.Arrange.{arrange, firstStyle, secondStyle, thirdStyle, firstManner}
 use Rattle.arrange.specs.Reasons.{reasons, itemStages}
 use Rattle.reasons.specs.Reasons.{Reasons}
 use Rattle.reasons.specs.Stages.{BothStages}
-use Rattle.setting.specs.Setting.{taken, styleBehind, signsIn, setField, takenStart}
+use Rattle.setting.specs.Setting.{FieldBox, taken, styleBehind, signsIn, setField, takenStart}
 
 pub record Picked : Type 0 where
   pub style : Style
@@ -78,14 +80,31 @@ unfoldable mutual
       let start = at + listOpeningBytes (itemsBytes l) in
       ifReached (leb start place) (pickIn s (place - start) l)
 
--- a function of what `arrange` sees of it: the shapes of its fields, and the signs that are found for them, as `arrangedIn` has them
+-- ---- what the setter makes of it
+
+abbrev pub pickedItem : Picked → Item
+pickedItem q = noad (q .kind) (q .first) (q .second) (q .third)
+
+module _ (F : Font) (q : Picked) where
+  abbrev pub pickedFirst : FieldBox
+  pickedFirst = setField F (firstStyle (q .kind) (q .style)) (firstManner (q .kind) (q .style)) (q .first)
+
+  abbrev pub pickedSecond : FieldBox
+  pickedSecond = setField F (secondStyle (q .kind) (q .style)) Plain (q .second)
+
+  abbrev pub pickedThird : FieldBox
+  pickedThird = setField F (thirdStyle (q .style)) Plain (q .third)
+
+  abbrev pub pickedSigns : Signs
+  pickedSigns = signsIn F (q .style) (q .kind) (pickedFirst .shape)
+
+-- a function of what `arrange` sees of it: the shapes of its fields, and the signs that are found for them
 abbrev pub ofPicked : {A : Type 0} → (Parameters → Style → Kind → Signs → Shape → Shape → Shape → A) → Font → Picked → A
 ofPicked f F q =
-    let s = q .style in
-    let x = setField F (firstStyle (q .kind) s) (firstManner (q .kind) s) (q .first) .shape in
-    let y = setField F (secondStyle (q .kind) s) Plain (q .second) .shape in
-    let z = setField F (thirdStyle s) Plain (q .third) .shape in
-    f (F .parameter) s (q .kind) (signsIn F s (q .kind) x) x y z
+    f (F .parameter) (q .style) (q .kind) (pickedSigns F q) (pickedFirst F q .shape) (pickedSecond F q .shape) (pickedThird F q .shape)
+
+abbrev pub pickedArranged : Font → Picked → Arranged
+pickedArranged F q = ofPicked arrange F q
 
 unfoldable pub pickedReasons : Font → Picked → Option Reasons
 pickedReasons F q = ofPicked reasons F q

@@ -22,19 +22,18 @@ use Rattle.boxes.specs.declared.styles.Level.{Level}
 use Rattle.boxes.specs.declared.styles.Level.the-variants.{Display, Text, Script, Scriptscript}
 use Rattle.boxes.specs.declared.styles.Style.{Style}
 use Rattle.boxes.specs.Styles.{plain}
-use Rattle.boxes.specs.Boxes.{Arranged}
 use Rattle.arrange.specs.declared.Manner.{Manner}
 use Rattle.arrange.specs.declared.Manner.the-variants.{Plain}
 use Rattle.arrange.specs.Arrange.{firstStyle, secondStyle, thirdStyle, firstManner}
 use Rattle.arrange.specs.ReasonsLaws.{raised, lowered, reasons-true, used}
 use Rattle.reasons.specs.Reasons.{Reasons}
 use Rattle.reasons.specs.Stages.{AllTrue}
-use Rattle.setting.specs.Setting.{taken, styleBehind, arrangedIn, sidesOf, setField, setList, takenStart}
+use Rattle.setting.specs.Setting.{taken, styleBehind, sidesOf, setList, takenStart}
 use Rattle.setting.specs.SettingLaws.{taken-all}
 use Rattle.setting.specs.Missing.{later, missingItems, missingItem, missingField}
 use Rattle.setting.specs.Fitting.{boxFits, itemsFit, itemFits, fieldFits}
 use Rattle.setting.specs.FieldAlone.{neither-missing, not-later, all-true, fields-there, fields-fit}
-use Rattle.setting.specs.Picked.{Picked, picked, _orIn_, ifReached, pickIn, pickAt, pickField, pickedReasons, pickedStages, reasonsAt}
+use Rattle.setting.specs.Picked.{Picked, picked, _orIn_, ifReached, pickIn, pickAt, pickField, pickedItem, pickedArranged, pickedReasons, pickedStages, reasonsAt}
 
 -- ---- where the place lies
 
@@ -82,7 +81,7 @@ module _ (s : Style) (place : ℕ) (d t sc ss : Items) where
       ap (ifReached (leb start place))
       (sym (taken-all f s {d = d} {t = t} {sc = sc} {ss = ss} {d′ = f d} {t′ = f t} {sc′ = f sc} {ss′ = f ss} refl refl refl refl))
 
-split : (a b : ℕ) → (a < b) ⊎ (b ≤ a)
+pub split : (a b : ℕ) → (a < b) ⊎ (b ≤ a)
 split a b = go (ltb a b) refl
   where
     go : (t : Bool) → ltb a b ≡ t → (a < b) ⊎ (b ≤ a)
@@ -93,14 +92,14 @@ split a b = go (ltb a b) refl
 
 -- nothing is missing of it, and all lists in it fit
 pub record Sound (F : Font) (q : Picked) : Type 0 where
-  pub present : missingItem F (q .style) (noad (q .kind) (q .first) (q .second) (q .third)) ≡ none
-  pub fits : itemFits F (q .style) (noad (q .kind) (q .first) (q .second) (q .third)) ≡ true
+  pub present : missingItem F (q .style) (pickedItem q) ≡ none
+  pub fits : itemFits F (q .style) (pickedItem q) ≡ true
 
-orIn-some : (a b : Option Picked) {q : Picked} → a orIn b ≡ some q → (a ≡ some q) ⊎ (b ≡ some q)
+pub orIn-some : (a b : Option Picked) {q : Picked} → a orIn b ≡ some q → (a ≡ some q) ⊎ (b ≡ some q)
 orIn-some none b e = inr e
 orIn-some (some x) b e = inl e
 
-reached : (t : Bool) (a : Option Picked) {q : Picked} → ifReached t a ≡ some q → a ≡ some q
+pub reached : (t : Bool) (a : Option Picked) {q : Picked} → ifReached t a ≡ some q → a ≡ some q
 reached true a e = e
 reached false a e = let z : _≡_ {A = ℕ} 0 1 = cc in absurd (omega arith)
 
@@ -173,13 +172,6 @@ module _ (F : Font) where
         (reached (leb start place) (pickIn s (place - start) l) e)
 
 -- ---- the reasons are true, and the shifts those of the setter
-
--- how the setter arranges it
-abbrev pub pickedArranged : Font → Picked → Arranged
-pickedArranged F q =
-    let s = q .style in
-    arrangedIn F s (q .kind) (setField F (firstStyle (q .kind) s) (firstManner (q .kind) s) (q .first) .shape)
-    (setField F (secondStyle (q .kind) s) Plain (q .second) .shape) (setField F (thirdStyle s) Plain (q .third) .shape)
 
 -- what makes the reasons of an item true
 pub record Because (F : Font) (q : Picked) (r : Reasons) : Type 0 where

@@ -1,15 +1,18 @@
 //! Sets a formula over a font table and prints its sizes and nodes.
 //!
 //! `set_formula TABLE FORMULA [--typed NAMES STYLE] [--client CLIENT]
-//! [--svg FONTS SVG] [--dvi FONTS DVI]`; a formula is a stored record, a style
-//! byte and the formula's bytes; or typed text with the words of a name table, to
-//! be set in a style from 0 to 7. A client's table has symbols that go before the
-//! font table's. A picture is written to SVG, with the letters of the fonts that
-//! FONTS names, and a page with the formula in them to DVI. An empty record is
+//! [--svg FONTS SVG] [--free BANDS] [--dvi FONTS DVI]`; a formula is a stored
+//! record, a style byte and the formula's bytes; or typed text with the words of a
+//! name table, to be set in a style from 0 to 7. A client's table has symbols that
+//! go before the font table's. A picture is written to SVG, with the letters of the
+//! fonts that FONTS names, and under them the bands of BANDS, a line each: x, y,
+//! width and height in scaled points; a page with the formula in the fonts is
+//! written to DVI. An empty record is
 //! refused as style, a font table that can't be read as table. The status is 1
 //! for a refusal, 2 if another file can't be read or written, a font has no name,
 //! or a glyph no letter to be drawn as; then nothing is printed or written.
 
+mod bands;
 mod fonts;
 mod letters;
 mod page;
@@ -17,6 +20,7 @@ mod picture;
 mod shapes;
 mod tables;
 
+use bands::Band;
 use fonts::Fonts;
 use std::fs;
 use std::process::ExitCode;
@@ -24,7 +28,7 @@ use tables::Tables;
 use torfianka::{eqn, measure, nodes, set, Font, Measured, Node, Refusal, NODE_BYTES};
 
 const USAGE: &str = "usage: set_formula TABLE FORMULA [--typed NAMES STYLE] [--client CLIENT] \
-                     [--svg FONTS SVG] [--dvi FONTS DVI]";
+                     [--svg FONTS SVG] [--free BANDS] [--dvi FONTS DVI]";
 const STYLES: u8 = 8;
 
 /// Why nothing is printed.
@@ -69,6 +73,7 @@ struct Arguments<'a> {
     typed: Option<Typed<'a>>,
     client: Option<&'a str>,
     svg: Option<[&'a str; 2]>,
+    free: Option<&'a str>,
     dvi: Option<[&'a str; 2]>,
 }
 
@@ -90,6 +95,7 @@ impl<'a> Arguments<'a> {
             typed: None,
             client: None,
             svg: None,
+            free: None,
             dvi: None,
         };
         let mut rest = options;
@@ -107,6 +113,10 @@ impl<'a> Arguments<'a> {
                 }
                 ["--svg", fonts, svg, rest @ ..] => {
                     arguments.svg = Some([fonts, svg]);
+                    rest
+                }
+                ["--free", bands, rest @ ..] => {
+                    arguments.free = Some(bands);
                     rest
                 }
                 ["--dvi", fonts, dvi, rest @ ..] => {
@@ -133,7 +143,8 @@ fn run(arguments: &Arguments) -> Result<(), Failure> {
     let nodes: Vec<Node> = nodes(&buffer).collect();
     let mut files = Vec::new();
     if let Some([fonts, path]) = arguments.svg {
-        let picture = picture::svg(&measured, &nodes, &tables, &read_fonts(fonts)?);
+        let bands = arguments.free.map_or(Ok(Vec::new()), read_bands)?;
+        let picture = picture::svg(&measured, &nodes, &bands, &tables, &read_fonts(fonts)?);
         let picture = picture.map_err(|glyph| format!("{path}: {glyph}"))?;
         files.push((path, picture.into_bytes()));
     }
@@ -172,6 +183,11 @@ fn named<T>(path: &str, outcome: std::io::Result<T>) -> Result<T, String> {
 fn read_fonts(path: &str) -> Result<Fonts, String> {
     let text = named(path, fs::read_to_string(path))?;
     Fonts::read(&text).ok_or(format!("{path}: not a table of fonts"))
+}
+
+fn read_bands(path: &str) -> Result<Vec<Band>, String> {
+    let text = named(path, fs::read_to_string(path))?;
+    bands::read(&text).ok_or(format!("{path}: not a list of bands"))
 }
 
 fn set_formula(style: u8, font: &mut Font, formula: &[u8]) -> Result<(Measured, Vec<u8>), Refusal> {

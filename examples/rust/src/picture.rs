@@ -1,5 +1,6 @@
 //! A picture of a set formula: its glyphs' boxes, its rules and its baseline.
 
+use crate::bands::Band;
 use crate::fonts::Fonts;
 use crate::letters::{client_letter, letter, Letter};
 use crate::shapes::{Shape, STROKE};
@@ -34,10 +35,11 @@ impl fmt::Display for NoLetter {
     }
 }
 
-/// Lengths in the picture are points, and y goes down.
+/// Lengths in the picture are points, and y goes down. Bands lie under the rest.
 pub fn svg(
     measured: &Measured,
     nodes: &[Node],
+    bands: &[Band],
     tables: &Tables,
     fonts: &Fonts,
 ) -> Result<String, NoLetter> {
@@ -51,15 +53,25 @@ pub fn svg(
     let (pixels_across, pixels_down) = (across * PIXELS_PER_POINT, down * PIXELS_PER_POINT);
     let drawn = nodes.iter().map(|node| draw(node, tables, fonts));
     let drawn: String = drawn.collect::<Result<_, _>>()?;
+    let free: String = bands.iter().map(draw_band).collect();
     Ok(format!(
         r##"<svg xmlns="http://www.w3.org/2000/svg" width="{pixels_across:.0}" height="{pixels_down:.0}" viewBox="{left:.3} {top:.3} {across:.3} {down:.3}">
 <rect x="{left:.3}" y="{top:.3}" width="{across:.3}" height="{down:.3}" fill="white"/>
-<path d="M{left:.3} 0h{across:.3}" stroke="#c33" stroke-width="0.1" stroke-dasharray="0.6 0.4"/>
+{free}<path d="M{left:.3} 0h{across:.3}" stroke="#c33" stroke-width="0.1" stroke-dasharray="0.6 0.4"/>
 <g font-family="Latin Modern Roman, CMU Serif, Times New Roman, serif" text-anchor="middle">
 {drawn}</g>
 </svg>
 "##
     ))
+}
+
+fn draw_band(band: &Band) -> String {
+    let top = -points(band.y + band.height);
+    let (x, width, height) = (points(band.x), points(band.width), points(band.height));
+    format!(
+        "<rect x=\"{x:.3}\" y=\"{top:.3}\" width=\"{width:.3}\" height=\"{height:.3}\" \
+         fill=\"#8d8\"/>\n"
+    )
 }
 
 fn points(sp: impl Into<i64>) -> f64 {

@@ -2,6 +2,7 @@
 
 use crate::input::Input;
 use differential::guarded::Guarded;
+use reference::clearances::{self, Page};
 use reference::generate::Random;
 use reference::{item_places, Answer, Decided, Explanation, Lent, INDEX_WORDS, NODE_BYTES};
 use std::ptr;
@@ -93,9 +94,11 @@ fn disagreement_in(
     let library = by_library(call, input, client, before.clone());
     let reference = by_reference(call, input, before.clone());
     note(reference.number);
-    let fault = fault(call, &before, &library, &reference).or_else(|| {
-        (!binding_agrees(call, input, &library)).then_some("the Rust binding differs")
-    })?;
+    let fault = fault(call, &before, &library, &reference)
+        .or_else(|| unclear(call, input, &library))
+        .or_else(|| {
+            (!binding_agrees(call, input, &library)).then_some("the Rust binding differs")
+        })?;
     Some(Disagreement {
         call,
         fault,
@@ -160,6 +163,23 @@ fn fault(
     faults
         .into_iter()
         .find_map(|(is_so, fault)| is_so.then_some(fault))
+}
+
+/// What stands too near to another on the library's page, if anything.
+fn unclear(call: Call, input: &Input, library: &Outcome) -> Option<&'static str> {
+    let (Call::Set, 0) = (call, library.number) else {
+        return None;
+    };
+    let &[_, _, height, depth, count] = library.answer.lent().first_chunk()?;
+    clearances::fault(&Page {
+        style: input.style,
+        table: &input.table,
+        client: &input.client,
+        formula: &input.formula,
+        nodes: &library.nodes.lent()[..NODE_BYTES * count as usize],
+        height,
+        depth,
+    })
 }
 
 /// Where the client's table starts; an empty one may be null.

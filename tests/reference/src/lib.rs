@@ -8,6 +8,7 @@
 mod answer;
 mod boxes;
 mod chains;
+pub mod clearances;
 pub mod compose;
 pub mod dvi;
 pub mod eqn;

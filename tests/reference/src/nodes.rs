@@ -1,5 +1,6 @@
 //! Nodes: gathering them, moving them, writing them.
 
+use crate::clearances::Clearance;
 use crate::SIZE_LIMIT;
 
 // A coordinate within the limit fits its four bytes.
@@ -28,12 +29,20 @@ pub struct Run {
     pub end: usize,
 }
 
+impl Run {
+    pub fn holds(self, other: Run) -> bool {
+        self.start <= other.start && other.end <= self.end
+    }
+}
+
 /// Takes the nodes as they are found; measuring only counts them.
 pub trait Pen {
     fn count(&self) -> usize;
     fn push(&mut self, node: Node);
     fn replace(&mut self, index: usize, node: Node);
     fn shift(&mut self, run: Run, dx: i64, dy: i64);
+    /// What two parts of an item have to keep clear, once both are placed in it.
+    fn note(&mut self, _: Clearance) {}
 }
 
 #[derive(Default)]
@@ -91,6 +100,26 @@ impl Node {
             thickness: 0,
         },
     };
+
+    pub fn read(bytes: &[u8; NODE_BYTES]) -> Node {
+        let word = |at: usize| i64::from(i32::from_le_bytes(bytes[at..at + 4].try_into().unwrap()));
+        let ink = match &bytes[..2] {
+            b"GL" => Ink::Glyph {
+                size: bytes[10],
+                family: bytes[11],
+                code: bytes[12],
+            },
+            _ => Ink::Rule {
+                width: word(10),
+                thickness: word(14),
+            },
+        };
+        Node {
+            x: word(2),
+            y: word(6),
+            ink,
+        }
+    }
 
     /// Of a node that keeps the size limit.
     pub fn bytes(&self) -> [u8; NODE_BYTES] {

@@ -3,6 +3,7 @@
 use super::delimiters::NULL_DELIMITER;
 use crate::answer::Refusal;
 use crate::boxes::{half, Extent, MathBox};
+use crate::clearances::Clearance;
 use crate::layout::Layout;
 use crate::nodes::{Ink, Node, Pen};
 use crate::parameters::Parameters;
@@ -47,6 +48,13 @@ impl<P: Pen> Layout<'_, P> {
             extent = extent.joined(Extent::point(bar.x, bar.y));
             self.pen.replace(bar_index, bar);
         }
+        self.pen.note(Clearance::Fraction {
+            over: numerator.nodes,
+            bar: (thickness > 0).then_some(bar_index),
+            under: denominator.nodes,
+            gap: clearance(thickness, style, font),
+            axis: font.axis_height(),
+        });
         self.reasons = Some(Reasons {
             up: Some(up),
             down: Some(down),
@@ -67,6 +75,16 @@ fn bar(width: i64, thickness: i64, font: &Parameters) -> Node {
         x: NULL_DELIMITER,
         y: font.axis_height() + half(thickness) - thickness,
         ink: Ink::Rule { width, thickness },
+    }
+}
+
+/// φ of 15d, or of 15c where there is no bar.
+fn clearance(thickness: i64, style: Style, font: &Parameters) -> i64 {
+    match (thickness > 0, style.is_display()) {
+        (true, true) => 3 * thickness,
+        (true, false) => thickness,
+        (false, true) => 7 * font.rule_thickness(),
+        (false, false) => 3 * font.rule_thickness(),
     }
 }
 
@@ -92,11 +110,12 @@ fn barred_shifts(
     style: Style,
     font: &Parameters,
 ) -> Shifts {
-    let (up, down, clearance) = if style.is_display() {
-        (font.num1(), font.denom1(), 3 * thickness)
+    let (up, down) = if style.is_display() {
+        (font.num1(), font.denom1())
     } else {
-        (font.num2(), font.denom2(), thickness)
+        (font.num2(), font.denom2())
     };
+    let clearance = clearance(thickness, style, font);
     let axis_height = font.axis_height();
     let bar_top = axis_height + half(thickness);
     let bar_bottom = axis_height - half(thickness);
@@ -115,11 +134,12 @@ fn barless_shifts(
     style: Style,
     font: &Parameters,
 ) -> Shifts {
-    let (up, down, clearance) = if style.is_display() {
-        (font.num1(), font.denom1(), 7 * font.rule_thickness())
+    let (up, down) = if style.is_display() {
+        (font.num1(), font.denom1())
     } else {
-        (font.num3(), font.denom2(), 3 * font.rule_thickness())
+        (font.num3(), font.denom2())
     };
+    let clearance = clearance(0, style, font);
     let gap = (up - numerator.depth) - (denominator.height - down);
     let more = half((clearance - gap).max(0));
     Shifts {

@@ -3,6 +3,7 @@
 use super::Nucleus;
 use crate::answer::Refusal;
 use crate::boxes::MathBox;
+use crate::clearances::Clearance;
 use crate::layout::Layout;
 use crate::nodes::Pen;
 use crate::parameters::Parameters;
@@ -61,6 +62,11 @@ impl<P: Pen> Layout<'_, P> {
                 self.join_script(&mut whole, &sup, end + nucleus.italic, up.shift);
                 self.join_script(&mut whole, &sub, end, -down.shift);
                 whole.width = end + sub.width.max(sup.width + nucleus.italic);
+                self.pen.note(Clearance::Scripts {
+                    over: sup.nodes,
+                    under: sub.nodes,
+                    gap: 4 * font.rule_thickness(),
+                });
                 Some(Reasons {
                     up: Some(up),
                     down: Some(down),
