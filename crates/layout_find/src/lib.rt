@@ -15,10 +15,10 @@ use layout_answers::Answer;
 use layout_answers::faulty;
 use layout_test::Testing;
 use layout_test::tested;
+use walk::lists::set_list;
+use walk_fields::lines::ItemsSet;
 use walk_fields::lines::Line;
 use walk_fields::lines::list_fits;
-use walk_fields::lines::ItemsSet;
-use walk::lists::set_list;
 
 // What is found by a walk that writes no node: the style, the size and how many nodes there are, or a refusal.
 pub enum Finding {
