@@ -20,7 +20,7 @@ use Rattle.laws.specs.Truths.{by-test}
 use Rattle.eqn_tokens.specs.Bytes.{same}
 use Rattle.eqn_tokens.specs.BytesLaws.{here, same-not}
 use Rattle.eqn_names.specs.Names.{Name, frontName, recordBytes, named, Records, ended}
-use Rattle.eqn_names.specs.Firsts.{places, mix, hashFrom, hashOf, From, Firsts, kept}
+use Rattle.eqn_names.specs.Firsts.{places, mix, hashFrom, hashOf, From, Listed, kept}
 use Rattle.eqn_names.specs.NamesLaws.{named-next, named-append, named-more}
 use Rattle.eqn_names.specs.RecordsLaws.{records-append, records-one, records-none}
 
@@ -83,8 +83,10 @@ indexed-none s f l e =
       apart = λ w. inr (omega (arith, e (hashOf w) (hash-small w)));
     }
 
-pub indexed-all : {s f : List ℕ} {at : ℕ} {before : List Name} → Indexed s f at before → length s ≤ at → Firsts s before f
-indexed-all {s} {f} {at} {before} x l w = rw (take-all at s l) at (x .from w)
+pub indexed-all : {s f : List ℕ} {at : ℕ} {before : List Name} → Indexed s f at before → Records (take at s) before → length s ≤ at → Listed s f before
+indexed-all {s} {f} {at} {before} x r l =
+    let whole = take-all at s l in
+    record { records = rw whole at r; firsts = λ w. rw whole at (x .from w) }
 
 module _ {s f : List ℕ} {at : ℕ} {before : List Name} (x : Indexed s f at before) {m : Name} (there : frontName (drop at s) ≡ some m)
     (room : at + recordBytes m ≤ length s) where

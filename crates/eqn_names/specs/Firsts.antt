@@ -1,6 +1,7 @@
 -- Where the search for a word may begin: for each hash, the place of the first record whose name has it.
 --     From s ns w at     what a word is among some names, it is among the records from a place on
 --     Firsts s ns f      each word may be looked for from the place that f has for its hash
+--     Listed s f ns      the records of a table, with such places
 --     kept f h at        a place is kept for a hash, unless an earlier one is
 -- Nothing depends on how the hash is made, but that it is made of the bytes alone.
 -- Assumes nothing.
@@ -34,3 +35,8 @@ Firsts s ns f = (w : List ℕ) → From s ns w (getD f (hashOf w) 0)
 
 abbrev pub kept : List ℕ → ℕ → ℕ → List ℕ
 kept f h at = elim (ltb at (getD f h 0)) [ true ↦ set f h at | false ↦ f ]
+
+-- the records of a table, and where each word may be looked for among them
+pub record Listed (s f : List ℕ) (ns : List Name) : Type 0 where
+  pub records : Records s ns
+  pub firsts : Firsts s ns f

@@ -10,7 +10,7 @@ ghost use Rattle.formula.specs.Heads.{greatestFamily, greatestClass};
 ghost use Rattle.eqn_names.specs.Names.{Name, tableOf, frontName, named, firstFor, firstPlace, isKeyword, isThere, hasClass};
 ghost use Rattle.eqn_names.specs.Names.{Records, askedAs};
 ghost use Rattle.eqn_names.specs.Names.{names as ofNames};
-ghost use Rattle.eqn_names.specs.Firsts.{From, Firsts, places, mix, hashOf, kept};
+ghost use Rattle.eqn_names.specs.Firsts.{From, Listed, places, mix, hashOf, kept};
 ghost use Rattle.eqn_names.specs.Values.{Stepped, frontAs, foundAs, NameFound, tableTold, UnknownFound};
 use eqn_tokens::bytes::are_same;
 use eqn_tokens::bytes::are_word_bytes;
@@ -118,10 +118,11 @@ fn next_record(s: &[u8]) -> Front
 }
 
 // The symbol that a word has in a table.
-pub fn find(names: &[u8], word: &[u8]) -> WordSymbol
-    ensures { λ r. ⌜ ((ns : List Name) → Records (now (names .entry)) ns → foundAs (now (word .entry)) r ≡ named ns (now (word .entry))) ⌝ }
+pub fn find(names: &[u8], firsts: &[usize; PLACES], word: &[u8]) -> WordSymbol
+    ensures { λ r. ⌜ ((ns : List Name) → Listed (now (names .entry)) (now (firsts .entry)) ns → foundAs (now (word .entry)) r ≡ named ns (now (word .entry))) ⌝ }
 {
-    find_from(names, 0, word)
+    let h = hash(word);
+    find_from(names, firsts[h], word)
 }
 
 // The same, where no record before a place has that name.
@@ -206,7 +207,7 @@ pub fn check(names: &[u8]) -> Checked
 pub fn index(names: &[u8], firsts: &mut [usize; PLACES]) -> Checked
     requires { ⌜ length (now firsts) ≡ places ⌝ }
     ensures { λ r. ⌜ r ≡ tableTold (tableOf (now (names .entry))) ⌝ }
-    ensures { λ _. ⌜ ((ns : List Name) → tableOf (now (names .entry)) ≡ ofNames ns → Firsts (now (names .entry)) ns (now (firsts .exit))) ⌝ }
+    ensures { λ _. ⌜ ((ns : List Name) → tableOf (now (names .entry)) ≡ ofNames ns → Listed (now (names .entry)) (now (firsts .exit)) ns) ⌝ }
 {
     clear(firsts, names.len());
     let mut at: usize = 0;
@@ -264,8 +265,8 @@ fn is_new(before: &[u8], from: usize, name: &[u8]) -> bool
 }
 
 // The place of the first word of a text that has no name in a table.
-pub fn first_unknown(names: &[u8], text: &[u8]) -> FirstUnknown
-    ensures { λ r. ⌜ ((ns : List Name) → Records (now (names .entry)) ns → UnknownFound ns (now (text .entry)) r) ⌝ }
+pub fn first_unknown(names: &[u8], firsts: &[usize; PLACES], text: &[u8]) -> FirstUnknown
+    ensures { λ r. ⌜ ((ns : List Name) → Listed (now (names .entry)) (now (firsts .entry)) ns → UnknownFound ns (now (text .entry)) r) ⌝ }
 {
     let mut at: usize = 0;
     while at < text.len() {
@@ -274,7 +275,7 @@ pub fn first_unknown(names: &[u8], text: &[u8]) -> FirstUnknown
         let end = token.end;
         let kind = token.kind;
         if let TokenKind::Word = kind {
-            let found = find(names, &text[start..end]);
+            let found = find(names, firsts, &text[start..end]);
             let WordSymbol::Named(_) = found else {
                 return FirstUnknown::At(start);
             };

@@ -10,7 +10,7 @@ use borrow.Author.Tests.{not-true, not-false}
 use lib.ListN.{length, take, drop, getD}
 use lib.Seq.{length-take-le}
 use Rattle.eqn_names.specs.Names.{Name, recordBytes, isKeyword, named, isThere, isNew}
-use Rattle.eqn_names.specs.Firsts.{From, Firsts, hashOf, kept}
+use Rattle.eqn_names.specs.Firsts.{From, Listed, hashOf, kept}
 use Rattle.eqn_names.proofs.WalkLaws.{front-told, nameAt, name-bytes, Stands, stands}
 use Rattle.eqn_names.proofs.TableLaws.{Tested, tested-none, tested-next, tested-bad, tested-old, tested-all, told-bad, told-good}
 use Rattle.eqn_names.proofs.FirstsLaws.{Indexed, indexed-none, indexed-next, indexed-all}
@@ -28,7 +28,7 @@ loop-holds c = let cleared = c .clear .ensures in ([], tested-none _, indexed-no
 
 -- what is kept of a good table
 abbrev Known : List ℕ → List ℕ → List Name → Type 0
-Known s f ns = Firsts s ns f
+Known s f ns = Listed s f ns
 
 returns : tie.Need-returns Inv-loop μ-loop
 returns c =
@@ -102,7 +102,8 @@ returns-3 : tie.Need-returns-3 Inv-loop μ-loop
 returns-3 c =
     let loop = c .before .loop in
     let s = c .before .before .before .before .before .args .names .now in
-    told-good s (Known s (loop .firsts)) (tested-all _ (loop .inv .1) (c .loop-test .left)) (indexed-all (loop .inv .2) (c .loop-test .left))
+    told-good s (Known s (loop .firsts)) (tested-all _ (loop .inv .1) (c .loop-test .left))
+    (indexed-all (loop .inv .2) (loop .inv .1 .records) (c .loop-test .left))
 
 pub index-spec : {M : Type 1} → statement M
 index-spec =
