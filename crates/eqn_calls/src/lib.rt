@@ -7,7 +7,8 @@ ghost use Prim.Native.Nat.{_≤_};
 ghost use lib.ListN.{length};
 ghost use Rattle.formula.specs.Format.{formulaLimit};
 ghost use Rattle.formula.specs.Places.{Readable, treeOf};
-ghost use Rattle.eqn_names.specs.Names.{Name, Records};
+ghost use Rattle.eqn_names.specs.Names.{Name, Records, tableOf, names as ofNames};
+ghost use Rattle.eqn_names.specs.Firsts.{places, Listed};
 ghost use Rattle.eqn_meaning.specs.Meaning.{rowItems};
 ghost use Rattle.eqn_meaning.specs.Writing.{rowOf};
 ghost use Rattle.results.specs.Results.{answerBy, bufferBy};
@@ -18,6 +19,7 @@ ghost use Rattle.eqn_calls.specs.Values.{answeredAs, Derives, TestsDone,
 use eqn_check::Tested;
 use eqn_names::Checked;
 use eqn_names::FirstUnknown;
+use eqn_names::PLACES;
 use eqn_read::making::put_row;
 use eqn_stores::Made;
 use eqn_write::Put;
@@ -52,30 +54,33 @@ pub fn read(names: &[u8], text: &[u8], formula: &mut [u8]) -> Answer
     ensures { λ r. ⌜ answeredAs r ≡ answerBy noRoom (length (now (formula .entry))) (readResult (now (names .entry)) (now (text .entry))) ⌝ }
     ensures { λ _. ⌜ now (formula .exit) ≡ bufferBy (now (formula .entry)) (readResult (now (names .entry)) (now (text .entry))) ⌝ }
 {
-    let tests = test(names, text);
+    let mut firsts = [0usize; PLACES];
+    let tests = test(names, text, &mut firsts);
     if let Tests::Failed(answer) = tests {
         return answer;
     }
-    let size = formula_size(names, text);
+    let size = formula_size(names, &firsts, text);
     let Made::Next(bytes) = size else {
         return Answer::TooLarge;
     };
     if formula.len() < bytes {
         return Answer::NoRoom;
     }
-    put_row(names, text, LEVELS, formula, 0);
+    put_row(names, &firsts, text, LEVELS, formula, 0);
     Answer::Accepted(bytes)
 }
 
-// Tests names and text: 20, then 10, then 11.
-fn test(names: &[u8], text: &[u8]) -> Tests
+// Tests names and text: 20, then 10, then 11; and keeps where the names are looked for.
+fn test(names: &[u8], text: &[u8], firsts: &mut [usize; PLACES]) -> Tests
+    requires { ⌜ length (now firsts) ≡ places ⌝ }
     ensures { λ r. ⌜ TestsDone (now (names .entry)) (now (text .entry)) r ⌝ }
+    ensures { λ _. ⌜ ((ns : List Name) → tableOf (now (names .entry)) ≡ ofNames ns → Listed (now (names .entry)) (now (firsts .exit)) ns) ⌝ }
 {
-    let checked = eqn_names::check(names);
+    let checked = eqn_names::index(names, firsts);
     if let Checked::BadAt(place) = checked {
         return Tests::Failed(Answer::BadNames(place));
     }
-    let unknown = eqn_names::first_unknown(names, text);
+    let unknown = eqn_names::first_unknown(names, firsts, text);
     if let FirstUnknown::At(place) = unknown {
         return Tests::Failed(Answer::UnknownWord(place));
     }
@@ -87,11 +92,11 @@ fn test(names: &[u8], text: &[u8]) -> Tests
 }
 
 // How many bytes the formula of a text has: a byte without room is passed over, and counted.
-fn formula_size(names: &[u8], text: &[u8]) -> Made
-    ensures { λ r. ⌜ ((d : Derives (now (names .entry)) (now (text .entry))) → FormulaSized (rowItems (d .ns) (d .row)) r) ⌝ }
+fn formula_size(names: &[u8], firsts: &[usize; PLACES], text: &[u8]) -> Made
+    ensures { λ r. ⌜ ((d : Derives (now (names .entry)) (now (text .entry))) → Listed (now (names .entry)) (now (firsts .entry)) (d .ns) → FormulaSized (rowItems (d .ns) (d .row)) r) ⌝ }
 {
     let mut room = [0u8; 1];
-    put_row(names, text, LEVELS, &mut room, 0)
+    put_row(names, firsts, text, LEVELS, &mut room, 0)
 }
 
 // Writes the bytes of a formula as typed text.

@@ -3,3 +3,4 @@ mod KindLaws
 mod WalkLaws
 mod TableLaws
 mod UnknownLaws
+mod FirstsLaws

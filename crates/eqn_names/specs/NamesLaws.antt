@@ -1,6 +1,7 @@
 -- Laws of the name table.
 --     asked-any, asked-class              what is asked for by a class
 --     named-first, named-next, named-append     a word among some names, by the first of them, and behind those that lack it
+--     named-more                          a word among some names, with more behind them
 --     named-is                            the record of a word is a member and has the word's bytes
 --     first-here, first-next              the first name of a symbol, by the first of some names; `place-here`, `place-next` its place
 --     first-is, first-none                it is a member that is for the symbol; where there is none, no member is
@@ -68,6 +69,23 @@ named-append (m ∷ ms) ns w e =
     by-test (same (m .bytes) w) (λ t. absurd (none-some (sym e ∙ named-first m ms w t)))
     (λ t. named-next m (ms ++ ns) w t ∙ named-append ms ns w (sym (named-next m ms w t) ∙ e))
 
+named-front : (ms ns : List Name) (w : List ℕ) {m : Name} → named ms w ≡ some m → named (ms ++ ns) w ≡ some m
+unfolding named
+named-front [] ns w e = absurd (none-some e)
+named-front (n ∷ ms) ns w e =
+    by-test (same (n .bytes) w) (λ t. named-first n (ms ++ ns) w t ∙ sym (named-first n ms w t) ∙ e)
+    (λ t. named-next n (ms ++ ns) w t ∙ named-front ms ns w (sym (named-next n ms w t) ∙ e))
+
+by-option : {A X : Type 0} (o : Option A) → (o ≡ none → X) → ((a : A) → o ≡ some a → X) → X
+by-option none absent there = absent refl
+by-option (some a) absent there = there a refl
+
+-- what a word is among some names and others, it is with more behind both
+pub named-more : (ks ms ns : List Name) (w : List ℕ) → named ks w ≡ named ms w → named (ks ++ ns) w ≡ named (ms ++ ns) w
+named-more ks ms ns w e =
+    by-option (named ms w) (λ absent. named-append ks ns w (e ∙ absent) ∙ sym (named-append ms ns w absent))
+    (λ m there. named-front ks ns w (e ∙ there) ∙ sym (named-front ms ns w there))
+
 -- ---- names for symbols
 
 abbrev pub isFor : ℕ → ℕ → Asked → Name → Bool
@@ -133,10 +151,6 @@ module _ (family code : ℕ) (asked : Asked) where
       (List·Memᴰ·cases-cons (f .member)))
 
 -- ---- the table
-
-by-option : {A X : Type 0} (o : Option A) → (o ≡ none → X) → ((a : A) → o ≡ some a → X) → X
-by-option none absent there = absent refl
-by-option (some a) absent there = there a refl
 
 module _ (k at : ℕ) (before : List Name) where
   pub table-bad : (s : List ℕ) → 1 ≤ length s → frontName s ≡ none → tableBy (suc k) before at s ≡ badAt at

@@ -1,12 +1,12 @@
 -- Laws of the records of a name table.
 --     WellFormed, true-well-formed, well-formed-true     the test of a record, and what it tests
---     front-there, front-absent    whether a record stands at the front, by the bytes at their places
+--     front-there, front-absent, front-named     whether a record stands at the front and which, by the bytes at their places
 --     behind-first                 a place behind the first byte
 --     GoodName, Fronts, stored     what a record's name is, and its bytes before others
 --     front-own, front-is, fronts-size     a good name is found in its own bytes, and only such a name is found
 --     front-append, front-alone    a record does not depend on what stands behind it
 --     records-append, records-one, records-more       records behind records
---     records-stop, records-none, records-open        what stands at the front of records
+--     records-stop, records-first, records-none, records-open        what stands at the front of records
 -- The idea: a record is found exactly where its bytes stand (`Fronts`), so it can be cut off and put before other bytes.
 -- Assumes nothing.
 use mathlib.Core.Path.{_≡_, refl, sym, ap, _∙_}
@@ -75,6 +75,13 @@ pub front-absent : (s : List ℕ) → (WellFormed (getD s 0 0) (drop 1 s) → �
 unfolding frontName
 front-absent [] bad = refl
 front-absent (n ∷ s) bad = front-none n s bad
+
+-- whatever record stands there
+pub front-named : (s : List ℕ) {m : Name} → frontName s ≡ some m → m ≡ nameIn (getD s 0 0) (drop 1 s)
+unfolding frontName
+front-named [] e = absurd (none-some e)
+front-named (n ∷ s) {m} e =
+    by-test (wellFormed n s) (λ t. let made = front-some n s (true-well-formed n s t) in cc) (λ t. absurd (none-some (sym (rw (t, frontName)) ∙ e)))
 
 pub behind-first : (s : List ℕ) {i : ℕ} (n : ℕ) → i ≡ n + 1 → getD s i 0 ≡ getD (drop 1 s) n 0
 behind-first s {i} n e = let swapped : 1 + n ≡ i = omega arith in sym (getD-drop 1 s n 0 ∙ ap (λ (j : ℕ). getD s j 0) swapped)
@@ -201,6 +208,10 @@ records-more at s {ms} {m} r e = rw (take-add at (recordBytes m) s) (records-app
 pub records-stop : {s : List ℕ} {ms : List Name} → Records s ms → frontName s ≡ none → s ≡ []
 records-stop ended e = refl
 records-stop (next f r) e = absurd (none-some (sym e ∙ f))
+
+pub records-first : {s : List ℕ} {ms : List Name} → Records s ms → 1 ≤ length s → (m : Name) × (frontName s ≡ some m)
+records-first ended l = absurd (omega arith)
+records-first (next {m = m} e r) l = (m, e)
 
 pub records-none : {s : List ℕ} {ms : List Name} → Records s ms → s ≡ [] → ms ≡ []
 unfolding frontName

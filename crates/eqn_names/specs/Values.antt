@@ -1,5 +1,6 @@
 -- What the code's values stand for, and what its functions promise.
 --     frontAs, foundAs, tableTold     the record at the front, the symbol of a word, the test of a table
+--     Stepped                the record at the front of records, found by its length alone
 --     NameFound              the bytes of a name in its table, behind the first byte of its record
 --     UnknownFound           the place of the first unknown word
 -- Assumes nothing.
@@ -9,7 +10,7 @@ use mathlib.Core.Option.{Option, none, some}
 use Prim.Native.Nat.{ℕ, _+_, _-_, _≤_}
 use lib.ListN.{length, take, drop}
 use Rattle.eqn_tokens.specs.Tokens.{tokensIn, placeIn}
-use Rattle.eqn_names.specs.Names.{Name, Table, names, badAt}
+use Rattle.eqn_names.specs.Names.{Name, Table, names, badAt, frontName}
 use Rattle.eqn_names.specs.Unknown.{firstUnknown}
 use Rattle.eqn_names.specs.declared.Symbol.{Symbol}
 use Rattle.eqn_names.specs.declared.WordSymbol.{WordSymbol}
@@ -30,6 +31,11 @@ nameAs w symbol = record { bytes = w; family = symbol .family; code = symbol .co
 abbrev pub frontAs : List ℕ → Front → Option Name
 frontAs s (Record n symbol) = some (nameAs (take n (drop 1 s)) symbol)
 frontAs s Malformed = none
+
+-- if there is one
+abbrev pub Stepped : List ℕ → Front → Type 0
+Stepped s (Record n symbol) = (n + 4 ≤ length s) × ((m : Name) → frontName s ≡ some m → m ≡ nameAs (take n (drop 1 s)) symbol)
+Stepped s Malformed = frontName s ≡ none
 
 abbrev pub foundAs : List ℕ → WordSymbol → Option Name
 foundAs w (Named symbol) = some (nameAs w symbol)

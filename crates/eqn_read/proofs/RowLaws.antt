@@ -9,7 +9,8 @@ use Prim.Native.Nat.{ℕ, _+_, _-_, _<_, _≤_}
 use native.Mathlib.Omega.{arith}
 use lib.ListN.{length, take, drop}
 use Rattle.eqn_tokens.specs.Tokens.{Token, tokensIn}
-use Rattle.eqn_names.specs.Names.{Name, Records}
+use Rattle.eqn_names.specs.Names.{Name}
+use Rattle.eqn_names.specs.Firsts.{Listed}
 use Rattle.formula.specs.Format.{formulaLimit}
 use Rattle.formula_spelling.specs.Spelling.{spelling}
 use Rattle.eqn_grammar.specs.Grammar as grammar
@@ -63,15 +64,15 @@ first-of ends (beside l more) tokens some =
     }
 
 -- the loop's invariant: so much has been passed, and written
-pub record RowLeft (table s : List ℕ) (levels at : ℕ) (o : List ℕ) (from end : ℕ) (o₁ : List ℕ) : Type 0 where
+pub record RowLeft (table firsts s : List ℕ) (levels at : ℕ) (o : List ℕ) (from end : ℕ) (o₁ : List ℕ) : Type 0 where
   pub within : from ≤ length s
   pub onward : at ≤ end
   pub short : end ≤ formulaLimit + 3
   pub same : length o₁ ≡ length o
-  pub rest : (ns : List Name) → Records table ns → (d : Row) → rowTokens d ≡ tokensIn s → RestLeft s levels at o from end o₁ ns d
+  pub rest : (ns : List Name) → Listed table firsts ns → (d : Row) → rowTokens d ≡ tokensIn s → RestLeft s levels at o from end o₁ ns d
 
-pub row-start : (table s : List ℕ) (levels at : ℕ) (o : List ℕ) → at ≤ formulaLimit + 3 → RowLeft table s levels at o 0 at o
-row-start table s levels at o short =
+pub row-start : (table firsts s : List ℕ) (levels at : ℕ) (o : List ℕ) → at ≤ formulaLimit + 3 → RowLeft table firsts s levels at o 0 at o
+row-start table firsts s levels at o short =
     record {
       within = omega arith;
       onward = omega arith;
@@ -80,8 +81,8 @@ row-start table s levels at o short =
       rest = λ ns records d tokens. record { row = d; tokens = tokens; whole = λ o₂ r wrote. wrote };
     }
 
-pub row-done : {table s : List ℕ} {levels at : ℕ} {o : List ℕ} {from end : ℕ} {o₁ : List ℕ} → RowLeft table s levels at o from end o₁ → (r : Made) →
-    tokensIn (drop from s) ≡ [] → Ends end r → Onward at r × RowMade table s levels at o o₁ r
+pub row-done : {table firsts s : List ℕ} {levels at : ℕ} {o : List ℕ} {from end : ℕ} {o₁ : List ℕ} → RowLeft table firsts s levels at o from end o₁ → (r : Made) →
+    tokensIn (drop from s) ≡ [] → Ends end r → Onward at r × RowMade table firsts s levels at o o₁ r
 row-done {levels = levels} {at = at} {end = end} {o₁ = o₁} left r none ends = (
   ends-onward at end r (left .onward) ends,
   λ ns records d tokens.
@@ -90,17 +91,17 @@ row-done {levels = levels} {at = at} {end = end} {o₁ = o₁} left r none ends 
 )
 
 -- a turn of the loop: there is a token, and up to `behind` stands an expression, which has been put
-pub record RowTurn (table s : List ℕ) (levels at : ℕ) (o : List ℕ) (from end : ℕ) (o₁ : List ℕ) (behind : ℕ) (q : Made) (o₂ : List ℕ) : Type 0 where
-  pub left : RowLeft table s levels at o from end o₁
+pub record RowTurn (table firsts s : List ℕ) (levels at : ℕ) (o : List ℕ) (from end : ℕ) (o₁ : List ℕ) (behind : ℕ) (q : Made) (o₂ : List ℕ) : Type 0 where
+  pub left : RowLeft table firsts s levels at o from end o₁
   pub some : Some (tokensIn (drop from s))
   pub ends : ExpressionEnds s from behind
-  pub item : Onward end q × ItemMade table (take (behind - from) (drop from s)) levels end o₁ o₂ q
+  pub item : Onward end q × ItemMade table firsts (take (behind - from) (drop from s)) levels end o₁ o₂ q
 
-module _ {table s : List ℕ} {levels at : ℕ} {o : List ℕ} {from end : ℕ} {o₁ : List ℕ} {behind : ℕ} {q : Made} {o₂ : List ℕ} (u : RowTurn table s levels at o from end o₁ behind q o₂) where
+module _ {table firsts s : List ℕ} {levels at : ℕ} {o : List ℕ} {from end : ℕ} {o₁ : List ℕ} {behind : ℕ} {q : Made} {o₂ : List ℕ} (u : RowTurn table firsts s levels at o from end o₁ behind q o₂) where
   pub turn-onward : (from < behind) × (behind ≤ length s)
   turn-onward = (u .ends .onward (u .some .0) (u .some .1) (u .some .2), u .ends .within)
 
-  stopped-row : q ≡ TooLarge → RowMade table s levels at o o₂ q
+  stopped-row : q ≡ TooLarge → RowMade table firsts s levels at o o₂ q
   unfolding rowItems itemsWithin spelling
   stopped-row is ns records d tokens =
       let rest = u .left .rest ns records d tokens in
@@ -109,10 +110,10 @@ module _ {table s : List ℕ} {levels at : ℕ} {o : List ℕ} {from end : ℕ} 
       (subst⁻¹ (λ (row : Row). Wrote (itemsWithin (rowItems ns row) levels) (spelling (rowItems ns row)) end o₁ o₂ q) (f .is)
       (wrote-stop _ _ end o₁ o₂ _ _ is (u .item .1 ns records (f .item) (f .first))))
 
-  pub row-stop : q ≡ TooLarge → Onward at q × RowMade table s levels at o o₂ q
+  pub row-stop : q ≡ TooLarge → Onward at q × RowMade table firsts s levels at o o₂ q
   row-stop is = (onward-stop at is, stopped-row is)
 
-  rest-next : {e : ℕ} → q ≡ Next e → (ns : List Name) → Records table ns → (d : Row) → rowTokens d ≡ tokensIn s →
+  rest-next : {e : ℕ} → q ≡ Next e → (ns : List Name) → Listed table firsts ns → (d : Row) → rowTokens d ≡ tokensIn s →
       RestLeft s levels at o behind e o₂ ns d
   unfolding rowItems itemsWithin spelling
   rest-next is ns records d tokens =
@@ -128,7 +129,7 @@ module _ {table s : List ℕ} {levels at : ℕ} {o : List ℕ} {from end : ℕ} 
             (wrote-then _ _ end o₁ o₂ _ _ o₃ r is (u .item .1 ns records (f .item) (f .first)) wrote));
       }
 
-  pub row-next : {e : ℕ} → q ≡ Next e → length o₂ ≡ length o₁ → RowLeft table s levels at o behind e o₂
+  pub row-next : {e : ℕ} → q ≡ Next e → length o₂ ≡ length o₁ → RowLeft table firsts s levels at o behind e o₂
   row-next is same =
       let further = goes end is (u .item .0) in
       record {

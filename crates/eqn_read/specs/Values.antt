@@ -12,7 +12,8 @@ use Prim.Native.Nat.{ℕ, _+_, _≤_, _<_}
 use lib.ListN.{length}
 use lib.Seq.{sets}
 use Rattle.eqn_tokens.specs.Tokens.{Token, tokensIn}
-use Rattle.eqn_names.specs.Names.{Name, Records}
+use Rattle.eqn_names.specs.Names.{Name}
+use Rattle.eqn_names.specs.Firsts.{Listed}
 use Rattle.eqn_names.specs.declared.WordSymbol.{WordSymbol}
 use Rattle.eqn_names.specs.declared.WordSymbol.the-variants.{Named, Unnamed}
 use Rattle.formula.specs.Format.{formulaLimit}
@@ -68,10 +69,10 @@ abbrev pub Stands : NoOvers → List ℕ → Type 0
 Stands noOvers s = length s ≡ 0
 Stands (someOvers o) s = oversTokens o ≡ tokensIn s
 
-module _ (table : List ℕ) where
+module _ (table firsts : List ℕ) where
   -- for the names of the table
   abbrev pub WithNames : (List Name → Type 0) → Type 0
-  WithNames P = (ns : List Name) → Records table ns → P ns
+  WithNames P = (ns : List Name) → Listed table firsts ns → P ns
 
   abbrev pub RowMade : List ℕ → ℕ → ℕ → List ℕ → List ℕ → Made → Type 0
   RowMade s levels at before after r =

@@ -11,6 +11,7 @@ ghost use Rattle.eqn_read.specs.Values.{isBare, foundFamily, foundCode, 
 use eqn_cuts::expression_end;
 use eqn_cuts::last_outside;
 use eqn_cuts::last_token;
+use eqn_names::PLACES;
 use eqn_names::WordSymbol;
 use eqn_names::find;
 use eqn_stores::Made;
@@ -35,10 +36,17 @@ use formula::ORD;
 use formula::SHORT_OPENING_BYTES;
 
 // The expressions of a row, one behind the other; `levels` is how many levels of lists may still be entered below it.
-pub fn put_row(names: &[u8], s: &[u8], levels: usize, out: &mut [u8], at: usize) -> Made
+pub fn put_row(
+    names: &[u8],
+    firsts: &[usize; PLACES],
+    s: &[u8],
+    levels: usize,
+    out: &mut [u8],
+    at: usize,
+) -> Made
     requires { ⌜ at ≤ formulaLimit + 3 ⌝ }
     ensures { λ r. ⌜ Onward at r ⌝ }
-    ensures { λ r. ⌜ RowMade (now (names .entry)) (now (s .entry)) levels at (now (out .entry)) (now (out .exit)) r ⌝ }
+    ensures { λ r. ⌜ RowMade (now (names .entry)) (now (firsts .entry)) (now (s .entry)) levels at (now (out .entry)) (now (out .exit)) r ⌝ }
 {
     let mut from: usize = 0;
     let mut end = at;
@@ -49,7 +57,7 @@ pub fn put_row(names: &[u8], s: &[u8], levels: usize, out: &mut [u8], at: usize)
             return up_to(end);
         }
         let behind = expression_end(s, from);
-        let made = put_item(names, &s[from..behind], levels, out, end);
+        let made = put_item(names, firsts, &s[from..behind], levels, out, end);
         let Made::Next(next) = made else {
             return made;
         };
@@ -60,10 +68,17 @@ pub fn put_row(names: &[u8], s: &[u8], levels: usize, out: &mut [u8], at: usize)
 }
 
 // An expression as an item: with limits behind `from` and `to`, or without.
-fn put_item(names: &[u8], s: &[u8], levels: usize, out: &mut [u8], at: usize) -> Made
+fn put_item(
+    names: &[u8],
+    firsts: &[usize; PLACES],
+    s: &[u8],
+    levels: usize,
+    out: &mut [u8],
+    at: usize,
+) -> Made
     requires { ⌜ at ≤ formulaLimit + 3 ⌝ }
     ensures { λ r. ⌜ Onward at r ⌝ }
-    ensures { λ r. ⌜ ItemMade (now (names .entry)) (now (s .entry)) levels at (now (out .entry)) (now (out .exit)) r ⌝ }
+    ensures { λ r. ⌜ ItemMade (now (names .entry)) (now (firsts .entry)) (now (s .entry)) levels at (now (out .entry)) (now (out .exit)) r ⌝ }
 {
     let to = last_outside(s, Keyword::To);
     let upper = to.end;
@@ -72,7 +87,7 @@ fn put_item(names: &[u8], s: &[u8], levels: usize, out: &mut [u8], at: usize) ->
     let lower = from.end;
     let nucleus_end = from.start;
     if nucleus_end == s.len() {
-        return put_over(names, s, levels, out, at);
+        return put_over(names, firsts, s, levels, out, at);
     }
     let made = put_four(out, at, ATOM_FIRST, ATOM_SECOND, OP, ALWAYS);
     let Made::Next(next) = made else {
@@ -80,6 +95,7 @@ fn put_item(names: &[u8], s: &[u8], levels: usize, out: &mut [u8], at: usize) ->
     };
     put_fields(
         names,
+        firsts,
         &s[..nucleus_end],
         &s[upper..],
         &s[lower..before_upper],
@@ -90,33 +106,47 @@ fn put_item(names: &[u8], s: &[u8], levels: usize, out: &mut [u8], at: usize) ->
 }
 
 // An expression without limits as an item: a fraction, or an atom.
-fn put_over(names: &[u8], s: &[u8], levels: usize, out: &mut [u8], at: usize) -> Made
+fn put_over(
+    names: &[u8],
+    firsts: &[usize; PLACES],
+    s: &[u8],
+    levels: usize,
+    out: &mut [u8],
+    at: usize,
+) -> Made
     requires { ⌜ at ≤ formulaLimit + 3 ⌝ }
     ensures { λ r. ⌜ Onward at r ⌝ }
-    ensures { λ r. ⌜ OverMade (now (names .entry)) (now (s .entry)) levels at (now (out .entry)) (now (out .exit)) r ⌝ }
+    ensures { λ r. ⌜ OverMade (now (names .entry)) (now (firsts .entry)) (now (s .entry)) levels at (now (out .entry)) (now (out .exit)) r ⌝ }
 {
     let over = last_outside(s, Keyword::Over);
     let denominator = over.end;
     let numerator_end = over.start;
     if numerator_end == s.len() {
-        return put_atom(names, s, levels, out, at);
+        return put_atom(names, firsts, s, levels, out, at);
     }
     let made = put_three(out, at, FRACTION_FIRST, FRACTION_SECOND, DEFAULT_BAR);
     let Made::Next(next) = made else {
         return made;
     };
-    let above = put_operand(names, &s[..numerator_end], levels, out, next);
+    let above = put_operand(names, firsts, &s[..numerator_end], levels, out, next);
     let Made::Next(end) = above else {
         return above;
     };
-    put_operand(names, &s[denominator..], levels, out, end)
+    put_operand(names, firsts, &s[denominator..], levels, out, end)
 }
 
 // A word or a group with its scripts as an item.
-fn put_atom(names: &[u8], s: &[u8], levels: usize, out: &mut [u8], at: usize) -> Made
+fn put_atom(
+    names: &[u8],
+    firsts: &[usize; PLACES],
+    s: &[u8],
+    levels: usize,
+    out: &mut [u8],
+    at: usize,
+) -> Made
     requires { ⌜ at ≤ formulaLimit + 3 ⌝ }
     ensures { λ r. ⌜ Onward at r ⌝ }
-    ensures { λ r. ⌜ AtomMade (now (names .entry)) (now (s .entry)) levels at (now (out .entry)) (now (out .exit)) r ⌝ }
+    ensures { λ r. ⌜ AtomMade (now (names .entry)) (now (firsts .entry)) (now (s .entry)) levels at (now (out .entry)) (now (out .exit)) r ⌝ }
 {
     let sup = last_outside(s, Keyword::Sup);
     let superscript = sup.end;
@@ -124,13 +154,14 @@ fn put_atom(names: &[u8], s: &[u8], levels: usize, out: &mut [u8], at: usize) ->
     let sub = last_outside(&s[..before_superscript], Keyword::Sub);
     let subscript = sub.end;
     let nucleus_end = sub.start;
-    let class = class_of(names, &s[..nucleus_end]);
+    let class = class_of(names, firsts, &s[..nucleus_end]);
     let made = put_four(out, at, ATOM_FIRST, ATOM_SECOND, class, DISPLAY_ONLY);
     let Made::Next(next) = made else {
         return made;
     };
     put_fields(
         names,
+        firsts,
         &s[..nucleus_end],
         &s[superscript..],
         &s[subscript..before_superscript],
@@ -141,8 +172,8 @@ fn put_atom(names: &[u8], s: &[u8], levels: usize, out: &mut [u8], at: usize) ->
 }
 
 // The class of an atom: its word's, or Ord for a group.
-fn class_of(names: &[u8], s: &[u8]) -> u8
-    ensures { λ r. ⌜ ClassFound (now (names .entry)) (now (s .entry)) r ⌝ }
+fn class_of(names: &[u8], firsts: &[usize; PLACES], s: &[u8]) -> u8
+    ensures { λ r. ⌜ ClassFound (now (names .entry)) (now (firsts .entry)) (now (s .entry)) r ⌝ }
 {
     let token = token_at(s, 0);
     let start = token.start;
@@ -151,7 +182,7 @@ fn class_of(names: &[u8], s: &[u8]) -> u8
     let TokenKind::Word = kind else {
         return ORD;
     };
-    let found = find(names, &s[start..end]);
+    let found = find(names, firsts, &s[start..end]);
     match found {
         WordSymbol::Named(symbol) => symbol.class,
         WordSymbol::Unnamed => ORD,
@@ -161,6 +192,7 @@ fn class_of(names: &[u8], s: &[u8]) -> u8
 // Nucleus, superscript and subscript as fields; a slice without bytes is an empty one.
 fn put_fields(
     names: &[u8],
+    firsts: &[usize; PLACES],
     nucleus: &[u8],
     superscript: &[u8],
     subscript: &[u8],
@@ -170,44 +202,58 @@ fn put_fields(
 ) -> Made
     requires { ⌜ at ≤ formulaLimit ⌝ }
     ensures { λ r. ⌜ Onward at r ⌝ }
-    ensures { λ r. ⌜ FieldsMade (now (names .entry)) (now (nucleus .entry)) (now (superscript .entry)) (now (subscript .entry)) levels at (now (out .entry)) (now (out .exit)) r ⌝ }
+    ensures { λ r. ⌜ FieldsMade (now (names .entry)) (now (firsts .entry)) (now (nucleus .entry)) (now (superscript .entry)) (now (subscript .entry)) levels at (now (out .entry)) (now (out .exit)) r ⌝ }
 {
-    let first = put_operand(names, nucleus, levels, out, at);
+    let first = put_operand(names, firsts, nucleus, levels, out, at);
     let Made::Next(second) = first else {
         return first;
     };
-    let above = put_script(names, superscript, levels, out, second);
+    let above = put_script(names, firsts, superscript, levels, out, second);
     let Made::Next(third) = above else {
         return above;
     };
-    put_script(names, subscript, levels, out, third)
+    put_script(names, firsts, subscript, levels, out, third)
 }
 
 // A script or a limit as a field, an empty one where the slice has no bytes.
-fn put_script(names: &[u8], s: &[u8], levels: usize, out: &mut [u8], at: usize) -> Made
+fn put_script(
+    names: &[u8],
+    firsts: &[usize; PLACES],
+    s: &[u8],
+    levels: usize,
+    out: &mut [u8],
+    at: usize,
+) -> Made
     requires { ⌜ at ≤ formulaLimit ⌝ }
     ensures { λ r. ⌜ Onward at r ⌝ }
-    ensures { λ r. ⌜ ScriptMade (now (names .entry)) (now (s .entry)) levels at (now (out .entry)) (now (out .exit)) r ⌝ }
+    ensures { λ r. ⌜ ScriptMade (now (names .entry)) (now (firsts .entry)) (now (s .entry)) levels at (now (out .entry)) (now (out .exit)) r ⌝ }
 {
     if s.len() == 0 {
         return put_empty(out, at);
     }
-    put_operand(names, s, levels, out, at)
+    put_operand(names, firsts, s, levels, out, at)
 }
 
 // An expression without limits as an operand: a word or a group by itself, or a list of the item.
-fn put_operand(names: &[u8], s: &[u8], levels: usize, out: &mut [u8], at: usize) -> Made
+fn put_operand(
+    names: &[u8],
+    firsts: &[usize; PLACES],
+    s: &[u8],
+    levels: usize,
+    out: &mut [u8],
+    at: usize,
+) -> Made
     requires { ⌜ at ≤ formulaLimit ⌝ }
     ensures { λ r. ⌜ Onward at r ⌝ }
-    ensures { λ r. ⌜ OperandMade (now (names .entry)) (now (s .entry)) levels at (now (out .entry)) (now (out .exit)) r ⌝ }
+    ensures { λ r. ⌜ OperandMade (now (names .entry)) (now (firsts .entry)) (now (s .entry)) levels at (now (out .entry)) (now (out .exit)) r ⌝ }
 {
     if is_bare(s) {
-        return put_primary(names, s, levels, out, at);
+        return put_primary(names, firsts, s, levels, out, at);
     }
     if levels == 0 {
         return Made::TooLarge;
     }
-    let made = put_over(names, s, levels - 1, out, at + SHORT_OPENING_BYTES);
+    let made = put_over(names, firsts, s, levels - 1, out, at + SHORT_OPENING_BYTES);
     let Made::Next(end) = made else {
         return made;
     };
@@ -225,17 +271,24 @@ fn is_bare(s: &[u8]) -> bool
 }
 
 // A word or a group as a field.
-fn put_primary(names: &[u8], s: &[u8], levels: usize, out: &mut [u8], at: usize) -> Made
+fn put_primary(
+    names: &[u8],
+    firsts: &[usize; PLACES],
+    s: &[u8],
+    levels: usize,
+    out: &mut [u8],
+    at: usize,
+) -> Made
     requires { ⌜ at ≤ formulaLimit ⌝ }
     ensures { λ r. ⌜ Onward at r ⌝ }
-    ensures { λ r. ⌜ PrimaryMade (now (names .entry)) (now (s .entry)) levels at (now (out .entry)) (now (out .exit)) r ⌝ }
+    ensures { λ r. ⌜ PrimaryMade (now (names .entry)) (now (firsts .entry)) (now (s .entry)) levels at (now (out .entry)) (now (out .exit)) r ⌝ }
 {
     let token = token_at(s, 0);
     let start = token.start;
     let end = token.end;
     let kind = token.kind;
     if let TokenKind::Word = kind {
-        let found = find(names, &s[start..end]);
+        let found = find(names, firsts, &s[start..end]);
         return put_found(found, out, at);
     }
     if levels == 0 {
@@ -244,6 +297,7 @@ fn put_primary(names: &[u8], s: &[u8], levels: usize, out: &mut [u8], at: usize)
     let last = end + last_token(&s[end..]);
     let made = put_row(
         names,
+        firsts,
         &s[end..last],
         levels - 1,
         out,

@@ -9,7 +9,7 @@ use borrow.Author.Needs.{needs}
 use lib.ListN.{length}
 use Rattle.eqn_names.specs.Names.{Name, firstFor, firstPlace, askedAs}
 use Rattle.eqn_names.specs.NamesLaws.{isFor, first-here, first-next, place-here, place-next}
-use Rattle.eqn_names.proofs.WalkLaws.{front-told, nameAt, Stands, stands, Passed, passed-none, passed-next, passed-found, passed-stopped, passed-all}
+use Rattle.eqn_names.proofs.WalkLaws.{nameAt, name-bytes, Steps, steps, steps-not, Passed, passed-none, passed-next, passed-found, passed-stopped, passed-all}
 use Rattle.eqn_names.proofs.first_for.Statement.{statement}
 use Rattle.eqn_names.proofs.first_for.Tie as tie
 
@@ -18,7 +18,7 @@ abbrev lookFor : ℕ → ℕ → ℕ → ℕ → List Name → Option Name × �
 lookFor family code class at ns = (firstFor family code (askedAs class) ns, firstPlace family code (askedAs class) at ns)
 
 abbrev Inv-loop : tie.InvT-loop
-Inv-loop names family code class at₀ at = Passed (lookFor family code class) names at
+Inv-loop names family code class at₀ at = Passed (lookFor family code class) names 0 at
 
 abbrev μ-loop : tie.MeasureT-loop
 μ-loop names family code class at₀ at = length names - at
@@ -28,9 +28,8 @@ returns c =
     let front = c .before .before in
     let test = front .before .before in
     let loop = test .before in
-    let args = loop .before .before .args in
-    let absent = front-told (loop .loop .at) (args .names .now) (front .front-record .ensures) (c .enum-told .given .1) in
-    λ ns r. absurd (passed-stopped _ _ (loop .loop .inv) (test .loop-test .taken) absent ns r)
+    let absent = steps-not (loop .before .before .args .names .now) (loop .loop .at) (front .next-record .ensures) (c .enum-told .given .1) in
+    λ ns r. absurd (passed-stopped _ _ (loop .loop .inv) (test .loop-test .taken) absent ns (ns, r, refl))
 
 -- the loop that a record was found in
 abbrev loop-of : tie.After-known-told Inv-loop μ-loop → tie.At-loop Inv-loop μ-loop
@@ -39,10 +38,10 @@ loop-of c = c .before .before .before .before .before .before
 -- the record at the loop's place
 there : (c : tie.After-known-told Inv-loop μ-loop) →
     let loop = loop-of c in
-    Stands (loop .before .before .args .names .now) (loop .loop .at) (c .before .front .given .0 .0) (c .before .front .given .0 .1 .0)
+    Steps (loop .before .before .args .names .now) (loop .loop .at) (c .before .front .given .0 .0) (c .before .front .given .0 .1 .0)
 there c =
     let front = c .before .before .before in
-    stands (front .before .before .loop-test .taken) (front .front-record .ensures) (c .before .front .given .1)
+    steps (front .before .before .loop-test .taken) (front .next-record .ensures) (c .before .front .given .1)
 
 -- whether it is for the symbol
 fitting : (c : tie.After-fits2 Inv-loop μ-loop) →
@@ -71,12 +70,12 @@ returns-2 c =
     λ ns r.
     let found =
     passed-found _ _ (loop .loop .inv) stood
-    (λ ms. both (first-here (args .family) (args .code) asked m ms fits) (place-here (args .family) (args .code) asked at m ms fits)) ns r in (
+    (λ ms. both (first-here (args .family) (args .code) asked m ms fits) (place-here (args .family) (args .code) asked at m ms fits)) ns (ns, r, refl) in (
       m,
       ap (λ (p : Option Name × ℕ). p .0) found,
       omega arith,
       omega (arith, stood .room),
-      sym (stood .bytes),
+      sym (name-bytes (args .names .now) at (given .0)),
       omega (arith, ap (λ (p : Option Name × ℕ). p .1) found),
     )
 
@@ -95,7 +94,7 @@ loop-again c =
 
 returns-3 : tie.Need-returns-3 Inv-loop μ-loop
 unfolding firstFor firstPlace
-returns-3 c = λ ns r. ap (λ (p : Option Name × ℕ). p .0) (passed-all _ _ (c .before .loop .inv) (c .loop-test .left) refl ns r)
+returns-3 c = λ ns r. ap (λ (p : Option Name × ℕ). p .0) (passed-all _ _ (c .before .loop .inv) (c .loop-test .left) refl ns (ns, r, refl))
 
 pub first-for-spec : {M : Type 1} → statement M
 first-for-spec =

@@ -9,7 +9,8 @@ use native.Mathlib.Omega.{arith}
 use borrow.Author.Needs.{needs}
 use lib.ListN.{length}
 use Rattle.eqn_names.specs.declared.WordSymbol.{WordSymbol}
-use Rattle.eqn_names.specs.Names.{Name, isThere, Records}
+use Rattle.eqn_names.specs.Names.{Name, isThere}
+use Rattle.eqn_names.specs.Firsts.{Listed}
 use Rattle.eqn_names.specs.Unknown.{isUnknown}
 use Rattle.eqn_tokens.specs.Values.{kindAs}
 use Rattle.eqn_names.specs.Values.{foundAs}
@@ -20,10 +21,10 @@ use Rattle.eqn_names.proofs.first_unknown.Statement.{statement}
 use Rattle.eqn_names.proofs.first_unknown.Tie as tie
 
 abbrev Inv-loop : tie.InvT-loop
-Inv-loop names text at₀ at = (at ≤ length text) × ((ns : List Name) → Records names ns → Looked ns text at)
+Inv-loop names firsts text at₀ at = (at ≤ length text) × ((ns : List Name) → Listed names firsts ns → Looked ns text at)
 
 abbrev μ-loop : tie.MeasureT-loop
-μ-loop names text at₀ at = length text - at
+μ-loop names firsts text at₀ at = length text - at
 
 -- of a word: whether it is unknown
 told : (c : tie.After-find Inv-loop μ-loop) (v : WordSymbol) → c .find .result ≡ v → (ns : List Name) →
@@ -31,7 +32,7 @@ told : (c : tie.After-find Inv-loop μ-loop) (v : WordSymbol) → c .find .resul
     let turn = token .before .before in
     let args = turn .before .before .before .args in
     let w = bytesOf (args .text .now) (token .token-at .result) in
-    Records (args .names .now) ns → isUnknown ns (kindAs (token .token-at .result .kind) w) ≡ not (isThere (foundAs w v))
+    Listed (args .names .now) (args .firsts .now) ns → isUnknown ns (kindAs (token .token-at .result .kind) w) ≡ not (isThere (foundAs w v))
 told c v is ns r =
     let token = c .before .before .before .before in
     let turn = token .before .before in

@@ -7,7 +7,8 @@ use borrow.Author.Needs.{needs}
 use Rattle.eqn_tokens.specs.declared.tokens.TokenKind.{TokenKind}
 use Rattle.eqn_names.specs.declared.WordSymbol.{WordSymbol}
 use Rattle.eqn_tokens.specs.Tokens.{keywordOf}
-use Rattle.eqn_names.specs.Names.{Name, isWord, isKeyword, named, isThere, Records}
+use Rattle.eqn_names.specs.Names.{Name, isWord, isKeyword, named, isThere}
+use Rattle.eqn_names.specs.Firsts.{From}
 use Rattle.eqn_tokens.specs.Values.{kindAs}
 use Rattle.eqn_names.specs.Values.{foundAs}
 use Rattle.eqn_names.proofs.KindLaws.{plain}
@@ -23,17 +24,17 @@ returns c =
     λ ns r. rw no-word
 
 -- of a word: whether it is there
-word-new : (c : tie.After-find) (v : WordSymbol) → c .find .result ≡ v → (ns : List Name) →
+word-new : (c : tie.After-find-from) (v : WordSymbol) → c .find-from .result ≡ v → (ns : List Name) →
     let called = c .before .before .before in
     let args = called .before .before .before .args in
     let w = args .name .now in
-    Records (args .before .now) ns → not (isThere (foundAs w v)) ≡ (not (isKeyword w) && not (isThere (named ns w)))
+    From (args .before .now) ns w (args .from) → not (isThere (foundAs w v)) ≡ (not (isKeyword w) && not (isThere (named ns w)))
 word-new c v is ns r =
     let called = c .before .before .before in
     let w = called .before .before .before .args .name .now in
     let word : isWord (keywordOf w) ≡ true =
     ap isWord (sym (called .word-kind .ensures) ∙ ap (λ (k : TokenKind). kindAs k w) (c .before .enum-told .given .1)) in
-    let found : named ns w ≡ foundAs w v = sym (c .find .ensures ns r) ∙ ap (foundAs w) is in
+    let found : named ns w ≡ foundAs w v = sym (c .find-from .ensures ns r) ∙ ap (foundAs w) is in
     rw (word, found)
 
 returns-2 : tie.Need-returns-2

@@ -66,85 +66,85 @@ use Rattle.eqn_stores.proofs.up_to.Reads as up-to-reads
 use Rattle.eqn_read.proofs.making.+put_atom+put_fields+put_item+put_operand+put_over+put_primary+put_row+put_script.{statement}
 use Rattle.eqn_read.proofs.making.+put_atom+put_fields+put_item+put_operand+put_over+put_primary+put_row+put_script.Tie.{close}
 
-abbrev μ-put-atom : Measures 3 put-atom-kinds.ps ℕ
-μ-put-atom κs a = 8 * a .1 .1 .0 + 4
+abbrev μ-put-atom : Measures 4 put-atom-kinds.ps ℕ
+μ-put-atom κs a = 8 * a .1 .1 .1 .0 + 4
 
-abbrev μ-put-fields : Measures 5 put-fields-kinds.ps ℕ
-μ-put-fields κs a = 8 * a .1 .1 .1 .1 .0 + 3
+abbrev μ-put-fields : Measures 6 put-fields-kinds.ps ℕ
+μ-put-fields κs a = 8 * a .1 .1 .1 .1 .1 .0 + 3
 
-abbrev μ-put-item : Measures 3 put-item-kinds.ps ℕ
-μ-put-item κs a = 8 * a .1 .1 .0 + 6
+abbrev μ-put-item : Measures 4 put-item-kinds.ps ℕ
+μ-put-item κs a = 8 * a .1 .1 .1 .0 + 6
 
-abbrev μ-put-operand : Measures 3 put-operand-kinds.ps ℕ
-μ-put-operand κs a = 8 * a .1 .1 .0 + 1
+abbrev μ-put-operand : Measures 4 put-operand-kinds.ps ℕ
+μ-put-operand κs a = 8 * a .1 .1 .1 .0 + 1
 
-abbrev μ-put-over : Measures 3 put-over-kinds.ps ℕ
-μ-put-over κs a = 8 * a .1 .1 .0 + 5
+abbrev μ-put-over : Measures 4 put-over-kinds.ps ℕ
+μ-put-over κs a = 8 * a .1 .1 .1 .0 + 5
 
-abbrev μ-put-primary : Measures 3 put-primary-kinds.ps ℕ
-μ-put-primary κs a = 8 * a .1 .1 .0
+abbrev μ-put-primary : Measures 4 put-primary-kinds.ps ℕ
+μ-put-primary κs a = 8 * a .1 .1 .1 .0
 
-abbrev μ-put-row : Measures 3 put-row-kinds.ps ℕ
-μ-put-row κs a = 8 * a .1 .1 .0 + 7
+abbrev μ-put-row : Measures 4 put-row-kinds.ps ℕ
+μ-put-row κs a = 8 * a .1 .1 .1 .0 + 7
 
-abbrev μ-put-script : Measures 3 put-script-kinds.ps ℕ
-μ-put-script κs a = 8 * a .1 .1 .0 + 2
+abbrev μ-put-script : Measures 4 put-script-kinds.ps ℕ
+μ-put-script κs a = 8 * a .1 .1 .1 .0 + 2
 
 abbrev put-row-Inv-loop : put-row-lts.InvT-loop
-put-row-Inv-loop names s levels out₀ at from₀ end₀ out from end = RowLeft names s levels at out₀ from end out
+put-row-Inv-loop names firsts s levels out₀ at from₀ end₀ out from end = RowLeft names firsts s levels at out₀ from end out
 
 abbrev put-row-μ-loop : put-row-lts.MeasureT-loop
-put-row-μ-loop names s levels out₀ at from₀ end₀ out from end = length s - from
+put-row-μ-loop names firsts s levels out₀ at from₀ end₀ out from end = length s - from
 
 -- with the measure t
 module _ (t : ℕ) where
-  abbrev put-atom-at : In 3 put-atom-kinds.ps
-  put-atom-at = at 3 put-atom-kinds.ps μ-put-atom put-atom.Pre t
+  abbrev put-atom-at : In 4 put-atom-kinds.ps
+  put-atom-at = at 4 put-atom-kinds.ps μ-put-atom put-atom.Pre t
 
-  abbrev put-fields-at : In 5 put-fields-kinds.ps
-  put-fields-at = at 5 put-fields-kinds.ps μ-put-fields put-fields.Pre t
+  abbrev put-fields-at : In 6 put-fields-kinds.ps
+  put-fields-at = at 6 put-fields-kinds.ps μ-put-fields put-fields.Pre t
 
-  abbrev put-item-at : In 3 put-item-kinds.ps
-  put-item-at = at 3 put-item-kinds.ps μ-put-item put-item.Pre t
+  abbrev put-item-at : In 4 put-item-kinds.ps
+  put-item-at = at 4 put-item-kinds.ps μ-put-item put-item.Pre t
 
-  abbrev put-operand-at : In 3 put-operand-kinds.ps
-  put-operand-at = at 3 put-operand-kinds.ps μ-put-operand put-operand.Pre t
+  abbrev put-operand-at : In 4 put-operand-kinds.ps
+  put-operand-at = at 4 put-operand-kinds.ps μ-put-operand put-operand.Pre t
 
-  abbrev put-over-at : In 3 put-over-kinds.ps
-  put-over-at = at 3 put-over-kinds.ps μ-put-over put-over.Pre t
+  abbrev put-over-at : In 4 put-over-kinds.ps
+  put-over-at = at 4 put-over-kinds.ps μ-put-over put-over.Pre t
 
-  abbrev put-primary-at : In 3 put-primary-kinds.ps
-  put-primary-at = at 3 put-primary-kinds.ps μ-put-primary put-primary.Pre t
+  abbrev put-primary-at : In 4 put-primary-kinds.ps
+  put-primary-at = at 4 put-primary-kinds.ps μ-put-primary put-primary.Pre t
 
-  abbrev put-row-at : In 3 put-row-kinds.ps
-  put-row-at = at 3 put-row-kinds.ps μ-put-row put-row.Pre t
+  abbrev put-row-at : In 4 put-row-kinds.ps
+  put-row-at = at 4 put-row-kinds.ps μ-put-row put-row.Pre t
 
-  abbrev put-script-at : In 3 put-script-kinds.ps
-  put-script-at = at 3 put-script-kinds.ps μ-put-script put-script.Pre t
+  abbrev put-script-at : In 4 put-script-kinds.ps
+  put-script-at = at 4 put-script-kinds.ps μ-put-script put-script.Pre t
 
   abbrev put-atom-claims : put-atom-lts.Claims
-  put-atom-claims = (last-outside-reads.Asked, last-outside-reads.Learnt, class-of-reads.Asked, class-of-reads.Learnt, put-four-reads.Asked, put-four-reads.Learnt, below 5 put-fields-kinds.ps μ-put-fields put-fields.Pre t, put-fields.Post)
+  put-atom-claims = (last-outside-reads.Asked, last-outside-reads.Learnt, class-of-reads.Asked, class-of-reads.Learnt, put-four-reads.Asked, put-four-reads.Learnt, below 6 put-fields-kinds.ps μ-put-fields put-fields.Pre t, put-fields.Post)
 
   abbrev put-fields-claims : put-fields-lts.Claims
-  put-fields-claims = (below 3 put-operand-kinds.ps μ-put-operand put-operand.Pre t, put-operand.Post, below 3 put-script-kinds.ps μ-put-script put-script.Pre t, put-script.Post)
+  put-fields-claims = (below 4 put-operand-kinds.ps μ-put-operand put-operand.Pre t, put-operand.Post, below 4 put-script-kinds.ps μ-put-script put-script.Pre t, put-script.Post)
 
   abbrev put-item-claims : put-item-lts.Claims
-  put-item-claims = (last-outside-reads.Asked, last-outside-reads.Learnt, below 3 put-over-kinds.ps μ-put-over put-over.Pre t, put-over.Post, put-four-reads.Asked, put-four-reads.Learnt, below 5 put-fields-kinds.ps μ-put-fields put-fields.Pre t, put-fields.Post)
+  put-item-claims = (last-outside-reads.Asked, last-outside-reads.Learnt, below 4 put-over-kinds.ps μ-put-over put-over.Pre t, put-over.Post, put-four-reads.Asked, put-four-reads.Learnt, below 6 put-fields-kinds.ps μ-put-fields put-fields.Pre t, put-fields.Post)
 
   abbrev put-operand-claims : put-operand-lts.Claims
-  put-operand-claims = (is-bare-reads.Asked, is-bare-reads.Learnt, below 3 put-primary-kinds.ps μ-put-primary put-primary.Pre t, put-primary.Post, below 3 put-over-kinds.ps μ-put-over put-over.Pre t, put-over.Post, close-list-reads.Asked, close-list-reads.Learnt)
+  put-operand-claims = (is-bare-reads.Asked, is-bare-reads.Learnt, below 4 put-primary-kinds.ps μ-put-primary put-primary.Pre t, put-primary.Post, below 4 put-over-kinds.ps μ-put-over put-over.Pre t, put-over.Post, close-list-reads.Asked, close-list-reads.Learnt)
 
   abbrev put-over-claims : put-over-lts.Claims
-  put-over-claims = (last-outside-reads.Asked, last-outside-reads.Learnt, below 3 put-atom-kinds.ps μ-put-atom put-atom.Pre t, put-atom.Post, put-three-reads.Asked, put-three-reads.Learnt, below 3 put-operand-kinds.ps μ-put-operand put-operand.Pre t, put-operand.Post)
+  put-over-claims = (last-outside-reads.Asked, last-outside-reads.Learnt, below 4 put-atom-kinds.ps μ-put-atom put-atom.Pre t, put-atom.Post, put-three-reads.Asked, put-three-reads.Learnt, below 4 put-operand-kinds.ps μ-put-operand put-operand.Pre t, put-operand.Post)
 
   abbrev put-primary-claims : put-primary-lts.Claims
-  put-primary-claims = (token-at-reads.Asked, token-at-reads.Learnt, find-reads.Asked, find-reads.Learnt, put-found-reads.Asked, put-found-reads.Learnt, last-token-reads.Asked, last-token-reads.Learnt, below 3 put-row-kinds.ps μ-put-row put-row.Pre t, put-row.Post, close-list-reads.Asked, close-list-reads.Learnt)
+  put-primary-claims = (token-at-reads.Asked, token-at-reads.Learnt, find-reads.Asked, find-reads.Learnt, put-found-reads.Asked, put-found-reads.Learnt, last-token-reads.Asked, last-token-reads.Learnt, below 4 put-row-kinds.ps μ-put-row put-row.Pre t, put-row.Post, close-list-reads.Asked, close-list-reads.Learnt)
 
   abbrev put-row-claims : put-row-lts.Claims
-  put-row-claims = (token-at-reads.Asked, token-at-reads.Learnt, up-to-reads.Asked, up-to-reads.Learnt, expression-end-reads.Asked, expression-end-reads.Learnt, below 3 put-item-kinds.ps μ-put-item put-item.Pre t, put-item.Post)
+  put-row-claims = (token-at-reads.Asked, token-at-reads.Learnt, up-to-reads.Asked, up-to-reads.Learnt, expression-end-reads.Asked, expression-end-reads.Learnt, below 4 put-item-kinds.ps μ-put-item put-item.Pre t, put-item.Post)
 
   abbrev put-script-claims : put-script-lts.Claims
-  put-script-claims = (put-empty-reads.Asked, put-empty-reads.Learnt, below 3 put-operand-kinds.ps μ-put-operand put-operand.Pre t, put-operand.Post)
+  put-script-claims = (put-empty-reads.Asked, put-empty-reads.Learnt, below 4 put-operand-kinds.ps μ-put-operand put-operand.Pre t, put-operand.Post)
 
   -- ---- put_atom
 
@@ -153,7 +153,7 @@ module _ (t : ℕ) where
       let sub = class .before .before in
       let sup = sub .before .before in
       let a = sup .before .before .before .before .args in
-      AtomOpened (a .names .now) (a .s .now) (a .levels) (a .at) (a .out .now) (sup .last-outside .result) (sub .last-outside2 .result)
+      AtomOpened (a .names .now) (a .firsts .now) (a .s .now) (a .levels) (a .at) (a .out .now) (sup .last-outside .result) (sub .last-outside2 .result)
       (class .class-of .result) (c .put-four .result) (c .put-four .last .0)
   atom-opened c =
       let class = c .before .before in
@@ -165,7 +165,7 @@ module _ (t : ℕ) where
       let call = c .before .before in
       let lent = call .before .before .before in
       let told = lent .before .before .before in
-      atom-done (atom-opened (told .before .before .before .before)) (call .put-fields .last .1 .1 .1 .1 .1 .0) (call .put-fields .result) (told .made .given .1) (call .put-fields .ensures)
+      atom-done (atom-opened (told .before .before .before .before)) (call .put-fields .last .1 .1 .1 .1 .1 .1 .0) (call .put-fields .result) (told .made .given .1) (call .put-fields .ensures)
 
   -- ---- put_fields
 
@@ -177,8 +177,8 @@ module _ (t : ℕ) where
       let told = c .before .before .before in
       let call = told .before .before .before .before in
       let a = pf-start call .args in
-      FieldsBegun (a .names .now) (a .nucleus .now) (a .superscript .now) (a .subscript .now) (a .levels) (a .at) (a .out .now)
-      (call .put-operand .result) (call .put-operand .last .1 .1 .1 .0) (told .first .given .0 .0) (c .put-script .result) (c .put-script .last .1 .1 .1 .0)
+      FieldsBegun (a .names .now) (a .firsts .now) (a .nucleus .now) (a .superscript .now) (a .subscript .now) (a .levels) (a .at) (a .out .now)
+      (call .put-operand .result) (call .put-operand .last .1 .1 .1 .1 .0) (told .first .given .0 .0) (c .put-script .result) (c .put-script .last .1 .1 .1 .1 .0)
   fields-begun c =
       let told = c .before .before .before in
       record { first = told .before .before .before .before .put-operand .ensures; is = told .first .given .1; second = c .put-script .ensures }
@@ -187,13 +187,13 @@ module _ (t : ℕ) where
   put-fields-returns c =
       let call = c .before .before .before .before in
       let a = pf-start call .args in
-      fields-first (a .names .now) (a .nucleus .now) (a .superscript .now) (a .subscript .now) (a .levels) (a .at) (a .out .now) (call .put-operand .last .1 .1 .1 .0) (call .put-operand .result) (call .put-operand .ensures .1) (c .enum-told .given .1)
+      fields-first (a .names .now) (a .firsts .now) (a .nucleus .now) (a .superscript .now) (a .subscript .now) (a .levels) (a .at) (a .out .now) (call .put-operand .last .1 .1 .1 .1 .0) (call .put-operand .result) (call .put-operand .ensures .1) (c .enum-told .given .1)
 
   put-fields-returns-3 : put-fields-lts.Need-returns-3 put-fields-claims put-fields-at put-fields.Post
   put-fields-returns-3 c =
       let last = c .before .before in
       let told = last .before .before .before in
-      fields-done (fields-begun (told .before .before .before .before)) (last .put-script2 .last .1 .1 .1 .0) (last .put-script2 .result) (told .above .given .1) (last .put-script2 .ensures)
+      fields-done (fields-begun (told .before .before .before .before)) (last .put-script2 .last .1 .1 .1 .1 .0) (last .put-script2 .result) (told .above .given .1) (last .put-script2 .ensures)
 
   -- ---- put_item
 
@@ -201,7 +201,7 @@ module _ (t : ℕ) where
       let from = c .before .before .before in
       let to = from .before .before in
       let a = to .before .before .before .before .args in
-      ItemOpened (a .names .now) (a .s .now) (a .levels) (a .at) (a .out .now) (to .last-outside .result) (from .last-outside2 .result)
+      ItemOpened (a .names .now) (a .firsts .now) (a .s .now) (a .levels) (a .at) (a .out .now) (to .last-outside .result) (from .last-outside2 .result)
       (c .put-four .result) (c .put-four .last .0)
   item-opened c =
       let test = c .before .before in
@@ -215,14 +215,14 @@ module _ (t : ℕ) where
       let from = test .before in
       let to = from .before .before in
       let a = to .before .before .before .before .args in
-      item-whole (to .last-outside .ensures) (from .last-outside2 .ensures) (a .levels) (a .at) (a .out .now) (call .put-over .last .1 .1 .1 .0) (call .put-over .result) (test .if1 .taken) (call .put-over .ensures)
+      item-whole (to .last-outside .ensures) (from .last-outside2 .ensures) (a .levels) (a .at) (a .out .now) (call .put-over .last .1 .1 .1 .1 .0) (call .put-over .result) (test .if1 .taken) (call .put-over .ensures)
 
   put-item-returns-3 : put-item-lts.Need-returns-3 put-item-claims put-item-at put-item.Post
   put-item-returns-3 c =
       let call = c .before .before in
       let lent = call .before .before .before in
       let told = lent .before .before .before in
-      item-done (item-opened (told .before .before .before .before)) (call .put-fields .last .1 .1 .1 .1 .1 .0) (call .put-fields .result) (told .made .given .1) (call .put-fields .ensures)
+      item-done (item-opened (told .before .before .before .before)) (call .put-fields .last .1 .1 .1 .1 .1 .1 .0) (call .put-fields .result) (told .made .given .1) (call .put-fields .ensures)
 
   -- ---- put_operand
 
@@ -230,7 +230,7 @@ module _ (t : ℕ) where
       let more = c .before .before .before in
       let bare = more .before in
       let a = bare .before .before .before .before .args in
-      ListPut (a .names .now) (a .s .now) (a .levels) (a .at) (a .out .now) (c .put-over .result) (c .put-over .last .1 .1 .1 .0)
+      ListPut (a .names .now) (a .firsts .now) (a .s .now) (a .levels) (a .at) (a .out .now) (c .put-over .result) (c .put-over .last .1 .1 .1 .1 .0)
   list-put c =
       let more = c .before .before .before in
       record { more = sym (more .before .is-bare .ensures) ∙ more .if1 .left; some = omega arith; over = c .put-over .ensures }
@@ -241,13 +241,13 @@ module _ (t : ℕ) where
       let test = call .before .before in
       let bare = test .before in
       let a = bare .before .before .before .before .args in
-      operand-bare (a .names .now) (a .s .now) (a .levels) (a .at) (a .out .now) (call .put-primary .last .1 .1 .1 .0) (call .put-primary .result) (sym (bare .is-bare .ensures) ∙ test .if1 .taken) (call .put-primary .ensures)
+      operand-bare (a .names .now) (a .firsts .now) (a .s .now) (a .levels) (a .at) (a .out .now) (call .put-primary .last .1 .1 .1 .1 .0) (call .put-primary .result) (sym (bare .is-bare .ensures) ∙ test .if1 .taken) (call .put-primary .ensures)
 
   put-operand-returns-2 : put-operand-lts.Need-returns-2 put-operand-claims put-operand-at put-operand.Post
   put-operand-returns-2 c =
       let bare = c .before .before in
       let a = bare .before .before .before .before .args in
-      operand-deep (a .names .now) (a .s .now) (a .levels) (a .at) (a .out .now) (sym (bare .is-bare .ensures) ∙ c .before .if1 .left) (c .if2 .taken)
+      operand-deep (a .names .now) (a .firsts .now) (a .s .now) (a .levels) (a .at) (a .out .now) (sym (bare .is-bare .ensures) ∙ c .before .if1 .left) (c .if2 .taken)
 
   put-operand-returns-4 : put-operand-lts.Need-returns-4 put-operand-claims put-operand-at put-operand.Post
   put-operand-returns-4 c =
@@ -260,7 +260,7 @@ module _ (t : ℕ) where
   over-opened : (c : put-over-lts.After-put-three put-over-claims put-over-at put-over.Post) →
       let cut = c .before .before .before in
       let a = cut .before .before .before .before .args in
-      OverOpened (a .names .now) (a .s .now) (a .levels) (a .at) (a .out .now) (cut .last-outside .result) (c .put-three .result) (c .put-three .last .0)
+      OverOpened (a .names .now) (a .firsts .now) (a .s .now) (a .levels) (a .at) (a .out .now) (cut .last-outside .result) (c .put-three .result) (c .put-three .last .0)
   over-opened c =
       let test = c .before .before in
       record { split = test .before .last-outside .ensures; there = test .if1 .left; opening = c .put-three .ensures }
@@ -270,8 +270,8 @@ module _ (t : ℕ) where
       let put = told .before .before .before .before in
       let cut = put .before .before .before in
       let a = cut .before .before .before .before .args in
-      OverBegun (a .names .now) (a .s .now) (a .levels) (a .at) (a .out .now) (cut .last-outside .result) (put .put-three .result)
-      (put .put-three .last .0) (told .made .given .0 .0) (c .put-operand .result) (c .put-operand .last .1 .1 .1 .0)
+      OverBegun (a .names .now) (a .firsts .now) (a .s .now) (a .levels) (a .at) (a .out .now) (cut .last-outside .result) (put .put-three .result)
+      (put .put-three .last .0) (told .made .given .0 .0) (c .put-operand .result) (c .put-operand .last .1 .1 .1 .1 .0)
   over-begun c =
       let told = c .before .before .before .before in
       record { opened = over-opened (told .before .before .before .before); is = told .made .given .1; above = c .put-operand .ensures }
@@ -282,13 +282,13 @@ module _ (t : ℕ) where
       let test = call .before .before in
       let cut = test .before in
       let a = cut .before .before .before .before .args in
-      over-single (cut .last-outside .ensures) (a .levels) (a .at) (a .out .now) (call .put-atom .last .1 .1 .1 .0) (call .put-atom .result) (test .if1 .taken) (call .put-atom .ensures)
+      over-single (cut .last-outside .ensures) (a .levels) (a .at) (a .out .now) (call .put-atom .last .1 .1 .1 .1 .0) (call .put-atom .result) (test .if1 .taken) (call .put-atom .ensures)
 
   put-over-returns-4 : put-over-lts.Need-returns-4 put-over-claims put-over-at put-over.Post
   put-over-returns-4 c =
       let last = c .before .before in
       let told = last .before .before .before .before in
-      over-done (over-begun (told .before .before .before .before)) (last .put-operand2 .last .1 .1 .1 .0) (last .put-operand2 .result) (told .above .given .1) (last .put-operand2 .ensures)
+      over-done (over-begun (told .before .before .before .before)) (last .put-operand2 .last .1 .1 .1 .1 .0) (last .put-operand2 .result) (told .above .given .1) (last .put-operand2 .ensures)
 
   -- ---- put_primary
 
@@ -301,8 +301,8 @@ module _ (t : ℕ) where
       let inside = c .before .before .before in
       let called = inside .before .before .before .before in
       let a = called .before .before .before .before .args in
-      GroupPut (a .names .now) (a .s .now) (a .levels) (a .at) (a .out .now) (called .token-at .result) (inside .last-token .result)
-      (c .put-row .result) (c .put-row .last .1 .1 .1 .0)
+      GroupPut (a .names .now) (a .firsts .now) (a .s .now) (a .levels) (a .at) (a .out .now) (called .token-at .result) (inside .last-token .result)
+      (c .put-row .result) (c .put-row .last .1 .1 .1 .1 .0)
   group-put c =
       let inside = c .before .before .before in
       let other = inside .before .before .before in
@@ -321,14 +321,14 @@ module _ (t : ℕ) where
       let told = sought .before .before in
       let called = told .before .before in
       let a = called .before .before .before .before .args in
-      word-put (a .names .now) (called .token-at .ensures) (a .levels) (a .at) (a .out .now) (call .put-found .last .1 .0) (sought .find .result) (call .put-found .result) (told .enum-told .given .1) (sought .find .ensures) (call .put-found .ensures)
+      word-put (a .names .now) (a .firsts .now) (called .token-at .ensures) (a .levels) (a .at) (a .out .now) (call .put-found .last .1 .0) (sought .find .result) (call .put-found .result) (told .enum-told .given .1) (sought .find .ensures) (call .put-found .ensures)
 
   put-primary-returns-2 : put-primary-lts.Need-returns-2 put-primary-claims put-primary-at put-primary.Post
   put-primary-returns-2 c =
       let other = c .before in
       let called = other .before in
       let a = called .before .before .before .before .args in
-      group-deep (a .names .now) (called .token-at .ensures) (a .levels) (a .at) (a .out .now) (no-word other) (c .if1 .taken)
+      group-deep (a .names .now) (a .firsts .now) (called .token-at .ensures) (a .levels) (a .at) (a .out .now) (no-word other) (c .if1 .taken)
 
   put-primary-returns-4 : put-primary-lts.Need-returns-4 put-primary-claims put-primary-at put-primary.Post
   put-primary-returns-4 c =
@@ -348,8 +348,8 @@ module _ (t : ℕ) where
       let cut = c .before .before .before in
       let loop = cut .before .before .before .before in
       let a = loop .before .before .before .before .args in
-      RowTurn (a .names .now) (a .s .now) (a .levels) (a .at) (a .out .now) (loop .loop .from) (loop .loop .end) (loop .loop .out)
-      (cut .expression-end .result) (c .put-item .result) (c .put-item .last .1 .1 .1 .0)
+      RowTurn (a .names .now) (a .firsts .now) (a .s .now) (a .levels) (a .at) (a .out .now) (loop .loop .from) (loop .loop .end) (loop .loop .out)
+      (cut .expression-end .result) (c .put-item .result) (c .put-item .last .1 .1 .1 .1 .0)
   row-turn c =
       let cut = c .before .before .before in
       let some = cut .before in
@@ -368,14 +368,14 @@ module _ (t : ℕ) where
       let call = c .before .before in
       let test = call .before .before in
       let a = test .before .before .before .before .args in
-      script-none (a .names .now) (a .s .now) (a .levels) (a .at) (a .out .now) (call .put-empty .last .0) (call .put-empty .result) (test .if1 .taken) (call .put-empty .ensures)
+      script-none (a .names .now) (a .firsts .now) (a .s .now) (a .levels) (a .at) (a .out .now) (call .put-empty .last .0) (call .put-empty .result) (test .if1 .taken) (call .put-empty .ensures)
 
   put-script-returns-2 : put-script-lts.Need-returns-2 put-script-claims put-script-at put-script.Post
   put-script-returns-2 c =
       let call = c .before .before in
       let test = call .before .before in
       let a = test .before .before .before .before .args in
-      script-some (a .names .now) (a .s .now) (a .levels) (a .at) (a .out .now) (call .put-operand .last .1 .1 .1 .0) (call .put-operand .result) (test .if1 .left) (call .put-operand .ensures)
+      script-some (a .names .now) (a .firsts .now) (a .s .now) (a .levels) (a .at) (a .out .now) (call .put-operand .last .1 .1 .1 .1 .0) (call .put-operand .result) (test .if1 .left) (call .put-operand .ensures)
 
 pub +put-atom+put-fields+put-item+put-operand+put-over+put-primary+put-row+put-script-spec : {M : Type 1} → statement M
 +put-atom+put-fields+put-item+put-operand+put-over+put-primary+put-row+put-script-spec =
@@ -505,7 +505,7 @@ pub +put-atom+put-fields+put-item+put-operand+put-over+put-primary+put-row+put-s
     (λ c. search needs)
     (put-primary-returns-4 t))
     (λ t. put-row-lts.spec (put-row-claims t) (put-row-at t) put-row.Post put-row-Inv-loop put-row-μ-loop
-    (λ c. let start = c .before .before .before in let a = start .args in row-start (a .names .now) (a .s .now) (a .levels) (a .at) (a .out .now) (start .pre .1))
+    (λ c. let start = c .before .before .before in let a = start .args in row-start (a .names .now) (a .firsts .now) (a .s .now) (a .levels) (a .at) (a .out .now) (start .pre .1))
     (λ c κs. search needs)
     (λ c. search needs)
     (λ c κs. search needs)

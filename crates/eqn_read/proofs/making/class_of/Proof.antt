@@ -16,20 +16,20 @@ returns : tie.Need-returns
 returns c =
     let called = c .before in
     let a = called .before .before .before .args in
-    group-class (a .names .now) (called .token-at .ensures)
+    group-class (a .names .now) (a .firsts .now) (called .token-at .ensures)
     (λ is. miss (1 ∷ 2 ∷ 3 ∷ 4 ∷ 5 ∷ []) 0 tt (rw is at (c .match .keys2)))
 
 -- of a word that was looked for
 class-sought : (c : tie.After-find) (found : WordSymbol) → c .find .result ≡ found →
     let told = c .before .before in
     let called = told .before .before in
-    let a = called .before .before .before .args in ClassFound (a .names .now) (a .s .now) (foundClass found)
+    let a = called .before .before .before .args in ClassFound (a .names .now) (a .firsts .now) (a .s .now) (foundClass found)
 class-sought c found is =
     let told = c .before .before in
     let called = told .before .before in
     let a = called .before .before .before .args in
-    subst (λ (f : WordSymbol). ClassFound (a .names .now) (a .s .now) (foundClass f)) is
-    (word-class (a .names .now) (called .token-at .ensures) (c .find .result) (told .enum-told .given .1) (c .find .ensures))
+    subst (λ (f : WordSymbol). ClassFound (a .names .now) (a .firsts .now) (a .s .now) (foundClass f)) is
+    (word-class (a .names .now) (a .firsts .now) (called .token-at .ensures) (c .find .result) (told .enum-told .given .1) (c .find .ensures))
 
 pub class-of-spec : {M : Type 1} → statement M
 class-of-spec =
