@@ -1,4 +1,7 @@
 // An item, from the shapes of its fields: its size, where its fields stand, and its own nodes.
+
+#![tactic(auto)]
+
 pub mod why;
 
 ghost use Rattle.std.specs.Prelude.{◌≡◌, ◌≤◌};
@@ -69,7 +72,7 @@ pub fn third_style(style: Style) -> Style
 }
 
 // How a field is set: as it is, with a symbol that gives way to its successor, or with a list between a fence's delimiters.
-#[derive(Drop)]
+#[derive(Clone, Copy)]
 pub enum Manner {
     Plain,
     Enlarged,
@@ -199,7 +202,7 @@ fn is_given(script: Script) -> bool
 }
 
 // How many own nodes an item has before its first field, and behind it. Its fields do not change that.
-#[derive(Drop)]
+#[derive(Clone, Copy)]
 pub struct OwnCounts {
     pub before: usize,
     pub behind: usize,

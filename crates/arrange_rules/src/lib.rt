@@ -1,5 +1,7 @@
 // The nucleus that a root is, and a fence. An item is defined in specs/Arrange.antt, from the shapes of its fields.
 
+#![tactic(auto)]
+
 ghost use Rattle.std.specs.Prelude.{◌≡◌};
 ghost use Rattle.arrange_rules.specs.Arrange.{root_nucleus, fence_nucleus};
 ghost use Rattle.delimiters.specs.Values.{signs_as};

@@ -1,5 +1,8 @@
 // What the rules see of a field and say of an item: sizes and places. Styles and font parameters have modules of their own.
 // Each file here is defined in the file of specs/ that has its name, this one in specs/Boxes.antt.
+
+#![tactic(auto)]
+
 pub mod parameters;
 pub mod styles;
 
@@ -13,7 +16,7 @@ ghost use Rattle.boxes.specs.Bounds.{words, item_words, Moderate, ModerateShape,
 use font::Metrics;
 use scaled::Sp;
 
-#[derive(Drop)]
+#[derive(Clone, Copy)]
 pub struct Size {
     pub width: Sp,
     pub height: Sp,
@@ -21,7 +24,7 @@ pub struct Size {
 }
 
 // A field: empty, a symbol that the font has, or a list that has been set.
-#[derive(Drop)]
+#[derive(Clone, Copy)]
 pub enum Shape {
     Nothing,
     Char(Metrics),
@@ -29,28 +32,28 @@ pub enum Shape {
 }
 
 // A superscript or a subscript, if there is one.
-#[derive(Drop)]
+#[derive(Clone, Copy)]
 pub enum Script {
     Absent,
     Given(Size),
 }
 
 // Across to the right and up, from the item's reference point.
-#[derive(Drop)]
+#[derive(Clone, Copy)]
 pub struct Offset {
     pub across: Sp,
     pub up: Sp,
 }
 
 // How far a superscript or numerator is shifted up, and a subscript or denominator down.
-#[derive(Drop)]
+#[derive(Clone, Copy)]
 pub struct Shifts {
     pub up: Sp,
     pub down: Sp,
 }
 
 // A line or a bar; `corner` is its lower left one.
-#[derive(Drop)]
+#[derive(Clone, Copy)]
 pub struct Rule {
     pub corner: Offset,
     pub width: Sp,
@@ -58,7 +61,7 @@ pub struct Rule {
 }
 
 // The symbol of a delimiter at its place, with the size in which it was found.
-#[derive(Drop)]
+#[derive(Clone, Copy)]
 pub struct Glyph {
     pub place: Offset,
     pub size: u8,
@@ -67,35 +70,35 @@ pub struct Glyph {
 }
 
 // A line or a bar, if there is one.
-#[derive(Drop)]
+#[derive(Clone, Copy)]
 pub enum Ruling {
     Unruled,
     Ruled(Rule),
 }
 
 // A delimiter's symbol, if there is one.
-#[derive(Drop)]
+#[derive(Clone, Copy)]
 pub enum Signing {
     Unsigned,
     Signed(Glyph),
 }
 
 // Own nodes that stand together: a sign, and behind it a rule.
-#[derive(Drop)]
+#[derive(Clone, Copy)]
 pub struct Owned {
     pub sign: Signing,
     pub ruling: Ruling,
 }
 
 // An item's own nodes: before its first field, and behind it.
-#[derive(Drop)]
+#[derive(Clone, Copy)]
 pub struct Own {
     pub before: Owned,
     pub behind: Owned,
 }
 
 // An item: its size, where its three fields stand, and its own nodes.
-#[derive(Drop)]
+#[derive(Clone, Copy)]
 pub struct Arranged {
     pub size: Size,
     pub first: Offset,

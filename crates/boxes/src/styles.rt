@@ -3,7 +3,7 @@ ghost use Rattle.std.specs.Prelude.{◌≡◌, ◌<◌};
 ghost use Rattle.boxes.specs.Styles.{style_of, font_size, is_display, is_large, script_level, fraction_level, superscript_style, subscript_style, numerator_style, denominator_style, cramped_style};
 ghost use Rattle.boxes.specs.Values.{numbered_as};
 
-#[derive(Drop)]
+#[derive(Clone, Copy)]
 pub enum Level {
     Display,
     Text,
@@ -12,14 +12,14 @@ pub enum Level {
 }
 
 // One of the eight styles. Cramped is what document 01 writes with a prime.
-#[derive(Drop)]
+#[derive(Clone, Copy)]
 pub struct Style {
     pub level: Level,
     pub cramped: bool,
 }
 
 // The style of a number, if it has one.
-#[derive(Drop)]
+#[derive(Clone, Copy)]
 pub enum Numbered {
     Styled(Style),
     Unstyled,

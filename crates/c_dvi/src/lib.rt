@@ -1,6 +1,8 @@
 // The calls for C that write nodes as the body of a page of DVI and read them back (include/torfianka.h). What they give is defined in
 // specs/Words.antt of crate c_words. They are a static library of their own, as each group of calls is.
 
+#![tactic(auto)]
+
 ghost use Rattle.std.specs.Prelude.{◌≡◌, length};
 ghost use Rattle.dvi.specs.declared.forms.Form.TheVariants.{Stored, Body};
 ghost use Rattle.dvi.specs.Answers.{answering, buffer_after};

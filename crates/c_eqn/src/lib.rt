@@ -1,6 +1,8 @@
 // The calls for C that read and write typed text (include/torfianka.h). What they give is defined in specs/Words.antt of crate c_words. They are a
 // static library of their own, as each group of calls is.
 
+#![tactic(auto)]
+
 ghost use Rattle.std.specs.Prelude.{◌≡◌, length};
 ghost use Rattle.results.specs.Results.{answer_by, buffer_by};
 ghost use Rattle.eqn_meaning.specs.Answers.{read_result, write_result, no_room};

@@ -1,6 +1,8 @@
 // The calls for C that measure and set, and through C for Rust (include/torfianka.h). What they give is defined in specs/AnswerWords.antt and
 // in specs/Words.antt of crate c_words.
 
+#![tactic(auto)]
+
 ghost use Rattle.std.specs.Prelude.{◌≡◌, ◌≤◌, length};
 ghost use Rattle.answers.specs.Lent.{lent_of, index_after, client_index_after};
 ghost use Rattle.answers.specs.Answers.{measured, setting, buffer_after};

@@ -2,6 +2,8 @@
 // compiled apart from setting: in one object the functions that both use are called instead of being made part of their one caller,
 // and setting is slower for it.
 
+#![tactic(auto)]
+
 ghost use Rattle.std.specs.Prelude.{◌≡◌, ◌≤◌, length};
 ghost use Rattle.formula.specs.Format.{formula_limit};
 ghost use Rattle.answers.specs.Lent.{lent_of, index_after, client_index_after};

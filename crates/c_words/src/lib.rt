@@ -1,6 +1,8 @@
 // What the calls for C (include/torfianka.h) share: the words of an answer, and what is done where there are too few of them. What a caller
 // is given is defined in specs/Words.antt.
 
+#![tactic(auto)]
+
 ghost use Rattle.std.specs.Prelude.{◌≡◌, ◌^◌, ◌≤◌, ◌<◌, pos, length};
 ghost use Rattle.formula.specs.Format.{formula_limit};
 ghost use Rattle.results.specs.Values.{report_as};

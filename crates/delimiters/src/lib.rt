@@ -1,4 +1,7 @@
 // Variable delimiters: the search for a symbol that is tall enough, defined in specs/Delimiters.antt.
+
+#![tactic(auto)]
+
 ghost use Rattle.std.specs.Prelude.{◌≡◌, ◌&&◌, eqb};
 ghost use Rattle.font_index.specs.Index.{Indexed};
 ghost use Rattle.font.specs.Font.{font_with};
@@ -17,7 +20,7 @@ use formula::{Delimiter, Pair};
 use scaled::Sp;
 
 // A symbol where it was found.
-#[derive(Drop)]
+#[derive(Clone, Copy)]
 pub struct Sign {
     pub size: u8,
     pub family: u8,
@@ -26,28 +29,28 @@ pub struct Sign {
 }
 
 // What stands for a delimiter: a symbol, or a blank where none of its symbols is present.
-#[derive(Drop)]
+#[derive(Clone, Copy)]
 pub enum Chosen {
     Sign(Sign),
     Blank,
 }
 
 // What stands for the delimiters of an item: before its first field, and behind it.
-#[derive(Drop)]
+#[derive(Clone, Copy)]
 pub struct Signs {
     pub before: Chosen,
     pub behind: Chosen,
 }
 
 // On which side an item has a sign.
-#[derive(Drop)]
+#[derive(Clone, Copy)]
 pub struct HasSigns {
     pub before: bool,
     pub behind: bool,
 }
 
 // How far a search has come: no symbol yet; none that suffices, and the tallest so far; one that suffices, which ends it.
-#[derive(Drop)]
+#[derive(Clone, Copy)]
 enum Search {
     Nothing,
     Short(Sign),

@@ -1,5 +1,5 @@
 // Nodes are stored as document 01 has them, or stand in the body of a page.
-#[derive(Drop)]
+#[derive(Clone, Copy)]
 pub enum Form {
     Stored,
     Body,

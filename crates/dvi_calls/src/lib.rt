@@ -2,6 +2,9 @@
 // dvi.
 // Both convert nodes from one form to the other. First every node is read and the size of the result counted; only where nothing
 // is left to refuse is anything written.
+
+#![tactic(auto)]
+
 mod forms;
 
 ghost use Rattle.std.specs.Prelude.{◌≡◌, length};
@@ -16,7 +19,7 @@ use dvi_nodes::Front;
 use results::Report;
 
 // One constructor for each answer number; an acceptance has the size of what was written.
-#[derive(Drop)]
+#[derive(Clone, Copy)]
 pub enum Answer {
     Accepted(usize),
     BadNodes,
@@ -25,7 +28,7 @@ pub enum Answer {
 }
 
 // The size of the result, if the bytes are nodes.
-#[derive(Drop)]
+#[derive(Clone, Copy)]
 pub enum Measured {
     Bytes(usize),
     Unreadable,

@@ -1,4 +1,7 @@
 // A node in numbers, and whether it can be written.
+
+#![tactic(auto)]
+
 ghost use Rattle.std.specs.Prelude.{◌≡◌};
 ghost use Rattle.dvi.specs.Profile.{is_extent, writable};
 ghost use Rattle.dvi.specs.Forms.{node_if};
@@ -14,14 +17,14 @@ const GREATEST_SIZE: u8 = 2;
 const GREATEST_FAMILY: u8 = 15;
 
 // A glyph's x, y, size, family and code, or a rule's x, y, width and thickness.
-#[derive(Drop)]
+#[derive(Clone, Copy)]
 pub enum Node {
     Glyph(Sp, Sp, u8, u8, u8),
     Rule(Sp, Sp, Sp, Sp),
 }
 
 // What stands at the front of some bytes.
-#[derive(Drop)]
+#[derive(Clone, Copy)]
 pub enum Front {
     Starts(Node),
     Nothing,

@@ -1,6 +1,8 @@
 // Typed formulas in the eqn manner, read and written (request 10). What the two calls answer is defined in crate `eqn_meaning`.
 // Every refusal is found before anything is written.
 
+#![tactic(auto)]
+
 ghost use Rattle.std.specs.Prelude.{◌≡◌, List, ◌≤◌, length};
 ghost use Rattle.formula.specs.Format.{formula_limit};
 ghost use Rattle.formula.specs.Places.{Readable, tree_of};
@@ -28,7 +30,7 @@ use results::Report;
 const LEVELS: usize = DEPTH_LIMIT - 1;
 
 // One constructor for each answer number; a refusal that has a place has it.
-#[derive(Drop)]
+#[derive(Clone, Copy)]
 pub enum Answer {
     Accepted(usize),
     UnknownWord(usize),
@@ -40,7 +42,7 @@ pub enum Answer {
 }
 
 // What comes of the tests before a formula is made.
-#[derive(Drop)]
+#[derive(Clone, Copy)]
 enum Tests {
     Passed,
     Failed(Answer),

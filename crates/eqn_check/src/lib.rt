@@ -1,5 +1,7 @@
 // The test of a text against the grammar (request 10, refusal 11).
 
+#![tactic(auto)]
+
 ghost use Rattle.std.specs.Prelude.{◌≡◌};
 ghost use Rattle.eqn_tokens.specs.Tokens.{tokens_in};
 ghost use Rattle.eqn_grammar.specs.Parsing.{parse};
@@ -12,7 +14,7 @@ mod stages;
 mod windows;
 
 // A text of the grammar, or the place where one stops being one.
-#[derive(Drop)]
+#[derive(Clone, Copy)]
 pub enum Tested {
     Grammatical,
     StuckAt(usize),

@@ -6,7 +6,7 @@ ghost use Rattle.eqn_check.specs.Stages.{behind_primary, behind_keyword, joined_
 use eqn_tokens::tokens::{Keyword, TokenKind};
 
 // What the last operand is: a word or group itself, its subscript or its superscript.
-#[derive(Drop)]
+#[derive(Clone, Copy)]
 pub enum Role {
     Nucleus,
     Subscript,
@@ -14,7 +14,7 @@ pub enum Role {
 }
 
 // The last of an expression and its limits.
-#[derive(Drop)]
+#[derive(Clone, Copy)]
 pub enum Limit {
     Unlimited,
     Lower,
@@ -22,7 +22,7 @@ pub enum Limit {
 }
 
 // A row of which nothing is kept; one that begins; one behind an operand; one behind a keyword, whose operand will have this role.
-#[derive(Drop)]
+#[derive(Clone, Copy)]
 pub enum Stage {
     Unseen,
     Start,
@@ -31,7 +31,7 @@ pub enum Stage {
 }
 
 // What a token does: it cannot stand here; it is the end of a text; the row goes on; a row begins in it; it ends.
-#[derive(Drop)]
+#[derive(Clone, Copy)]
 pub enum Step {
     Stuck,
     Whole,

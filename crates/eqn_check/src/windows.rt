@@ -14,7 +14,7 @@ pub const LEVELS: usize = 4096;
 const SLOTS: usize = LEVELS + 1;
 
 // The first place that a pass finds fault with, and the deepest level that it came to.
-#[derive(Drop)]
+#[derive(Clone, Copy)]
 pub struct PassResult {
     pub fault: Tested,
     pub deepest: usize,

@@ -1,5 +1,7 @@
 // Where typed text is cut (request 10): at a keyword that stands in no braces, behind its first expression, before its last token.
 
+#![tactic(auto)]
+
 ghost use Rattle.std.specs.Prelude.{◌≡◌, ◌-◌, ◌^◌, ◌≤◌, ◌<◌, length};
 ghost use Rattle.eqn_grammar.specs.Splits.{level_after, keyword_number, is_this_keyword, begins_operand, ends_operand};
 ghost use Rattle.eqn_cuts.specs.Values.{kind_token, SplitAt, ExpressionEnds, LastStarts};
@@ -7,7 +9,7 @@ ghost use Rattle.eqn_cuts.specs.Values.{kind_token, SplitAt, ExpressionEnds, Las
 use eqn_tokens::tokens::{Keyword, TokenKind, token_at};
 
 // The places where a keyword starts and ends; both are the end of the text where there is none.
-#[derive(Drop)]
+#[derive(Clone, Copy)]
 pub struct Split {
     pub start: usize,
     pub end: usize,

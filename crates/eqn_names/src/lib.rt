@@ -1,5 +1,7 @@
 // The name table (request 10), defined in specs/: its test, and its names found by their length and bytes, one record after the other.
 
+#![tactic(auto)]
+
 ghost use Rattle.std.specs.Prelude.{◌≡◌, not, ◌&&◌, List, ℕ, ◌<◌, length, get_or, leb, eqb};
 ghost use Rattle.formula.specs.Heads.{greatest_family, greatest_class};
 ghost use Rattle.eqn_names.specs.Names.{Name, table_of, front_name, named, first_for, first_place, is_keyword, is_there, has_class};
@@ -21,7 +23,7 @@ pub const PLACES: usize = 4096;
 pub const ANY_CLASS: u8 = 255;
 
 // What a name stands for.
-#[derive(Drop)]
+#[derive(Clone, Copy)]
 pub struct Symbol {
     pub family: u8,
     pub code: u8,
@@ -29,35 +31,35 @@ pub struct Symbol {
 }
 
 // The symbol of a word, if it has one.
-#[derive(Drop)]
+#[derive(Clone, Copy)]
 pub enum WordSymbol {
     Named(Symbol),
     Unnamed,
 }
 
 // A record at the front of some bytes: how many bytes its name has, and its symbol.
-#[derive(Drop)]
+#[derive(Clone, Copy)]
 enum Front {
     Record(usize, Symbol),
     Malformed,
 }
 
 // A table's test: it is good, or a record at a place is not.
-#[derive(Drop)]
+#[derive(Clone, Copy)]
 pub enum Checked {
     Good,
     BadAt(usize),
 }
 
 // A place that was looked for, if there is one.
-#[derive(Drop)]
+#[derive(Clone, Copy)]
 pub enum FirstUnknown {
     At(usize),
     Nowhere,
 }
 
 // The bytes of a name in the table, by the places where they start and end.
-#[derive(Drop)]
+#[derive(Clone, Copy)]
 pub enum Range {
     Bytes(usize, usize),
     Nothing,

@@ -1,6 +1,8 @@
 // Bytes of a formula written into a buffer; those that have no room are passed over, so that an empty buffer serves to learn how long a
 // formula is.
 
+#![tactic(auto)]
+
 ghost use Rattle.std.specs.Prelude.{◌≡◌, [], ◌∷◌, ◌+◌, ◌≤◌, take, drop, set};
 ghost use Rattle.std.proofs.lemmas.List.Edits.{sets};
 ghost use Rattle.formula.specs.Format.{formula_limit};
@@ -12,7 +14,7 @@ use formula::{
 };
 
 // A part has been written up to a place, or the formula is too long or too deep.
-#[derive(Drop)]
+#[derive(Clone, Copy)]
 pub enum Made {
     Next(usize),
     TooLarge,

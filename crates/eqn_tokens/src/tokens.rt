@@ -7,7 +7,7 @@ ghost use Rattle.eqn_tokens.specs.Values.{TokenAt, kind_as, MarkAs, SeparatorsBe
 use crate::bytes::{CLOSING_BRACE, OPENING_BRACE, are_same, is_separator, is_word_byte};
 
 // The keywords.
-#[derive(Drop)]
+#[derive(Clone, Copy)]
 pub enum Keyword {
     Sub,
     Sup,
@@ -17,7 +17,7 @@ pub enum Keyword {
 }
 
 // What a token is: a word, a keyword, a brace, a byte that can stand in no text; or there is none left.
-#[derive(Drop)]
+#[derive(Clone, Copy)]
 pub enum TokenKind {
     Word,
     Keyword(Keyword),
@@ -28,7 +28,7 @@ pub enum TokenKind {
 }
 
 // A token and its bytes' places; where there is none left, both are the end of the text.
-#[derive(Drop)]
+#[derive(Clone, Copy)]
 pub struct Token {
     pub kind: TokenKind,
     pub start: usize,

@@ -9,7 +9,7 @@ use formula::{Bar, Base, Class, Kind, Limits};
 use formula_kinds::is_op;
 
 // An atom with a class's number, an operator with limits, a fraction with a bar, or an item that the reader does not make.
-#[derive(Drop)]
+#[derive(Clone, Copy)]
 pub enum ItemForm {
     PlainAtom(u8),
     Operator,

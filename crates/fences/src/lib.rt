@@ -1,4 +1,7 @@
 // Fences (rule 19): the list x, the delimiters y on its left and z on its right; defined in specs/Fences.antt.
+
+#![tactic(auto)]
+
 ghost use Rattle.std.specs.Prelude.{◌≡◌, ◌/◌, pos};
 ghost use Rattle.std.specs.Int.Signed.{quot_z};
 ghost use Rattle.scaled.specs.Made.{Multiple};
@@ -24,7 +27,7 @@ const DELIMITER_FACTOR: i64 = 901;
 const DELIMITER_SHORTFALL: i64 = 327_680;
 
 // A fence, and where its left delimiter, its list and its right delimiter stand.
-#[derive(Drop)]
+#[derive(Clone, Copy)]
 pub struct Fence {
     pub size: Size,
     pub left: Offset,

@@ -1,5 +1,7 @@
 // The tables of a program's working folder, read from their files.
 
+#![tactic(auto)]
+
 ghost use Rattle.io.specs.Counts.{IsPrefixLen};
 
 // One byte more than the longest table, ours and a client's, so that a longer one is seen.

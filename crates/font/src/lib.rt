@@ -1,5 +1,8 @@
 // The font table: the types of what it says, its parameters, and what a record says of its symbol. What a good table is, and the font that
 // it holds, is defined in specs/Table.antt and specs/Font.antt; what these functions answer, in specs/Values.antt.
+
+#![tactic(auto)]
+
 pub mod format;
 
 ghost use Rattle.std.specs.Prelude.{◌≡◌, ◌<◌, ◌≤◌, length};
@@ -8,14 +11,14 @@ ghost use Rattle.font.specs.Font.{metrics_of, successor_of};
 ghost use Rattle.font.specs.Values.{metrics_as, successor_as, HoldsRow, HoldsParameters};
 
 // The code of the next larger symbol of the same family, if there is one.
-#[derive(Drop)]
+#[derive(Clone, Copy)]
 pub enum Successor {
     Nothing,
     Code(u8),
 }
 
 // What a table says of a symbol.
-#[derive(Drop)]
+#[derive(Clone, Copy)]
 pub struct Metrics {
     pub width: u32,
     pub height: u32,
@@ -25,7 +28,7 @@ pub struct Metrics {
 }
 
 // What a lookup comes to.
-#[derive(Drop)]
+#[derive(Clone, Copy)]
 pub enum Found {
     Symbol(Metrics),
     Absent,

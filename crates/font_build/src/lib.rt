@@ -1,4 +1,7 @@
 // Builds the index of each table (font_index/specs/Index.antt). What the steps leave is in specs/Building.antt.
+
+#![tactic(auto)]
+
 ghost use Rattle.std.specs.Prelude.{◌≡◌, [], ◌++◌, ◌≤◌, ◌<◌, length, drop};
 ghost use Rattle.font.specs.Records.{most_characters, greatest_size, greatest_family, character_records, client_records};
 ghost use Rattle.font.specs.Table.{SoundTables, SoundRecords};

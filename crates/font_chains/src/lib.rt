@@ -1,4 +1,7 @@
 // Chains of successors, of sixteen steps at most (font/specs/Chains.antt), each step to a symbol of the client's or else of ours.
+
+#![tactic(auto)]
+
 ghost use Rattle.std.specs.Prelude.{◌≡◌, ◌≤◌, length};
 ghost use Rattle.font.specs.Records.{character_bytes, most_characters, client_records, every};
 ghost use Rattle.font.specs.Font.{font_with};

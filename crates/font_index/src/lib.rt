@@ -1,4 +1,7 @@
 // The index of CH records (specs/Index.antt): a symbol's record by it, and the symbol.
+
+#![tactic(auto)]
+
 ghost use Rattle.std.specs.Prelude.{◌≡◌, ◌+◌, ◌*◌, ◌≤◌, ◌<◌, length};
 ghost use Rattle.font.specs.Records.{most_characters, greatest_size, greatest_family, client_records};
 ghost use Rattle.font.specs.Font.{font_with, record_in, record_of, place_in, place_of, past};

@@ -1,4 +1,7 @@
 // The rules for the records of the font table. Every record is read once and whole: tests are joined, and none is skipped.
+
+#![tactic(auto)]
+
 ghost use Rattle.std.specs.Prelude.{◌≡◌, ◌&&◌, ◌||◌, ◌+◌, ◌*◌, ◌<◌, ◌≤◌, leb, eqb, length, take, drop};
 ghost use Rattle.font.specs.Records.{word_bytes, mark_bytes, parameter_bytes, header_bytes, character_bytes, parameter_records, pieces, words, marked, every, good_word, good_parameters, good_character};
 ghost use Rattle.font_records.specs.Rules.{sound_characters};

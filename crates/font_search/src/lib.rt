@@ -1,4 +1,7 @@
 // The record of a symbol, by its size, family and code, found by halving: in a client's table and ours, and among CH records alone.
+
+#![tactic(auto)]
+
 ghost use Rattle.std.specs.Prelude.{◌≡◌};
 ghost use Rattle.font.specs.Records.{client_records};
 ghost use Rattle.font.specs.Font.{record_in, record_of, place_in, place_of, past};

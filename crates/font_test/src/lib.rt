@@ -1,4 +1,7 @@
 // Whether a font table breaks no rule, and a client's table under it (font/specs/Table.antt).
+
+#![tactic(auto)]
+
 ghost use Rattle.std.specs.Prelude.{◌≡◌, true};
 ghost use Rattle.font.specs.Table.{good_table, good_client};
 

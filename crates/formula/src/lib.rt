@@ -2,6 +2,8 @@
 // in specs/Format.antt, specs/Tree.antt, specs/Marks.antt, specs/Heads.antt and specs/Reading.antt; specs/Places.antt and the laws beside it are
 // for a walk over a formula that reads.
 
+#![tactic(auto)]
+
 use scaled::Sp;
 
 // The most bytes that a formula may have.
@@ -82,7 +84,7 @@ pub const GREATEST_SHORT: usize = 65_535;
 pub const SHORT_OPENING_BYTES: usize = 3;
 
 // The class of an atom, by which it is spaced.
-#[derive(Drop)]
+#[derive(Clone, Copy)]
 pub enum Class {
     Ord,
     Op,
@@ -95,7 +97,7 @@ pub enum Class {
 }
 
 // Where the scripts of a large operator stand as limits.
-#[derive(Drop)]
+#[derive(Clone, Copy)]
 pub enum Limits {
     DisplayOnly,
     Always,
@@ -103,28 +105,28 @@ pub enum Limits {
 }
 
 // The bar of a fraction: of the default thickness, or none.
-#[derive(Drop)]
+#[derive(Clone, Copy)]
 pub enum Bar {
     Default,
     Without,
 }
 
 // The family and the code of a symbol of a delimiter; zero and zero where there is none.
-#[derive(Drop)]
+#[derive(Clone, Copy)]
 pub struct Pair {
     pub family: u8,
     pub code: u8,
 }
 
 // A variable delimiter: where its small symbol does not suffice, its large one is tried.
-#[derive(Drop)]
+#[derive(Clone, Copy)]
 pub struct Delimiter {
     pub small: Pair,
     pub large: Pair,
 }
 
 // What the scripts of an item are set to. A root has its sign, a fence its left delimiter and its right one.
-#[derive(Drop)]
+#[derive(Clone, Copy)]
 pub enum Base {
     Atom(Class, Limits),
     Over,
@@ -134,14 +136,14 @@ pub enum Base {
 }
 
 // What an item with fields is: a base with scripts, or a fraction.
-#[derive(Drop)]
+#[derive(Clone, Copy)]
 pub enum Kind {
     Scripted(Base),
     Fraction(Bar),
 }
 
 // The two letters with which an item opens.
-#[derive(Drop)]
+#[derive(Clone, Copy)]
 pub enum Mark {
     AT,
     OV,
@@ -156,7 +158,7 @@ pub enum Mark {
 }
 
 // What an item says before its fields. A choice has four fields, each a list.
-#[derive(Drop)]
+#[derive(Clone, Copy)]
 pub enum Opening {
     NoItem,
     Fields(Kind),
@@ -167,7 +169,7 @@ pub enum Opening {
 
 // What a field says at its kind byte. A list has the number of bytes before its items and that of its items, or its
 // length is cut off, passes the end, or is too short for its kind.
-#[derive(Drop)]
+#[derive(Clone, Copy)]
 pub enum FieldHead {
     NoField,
     Empty,
@@ -177,14 +179,14 @@ pub enum FieldHead {
 }
 
 // What keeps a formula from being read: an item that can't be read, or a list too deep.
-#[derive(Drop)]
+#[derive(Clone, Copy)]
 pub enum Fault {
     Unreadable,
     TooDeep,
 }
 
 // What reading a list comes to: a fault has its place.
-#[derive(Drop)]
+#[derive(Clone, Copy)]
 pub enum Verdict {
     Good,
     Faulty(Fault, usize),

@@ -1,5 +1,7 @@
 // What opens behind the marks of a root and of a fence, which have delimiters. Any bytes may come.
 
+#![tactic(auto)]
+
 ghost use Rattle.std.specs.Prelude.{◌≡◌, ◌+◌, ◌≤◌, length};
 ghost use Rattle.formula.specs.Heads.{good_delimiter, root_of, root_opening, fence_of, fence_opening};
 ghost use Rattle.formula.specs.Slices.{delimiter_at};

@@ -1,5 +1,7 @@
 // What a field says at its kind byte, with nothing within a list looked at, and where fields end and stand. Any bytes may come.
 
+#![tactic(auto)]
+
 ghost use Rattle.std.specs.Prelude.{◌≡◌, ◌∷◌, ◌+◌, ◌*◌, ◌^◌, ◌<◌, ◌≤◌, length};
 ghost use Rattle.formula.specs.declared.Opening.TheVariants.{Fields, Choice};
 ghost use Rattle.formula.specs.Tree.{greatest_short};

@@ -1,5 +1,7 @@
 // What a kind of item and a class say by themselves, with no byte looked at.
 
+#![tactic(auto)]
+
 ghost use Rattle.std.specs.Prelude.{◌≡◌};
 ghost use Rattle.formula.specs.Tree.{base_bytes, opening_bytes, base_holds_list, holds_list};
 ghost use Rattle.formula.specs.Heads.{is_op};

@@ -1,5 +1,7 @@
 // What opens behind the marks of a fraction, a kern and a style, each of which has one number. Any bytes may come.
 
+#![tactic(auto)]
+
 ghost use Rattle.std.specs.Prelude.{◌≡◌};
 ghost use Rattle.formula.specs.Heads.{fraction_opening, kern_within, kern_opening, style_opening};
 

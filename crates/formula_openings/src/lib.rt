@@ -1,5 +1,7 @@
 // What opens an item: its kind, its kern, its style, or that it is a choice. Any bytes may come.
 
+#![tactic(auto)]
+
 ghost use Rattle.std.specs.Prelude.{◌≡◌, ◌&&◌, eqb};
 ghost use Rattle.formula.specs.Marks.{mark_of};
 ghost use Rattle.formula.specs.Heads.{opens, opening_of};

@@ -1,5 +1,7 @@
 // The reading of a formula: the first fault in reading order, or none. Nothing is copied and nothing written.
 
+#![tactic(auto)]
+
 ghost use Rattle.std.specs.Prelude.{◌≡◌, ◌≤◌, length};
 ghost use Rattle.formula.specs.declared.Opening.TheVariants.{Fields, Choice};
 ghost use Rattle.formula.specs.Format.{long_format};
@@ -17,7 +19,7 @@ use formula_kinds::{has_third, holds_list, opening_bytes};
 use formula_openings::opening;
 
 // What reading an item or a field comes to: the place behind it, or a fault.
-#[derive(Drop)]
+#[derive(Clone, Copy)]
 pub enum PartRead {
     Next(usize),
     Stop(Fault, usize),

@@ -1,4 +1,7 @@
 // The parts of a fraction (rules 15 to 15e): numerator x, denominator z, bar thickness θ.
+
+#![tactic(auto)]
+
 pub mod why;
 
 ghost use Rattle.std.specs.Prelude.{◌≡◌, ◌<◌};

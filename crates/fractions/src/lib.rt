@@ -1,6 +1,8 @@
 // Fractions (rules 15 to 15e): the definitions, in specs/, and rules that stand by themselves: the clearances of 15c and 15d, the bar, and the
 // blanks beside it. The bar has the thickness θ.
 
+#![tactic(auto)]
+
 ghost use Rattle.std.specs.Prelude.{◌≡◌, ◌≤◌, pos, ◌*ℤ◌};
 ghost use Rattle.scaled.specs.Signed.{Within};
 ghost use Rattle.scaled.specs.Length.{pick};

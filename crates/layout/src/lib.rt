@@ -1,6 +1,8 @@
 // Measuring and setting a formula, with the symbols of a client's table over ours. What they answer is defined in specs/Answers.antt of
 // crate answers, and what becomes of the words lent for the two indexes in specs/Lent.antt there.
 
+#![tactic(auto)]
+
 ghost use Rattle.std.specs.Prelude.{◌≡◌, length};
 ghost use Rattle.answers.specs.Lent.{lent_of, index_after, client_index_after};
 ghost use Rattle.answers.specs.Answers.{measured, setting, buffer_after};

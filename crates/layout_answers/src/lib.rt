@@ -1,6 +1,8 @@
 // What the entries answer, as a value, and the same in numbers for those who show it or hand it on. What an answer stands for is in
 // specs/Values.antt.
 
+#![tactic(auto)]
+
 ghost use Rattle.std.specs.Prelude.{◌≡◌};
 ghost use Rattle.answers.specs.Answers.{fault_number, refusal};
 ghost use Rattle.layout_answers.specs.Values.{answered_as};
@@ -12,7 +14,7 @@ use boxes::Size;
 use formula::Fault;
 
 // One constructor for each answer number. A refusal that has a place has it here.
-#[derive(Drop)]
+#[derive(Clone, Copy)]
 pub enum Answer {
     Accepted(Size, usize),
     NoStyle,

@@ -9,7 +9,7 @@ use crate::Answer;
 use boxes::Size;
 use scaled::Sp;
 
-#[derive(Drop)]
+#[derive(Clone, Copy)]
 pub struct SetReport {
     pub number: u8,
     pub place: usize,

@@ -11,7 +11,7 @@ use crate::Answer;
 use crate::report::report_of;
 use reasons::{ItemReasons, Reasons, ShiftReason, unshifted};
 
-#[derive(Drop)]
+#[derive(Clone, Copy)]
 pub enum WhyAnswer {
     By(Reasons),
     // No fraction, and no item whose scripts are set beside it, starts at the place.
@@ -31,7 +31,7 @@ pub fn answer_by(found: ItemReasons) -> WhyAnswer
 }
 
 // An answer in numbers, for those who show it or hand it on: a shift that is not there is 0, and so are both on a refusal.
-#[derive(Drop)]
+#[derive(Clone, Copy)]
 pub struct WhyReport {
     pub number: u8,
     pub place: usize,

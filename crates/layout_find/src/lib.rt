@@ -2,6 +2,8 @@
 // two indexes in specs/Lent.antt of crate answers.
 // The indexes are built where nothing is refused before the reading. The parameters are taken out of our table where a walk is to come.
 
+#![tactic(auto)]
+
 ghost use Rattle.std.specs.Prelude.{◌≡◌};
 ghost use Rattle.answers.specs.Lent.{lent_of, index_after, client_index_after};
 ghost use Rattle.walk_fields.specs.Lists.{ListGiven};
@@ -18,7 +20,7 @@ use walk::lists::set_list;
 use walk_fields::lines::{ItemsSet, Line, list_fits};
 
 // What is found by a walk that writes no node: the style, the size and how many nodes there are, or a refusal.
-#[derive(Drop)]
+#[derive(Clone, Copy)]
 pub enum Finding {
     Boxed(Style, Size, usize),
     Refused(Answer),

@@ -1,5 +1,7 @@
 // The tests before anything of a formula is read. What they find is defined in specs/Tested.antt.
 
+#![tactic(auto)]
+
 ghost use Rattle.answers.specs.Lent.{lends};
 ghost use Rattle.layout_test.specs.Tested.{Tested};
 
@@ -8,7 +10,7 @@ use font_index::INDEX_WORDS;
 use layout_answers::Answer;
 
 // What is found before anything of the formula is read: the style, or a refusal.
-#[derive(Drop)]
+#[derive(Clone, Copy)]
 pub enum Testing {
     Passed(Style),
     Refused(Answer),

@@ -1,5 +1,7 @@
 // Why a shift is what it is: what decided the shifts of an item that is picked by its place.
 
+#![tactic(auto)]
+
 ghost use Rattle.std.specs.Prelude.{◌≡◌};
 ghost use Rattle.answers.specs.Lent.{lent_of, index_after, client_index_after};
 ghost use Rattle.answers.specs.Why.{why_of};

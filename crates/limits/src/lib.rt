@@ -1,4 +1,7 @@
 // Scripts set as limits above and below an operator (rules 13 and 13a), defined in specs/Limits.antt.
+
+#![tactic(auto)]
+
 ghost use Rattle.std.specs.Prelude.{◌≡◌, ◌<◌, pos};
 ghost use Rattle.scaled.specs.Signed.{Within};
 ghost use Rattle.boxes.specs.Parameters.{big_op_spacing5};
@@ -151,7 +154,7 @@ fn turned(script: Script) -> Script
 }
 
 // What one side of an operator adds: how far it reaches, and where its script stands, to the right and away from the baseline.
-#[derive(Drop)]
+#[derive(Clone, Copy)]
 struct Side {
     reach: Sp,
     across: Sp,
@@ -192,7 +195,7 @@ fn one_side(
 }
 
 // How far a limit's baseline lies from the operator's, and how far it and the blank beyond it reach.
-#[derive(Drop)]
+#[derive(Clone, Copy)]
 struct Distances {
     shift: Sp,
     reach: Sp,

@@ -1,6 +1,8 @@
 // The text that shows an answer: a line with the sizes and the count and a line for each node, or one line for a refusal.
 // It is defined in specs/Texts.antt. A line is written into a lent buffer; `write_answer` prints what these functions give.
 
+#![tactic(auto)]
+
 ghost use Rattle.std.specs.Prelude.{◌≡◌, ◌++◌, ◌+◌, ◌≤◌, length};
 ghost use Rattle.boxes.specs.Values.{size_as};
 ghost use Rattle.reasons.specs.Values.{shift_reason_as};

@@ -1,4 +1,7 @@
 // Nodes in a buffer of bytes. What a node is, and its bytes, is defined in specs/Nodes.antt.
+
+#![tactic(auto)]
+
 pub mod run;
 
 ghost use Rattle.std.specs.Prelude.{◌≡◌, ◌++◌, ◌+◌, ◌≤◌, length, take, drop};

@@ -13,7 +13,7 @@ const GREATEST_LENGTH: i64 = 1_073_741_823;
 // What is known of some nodes: how many there are, and the least and the greatest x and y; without a node the lengths mean nothing.
 // Large, 1 in place of 0, where a list that they were set from passes the greatest length; then nothing else of it means anything.
 // It is a number and no bool so that the record has no gap that would be copied with it.
-#[derive(Drop)]
+#[derive(Clone, Copy)]
 pub struct Run {
     pub count: usize,
     pub left: Sp,

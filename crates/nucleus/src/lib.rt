@@ -1,5 +1,7 @@
 // The nucleus of a base, defined in specs/Nucleus.antt, and the code of an operator's (rule 13).
 
+#![tactic(auto)]
+
 ghost use Rattle.std.specs.Prelude.{◌≡◌};
 ghost use Rattle.scaled.specs.Signed.{Within};
 ghost use Rattle.font.specs.Values.{metrics_as};
@@ -14,7 +16,7 @@ use font::Metrics;
 use scaled::Sp;
 
 // A nucleus as the limits and the scripts see it.
-#[derive(Drop)]
+#[derive(Clone, Copy)]
 pub struct Nucleus {
     pub size: Size,
     // Where its field stands.

@@ -1,5 +1,7 @@
 // The nucleus of an atom, and of a line over a base or under it (rules 9, 10, 13 and 17).
 
+#![tactic(auto)]
+
 ghost use Rattle.std.specs.Prelude.{◌≡◌, ◌&&◌, not};
 ghost use Rattle.scaled.specs.Signed.{Within};
 ghost use Rattle.font.specs.Values.{metrics_as};

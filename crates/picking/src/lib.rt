@@ -1,6 +1,8 @@
 // The item that starts at a place of a formula. It is looked for from list to list: the place lies in one item of a list, and is that
 // item's first byte, or lies in a list that the item holds. Nothing is set on the way; the style is followed past the items before it.
 
+#![tactic(auto)]
+
 ghost use Rattle.std.specs.Prelude.{◌≡◌, ◌≤◌, ◌<◌, length};
 ghost use Rattle.formula.specs.declared.Opening.TheVariants.{Fields};
 ghost use Rattle.formula.specs.Heads.{opening_of};
@@ -21,14 +23,14 @@ use walk_looks::current::{Span, taken_span};
 use walk_looks::places::look_at;
 
 // An item with fields that is set in a style, and the end of the list that holds it.
-#[derive(Drop)]
+#[derive(Clone, Copy)]
 enum Spot {
     Nowhere,
     Item(Style, usize),
 }
 
 // Where the look leads from a list, or from an item at its head.
-#[derive(Drop)]
+#[derive(Clone, Copy)]
 enum Step {
     Nowhere,
     // The place is the first byte of an item in this style.

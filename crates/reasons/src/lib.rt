@@ -1,11 +1,14 @@
 // What decided a shift: the quantity's name and the shift itself.
+
+#![tactic(auto)]
+
 ghost use Rattle.std.specs.Prelude.{◌≡◌};
 ghost use Rattle.reasons.specs.Reasons as rule;
 ghost use Rattle.reasons.specs.Values.{shift_reason_as};
 
 use scaled::Sp;
 
-#[derive(Drop)]
+#[derive(Clone, Copy)]
 pub enum Reason {
     None,
     Drop,
@@ -17,21 +20,21 @@ pub enum Reason {
 }
 
 // A shift with its reason.
-#[derive(Drop)]
+#[derive(Clone, Copy)]
 pub struct ShiftReason {
     pub by: Reason,
     pub shift: Sp,
 }
 
 // Of the shift up and the shift down.
-#[derive(Drop)]
+#[derive(Clone, Copy)]
 pub struct Reasons {
     pub up: ShiftReason,
     pub down: ShiftReason,
 }
 
 // Of an item, where it has such shifts.
-#[derive(Drop)]
+#[derive(Clone, Copy)]
 pub enum ItemReasons {
     Nothing,
     By(Reasons),

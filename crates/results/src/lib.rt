@@ -1,12 +1,14 @@
 // The result of a call that makes bytes of other bytes and writes them at the front of a lent buffer: what it answers, and what becomes of the
 // buffer, is defined in specs/Results.antt for all such calls.
 
+#![tactic(auto)]
+
 ghost use Rattle.std.specs.Prelude.{◌≡◌};
 ghost use Rattle.results.specs.Results.{accepted, refusal};
 ghost use Rattle.results.specs.Values.{report_as};
 
 // An answer's number, its place, and how many bytes were written.
-#[derive(Drop)]
+#[derive(Clone, Copy)]
 pub struct Report {
     pub number: u8,
     pub place: usize,

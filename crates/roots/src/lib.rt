@@ -1,4 +1,7 @@
 // Roots (rule 11): the nucleus x, the sign y; defined in specs/Roots.antt.
+
+#![tactic(auto)]
+
 ghost use Rattle.std.specs.Prelude.{◌≡◌};
 ghost use Rattle.scaled.specs.Signed.{Within};
 ghost use Rattle.boxes.specs.Values.{parameters_in, size_as};
@@ -14,7 +17,7 @@ use boxes::{Offset, Rule, Size};
 use scaled::Sp;
 
 // A root, and where its sign, its rule and its nucleus stand.
-#[derive(Drop)]
+#[derive(Clone, Copy)]
 pub struct Radical {
     pub size: Size,
     pub sign: Offset,

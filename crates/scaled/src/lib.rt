@@ -1,17 +1,20 @@
 // Lengths in scaled points and in math units, and the arithmetic that the rules do with them.
 // What a method asks is that its numbers are not too far from zero, and not negative where they are divided.
 // What it gives is a record of specs/Made.antt: the number in ℤ, and the same over ℕ for `omega`.
+
+#![tactic(auto)]
+
 ghost use Rattle.std.specs.Prelude.{◌<◌};
 ghost use Rattle.scaled.specs.Length.{units_in_quad};
 ghost use Rattle.scaled.specs.Signed.{Within, NotNegative};
 ghost use Rattle.scaled.specs.Made.{reach, Sum, Difference, Negation, Multiple, Half, Floor, Greatest, Least, FromWord, AtQuad, Less};
 
 // Scaled points, 65,536 to the point.
-#[derive(Drop)]
+#[derive(Clone, Copy)]
 pub struct Sp(pub i64);
 
 // Math units: a unit has a length only at a quad.
-#[derive(Drop)]
+#[derive(Clone, Copy)]
 pub struct Mu(pub i64);
 
 impl Sp {

@@ -1,5 +1,7 @@
 // Where scripts stand beside a nucleus (rule 18f), and the item that they make.
 
+#![tactic(auto)]
+
 ghost use Rattle.std.specs.Prelude.{◌≡◌};
 ghost use Rattle.scaled.specs.Signed.{Within};
 ghost use Rattle.scripts.specs.Scripts.{subscript_down, superscript_up, pair_shifts, without_scripts, with_superscript, with_subscript, with_pair, pair_width, pair_reach};

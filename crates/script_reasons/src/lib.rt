@@ -1,4 +1,7 @@
 // What decided the shifts of scripts (request 7), defined in specs/Reasons.antt. Each shift is made again by the functions that set it.
+
+#![tactic(auto)]
+
 ghost use Rattle.std.specs.Prelude.{◌≡◌, ◌<◌};
 ghost use Rattle.scaled.specs.Signed.{Within};
 ghost use Rattle.reasons.specs.Values.{shift_reason_as, reasons_as, item_reasons_as};

@@ -1,5 +1,7 @@
 // The shifts of scripts (rules 18b to 18e). Each stage of a shift has a name; u, v and ψ are the rule's letters.
 
+#![tactic(auto)]
+
 ghost use Rattle.std.specs.Prelude.{◌≡◌, ◌<◌};
 ghost use Rattle.scaled.specs.Signed.{Within};
 ghost use Rattle.scripts.specs.Scripts.{quarter_xheight, four_fifths_xheight, subscript_candidates, least_up, superscript_candidates, pair_candidates, four_rules, gap_down, ψ_of, pair_shifts};

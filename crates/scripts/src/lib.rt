@@ -1,6 +1,8 @@
 // Superscripts and subscripts (rules 18a to 18f): the definitions, in specs/, and three rules that stand by themselves: the drops of 18a, the
 // greatest of the candidates for a shift, and the lift of 18e by ψ.
 
+#![tactic(auto)]
+
 ghost use Rattle.std.specs.Prelude.{◌≡◌};
 ghost use Rattle.scaled.specs.Signed.{Within};
 ghost use Rattle.scripts.specs.Scripts as rule;
@@ -36,7 +38,7 @@ pub fn drops(p: &Parameters, style: Style, n: Nucleus) -> Shifts
 }
 
 // The candidates for a shift: 18b to 18d say which there are, and take the greatest.
-#[derive(Drop)]
+#[derive(Clone, Copy)]
 pub struct Candidates {
     // What the nucleus asks for by its drop.
     pub dropped: Sp,
@@ -46,7 +48,7 @@ pub struct Candidates {
 }
 
 // What keeps the script's other edge free, where a rule asks for that.
-#[derive(Drop)]
+#[derive(Clone, Copy)]
 pub enum Free {
     Unasked,
     Asked(Sp),

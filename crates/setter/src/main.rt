@@ -1,6 +1,8 @@
 // The thin program: reads font.tab and, where there is one, client.tab in the working folder, and a style byte and a formula from
 // standard input, and writes what setting gives. What it answers is defined in specs/Thin.antt.
 
+#![tactic(auto)]
+
 ghost use Rattle.std.specs.Prelude.{◌≡◌, length};
 ghost use Rattle.answers.specs.Lent.{lent_of, index_after, client_index_after};
 ghost use Rattle.layout_answers.specs.Values.{answered_as};

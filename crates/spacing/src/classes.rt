@@ -6,7 +6,7 @@ ghost use Rattle.spacing.specs.Values.{neighbour_as};
 use formula::{Base, Class, Kind};
 
 // The class of the nearest atom to one side, or the end of the list.
-#[derive(Drop)]
+#[derive(Clone, Copy)]
 pub enum Neighbour {
     End,
     Atom(Class),

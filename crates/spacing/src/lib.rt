@@ -1,4 +1,7 @@
 // The space between two atoms (rule 20), defined in specs/Spacing.antt.
+
+#![tactic(auto)]
+
 pub mod classes;
 
 ghost use Rattle.std.specs.Prelude.{◌≡◌, ◌<◌, ◌^◌};

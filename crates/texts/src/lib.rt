@@ -1,6 +1,8 @@
 // Text that a program writes, made piece by piece in a lent buffer: numbers in decimals, and the line of a refusal, which is defined in
 // specs/Refusals.antt. `write_refusal`, `write_too_long` and `print` hand a line to a file descriptor.
 
+#![tactic(auto)]
+
 ghost use Rattle.std.specs.Prelude.{◌≡◌, ◌++◌, ◌+◌, ◌≤◌, nat_abs, length};
 ghost use Rattle.texts.specs.Decimals.{decimal_of, text_of};
 ghost use Rattle.texts.specs.Refusals.{refusal_text, too_long_text};
@@ -12,7 +14,7 @@ use scaled::Sp;
 pub const LINE_SPACE: usize = 128;
 
 // A number by its sign and how far it lies from zero.
-#[derive(Drop)]
+#[derive(Clone, Copy)]
 pub struct Number {
     pub minus: bool,
     pub size: u64,

@@ -1,6 +1,8 @@
 // Reads the bytes of a formula from standard input, with the names of names.tab in the working folder, and writes its typed text to standard
 // output; or, to standard error, why it does not.
 
+#![tactic(auto)]
+
 use eqn_calls::report_of;
 use files::{LONGEST_NAMES, NAME_SPACE, read_needed};
 use formula::FORMULA_LIMIT;

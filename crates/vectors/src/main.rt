@@ -4,6 +4,8 @@
 //     'F' or 'L'    a style, a length of two bytes or of four, and a formula to be set
 //     'W'           as 'F', and a four-byte place, of an item whose shifts are asked for
 
+#![tactic(auto)]
+
 mod pages;
 mod typed;
 

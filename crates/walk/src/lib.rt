@@ -4,4 +4,6 @@
 // A list is set at its own reference point, into the front of the buffer that it is lent, and its nodes are moved once the
 // item that holds it knows where it stands. A node that has no room is not written, so that an empty buffer measures.
 
+#![tactic(auto)]
+
 pub mod lists;

@@ -38,7 +38,7 @@ use walk_looks::places::{beyond_choice, right_of};
 use walk_symbols::signs::{has_signs, signs_in};
 
 // How many bytes an item has, and the line with it; or the place in the item of its first missing symbol. A choice is left alone.
-#[derive(Drop)]
+#[derive(Clone, Copy)]
 enum ItemSet {
     Next(usize, Line),
     Missing(usize),
@@ -46,7 +46,7 @@ enum ItemSet {
 }
 
 // The line with the first items of a list, and how many bytes they have; or the place in the list of their first missing symbol.
-#[derive(Drop)]
+#[derive(Clone, Copy)]
 enum StretchSet {
     UpTo(usize, Line),
     Missing(usize),

@@ -16,7 +16,7 @@ use scaled::Sp;
 use walk_symbols::symbols::{SymbolSearch, symbol_in};
 
 // Where it ends in its item, its shape, and its nodes.
-#[derive(Drop)]
+#[derive(Clone, Copy)]
 pub struct FieldBox {
     pub end: usize,
     pub shape: Shape,
@@ -24,7 +24,7 @@ pub struct FieldBox {
 }
 
 // A field, or the place in its item of its first symbol that the font lacks.
-#[derive(Drop)]
+#[derive(Clone, Copy)]
 pub enum FieldSet {
     Whole(FieldBox),
     Missing(usize),

@@ -12,7 +12,7 @@ use nodes::run::{Run, within};
 use spacing::classes::Neighbour;
 
 // The class of the last atom, the style, and the box so far.
-#[derive(Drop)]
+#[derive(Clone, Copy)]
 pub struct Line {
     pub left: Neighbour,
     pub style: Style,
@@ -21,7 +21,7 @@ pub struct Line {
 }
 
 // The line with the items of a list, or the place in the list of the first symbol that the font lacks.
-#[derive(Drop)]
+#[derive(Clone, Copy)]
 pub enum ItemsSet {
     Whole(Line),
     Missing(usize),

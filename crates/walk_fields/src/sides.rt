@@ -9,7 +9,7 @@ use formula::Class;
 use spacing::classes::Neighbour;
 
 // The atoms that a list sees before its first and behind its last, though they are not in it.
-#[derive(Drop)]
+#[derive(Clone, Copy)]
 pub struct Sides {
     pub left: Neighbour,
     pub right: Neighbour,

@@ -1,5 +1,7 @@
 // An item whose fields have been set, arranged and put at its place in the list. Nothing here calls a setter.
 
+#![tactic(auto)]
+
 ghost use Rattle.formula.specs.Format.{formula_limit};
 ghost use Rattle.arrange.specs.Arrange as definition;
 ghost use Rattle.boxes.specs.Values.{parameters_in, shape_as, offset_as, signing_as, ruling_as, owned_as, arranged_as};
@@ -24,7 +26,7 @@ use walk_fields::growing::extended;
 use walk_fields::lines::Line;
 
 // Where an item goes: its class after its change, x in the list, and how it is arranged.
-#[derive(Drop)]
+#[derive(Clone, Copy)]
 struct Placing {
     class: Class,
     x: Sp,

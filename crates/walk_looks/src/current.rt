@@ -12,7 +12,7 @@ use formula::FieldHead;
 use formula_fields::{field_head, list_place};
 
 // Some items of a list: the first byte of the first, and the place behind the last.
-#[derive(Drop)]
+#[derive(Clone, Copy)]
 pub struct Span {
     pub first: usize,
     pub end: usize,

@@ -17,7 +17,7 @@ use formula_openings::opening;
 use spacing::classes::{Neighbour, class_of};
 
 // What a look at items finds: how many bytes they have, the class of the first atom among them, and the style behind them.
-#[derive(Drop)]
+#[derive(Clone, Copy)]
 pub struct Sight {
     pub bytes: usize,
     pub class: Neighbour,

@@ -10,13 +10,13 @@ ghost use Rattle.walk_symbols.specs.Values.{symbol_as, symbol_search_as};
 use font::{Found, Metrics, Successor};
 
 // A symbol with its code, which may be a successor's.
-#[derive(Drop)]
+#[derive(Clone, Copy)]
 pub struct Symbol {
     pub code: u8,
     pub metrics: Metrics,
 }
 
-#[derive(Drop)]
+#[derive(Clone, Copy)]
 pub enum SymbolSearch {
     Present(Symbol),
     Absent,

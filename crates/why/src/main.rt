@@ -1,6 +1,8 @@
 // A thin program that says why a shift is what it is: reads font.tab and, where there is one, client.tab in the working folder, and from
 // standard input a style byte, a place of four bytes and a formula, and writes what decided each shift of the item at that place.
 
+#![tactic(auto)]
+
 use files::{CLIENT_SPACE, TABLE_SPACE, read_table};
 use font_index::INDEX_WORDS;
 use formula::FORMULA_LIMIT;

@@ -1,4 +1,7 @@
 // Four-byte words, the least significant byte first, and the lengths that they stand for. Both are defined in specs/Words.antt.
+
+#![tactic(auto)]
+
 ghost use Rattle.std.specs.Prelude.{◌≡◌, ◌++◌, ◌+◌, ◌*◌, ◌%◌, ◌≤◌, length, drop};
 ghost use Rattle.std.proofs.lemmas.List.Edits.{sets};
 ghost use Rattle.words.specs.Words.{little_endian, word_range, signed_word, word_of, four_bytes};
