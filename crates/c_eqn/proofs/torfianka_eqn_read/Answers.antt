@@ -1,0 +1,47 @@
+-- The answer, and the buffer, where there is room for the answer. Assumes nothing.
+use mathlib.Core.Path.{◌≡◌, ◌∙◌}
+use Prim.Native.Nat.{◌^◌, ◌<◌}
+use native.Mathlib.Omega.{arith}
+use borrow.Author.Rules.{rules}
+use lib.ListN.{length}
+use Rattle.results.specs.Results.{answer_by}
+use Rattle.results.specs.Values.{report_as}
+use Rattle.eqn_meaning.specs.Answers.{read_result, no_room}
+use Rattle.eqn_meaning.specs.ResultLaws.{read_place}
+use Rattle.c_words.specs.WordsLaws.{enough, short, reported}
+use Rattle.c_eqn.proofs.Reported.{small}
+use Rattle.c_eqn.proofs.torfianka_eqn_read.Goals as goal
+
+-- the call is made
+abbrev start : tie.After-read → tie.Start
+start c = c.before.before.before.before.before.before
+
+pub returns-then-answer-lt-REPORT_SPACE : goal.returns-then-answer-lt-REPORT_SPACE
+returns-then-answer-lt-REPORT_SPACE c =
+    let w = c.args.answer.now in
+    let few = c.if-answer-lt-REPORT_SPACE.true in
+    let both = (short w _ _ few, (short w _ _ few, short w _ _ few)) in record { value = both.0; answer_after = both.1; formula_after = both.2; }
+
+pub put_report-requires : goal.put_report-requires
+put_report-requires c =
+    let report-is : (let a = (start c.before.before.before.before).args in
+    report_as c.report_of.result ≡ answer_by no_room (length a.formula.now) (read_result a.names.now a.text.now)) = c.report_of.ensures ∙ c.read.ensures.result_value in
+    let room_small : length (start c.before.before.before.before.before).args.formula.now < 2 ^ 63 = omega arith in
+    let a = (start c.before.before.before.before.before).args in
+    let table = a.names.now in
+    let bytes = a.text.now in
+    let room = length a.formula.now in
+    let fits =
+    small table bytes room (read_result table bytes) (read_place table bytes) c.report_of.result (report-is)
+    (omega arith) (omega arith) (room_small) in
+    (search rules, fits.0, fits.1)
+
+pub returns : goal.returns
+returns c =
+    let report-is : (let a = (start c.before.before.before.before).args in
+    report_as c.report_of.result ≡ answer_by no_room (length a.formula.now) (read_result a.names.now a.text.now)) = c.report_of.ensures ∙ c.read.ensures.result_value in
+    let enough_words = c.if-answer-lt-REPORT_SPACE.false in
+    let a = (start c.before.before.before.before.before.before.before).args in
+    let w = a.answer.now in
+    let r = reported c.report_of.result _ (report-is) w c.put_report.ensures in
+    let both = (r.0 ∙ enough w _ _ enough_words, (r.1 ∙ enough w _ _ enough_words, c.read.ensures.formula_after ∙ enough w _ _ enough_words)) in record { value = both.0; answer_after = both.1; formula_after = both.2; }

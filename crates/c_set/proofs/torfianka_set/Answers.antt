@@ -1,0 +1,29 @@
+-- The answer of setting, the buffer, and the words for both indexes, where there is room for the answer.
+use mathlib.Core.Path.{sym, subst, ◌∙◌}
+use Rattle.answers.specs.Small.{Small, setting_small}
+use Rattle.c_words.specs.WordsLaws.{enough, short}
+use borrow.Author.Rules.{rules}
+use Rattle.c_set.proofs.torfianka_set.Goals as goal
+
+pub returns-then-answer-lt-ANSWER_SPACE : goal.returns-then-answer-lt-ANSWER_SPACE
+returns-then-answer-lt-ANSWER_SPACE c =
+    let w = c.args.answer.now in
+    let few = c.if-answer-lt-ANSWER_SPACE.true in
+    let both = (short w _ _ few, (short w _ _ few, (short w _ _ few, (short w _ _ few, short w _ _ few)))) in record { value = both.0; answer_after = both.1; nodes_after = both.2; index_after = both.3; client_index_after = both.4; }
+
+pub report-requires : goal.report-requires
+report-requires c = (search rules, subst Small (sym c.set.ensures.result_value) (setting_small _ _ _ _ _ _))
+
+pub returns : goal.returns
+returns c =
+    let w = c.args.answer.now in
+    let room = c.if-answer-lt-ANSWER_SPACE.false in
+    let s = c.set.ensures in
+    let r = rw s.result_value at c.report.ensures in
+    let both = (
+      r.0 ∙ enough w _ _ room,
+      (
+        r.1 ∙ enough w _ _ room,
+        (s.nodes_after.0 ∙ enough w _ _ room, (s.nodes_after.1.0 ∙ enough w _ _ room, s.nodes_after.1.1 ∙ enough w _ _ room)),
+      ),
+    ) in record { value = both.0; answer_after = both.1; nodes_after = both.2; index_after = both.3; client_index_after = both.4; }
