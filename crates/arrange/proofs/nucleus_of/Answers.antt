@@ -23,11 +23,10 @@ fence_of-fence-requires c =
 
 pub returns-in-Atom : goal.returns-in-Atom
 unfolding nucleus_of
-returns-in-Atom c =
-    (
-      rw c.in-Atom.is (rw (c.is_op.ensures, c.has_limits-as_limits.ensures, c.parameter-axis.ensures.0.is, c.font_size.ensures.0) at c.atom_nucleus.ensures.0),
-      c.atom_nucleus.ensures.1 c.requires,
-    )
+returns-in-Atom c = (
+  rw c.in-Atom.is (rw (c.is_op.ensures, c.has_limits-as_limits.ensures, c.parameter-axis.ensures.0.is, c.font_size.ensures.0) at c.atom_nucleus.ensures.0),
+  c.atom_nucleus.ensures.1 c.requires,
+)
 
 pub returns-in-Over : goal.returns-in-Over
 unfolding nucleus_of

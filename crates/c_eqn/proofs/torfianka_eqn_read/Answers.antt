@@ -12,22 +12,18 @@ use Rattle.c_words.specs.WordsLaws.{enough, short, reported}
 use Rattle.c_eqn.proofs.Reported.{small}
 use Rattle.c_eqn.proofs.torfianka_eqn_read.Goals as goal
 
--- the call is made
-abbrev start : tie.After-read → tie.Start
-start c = c.before.before.before.before.before.before
-
 pub returns-then-answer-lt-REPORT_SPACE : goal.returns-then-answer-lt-REPORT_SPACE
 returns-then-answer-lt-REPORT_SPACE c =
     let w = c.args.answer.now in
     let few = c.if-answer-lt-REPORT_SPACE.true in
-    let both = (short w _ _ few, (short w _ _ few, short w _ _ few)) in record { value = both.0; answer_after = both.1; formula_after = both.2; }
+    let both = (short w _ _ few, (short w _ _ few, short w _ _ few)) in record { value = both.0; answer_after = both.1; formula_after = both.2 }
 
 pub put_report-requires : goal.put_report-requires
 put_report-requires c =
-    let report-is : (let a = (start c.before.before.before.before).args in
+    let report-is : (let a = c.args in
     report_as c.report_of.result ≡ answer_by no_room (length a.formula.now) (read_result a.names.now a.text.now)) = c.report_of.ensures ∙ c.read.ensures.result_value in
-    let room_small : length (start c.before.before.before.before.before).args.formula.now < 2 ^ 63 = omega arith in
-    let a = (start c.before.before.before.before.before).args in
+    let room_small : length c.args.formula.now < 2 ^ 63 = omega arith in
+    let a = c.args in
     let table = a.names.now in
     let bytes = a.text.now in
     let room = length a.formula.now in
@@ -38,10 +34,10 @@ put_report-requires c =
 
 pub returns : goal.returns
 returns c =
-    let report-is : (let a = (start c.before.before.before.before).args in
+    let report-is : (let a = c.args in
     report_as c.report_of.result ≡ answer_by no_room (length a.formula.now) (read_result a.names.now a.text.now)) = c.report_of.ensures ∙ c.read.ensures.result_value in
     let enough_words = c.if-answer-lt-REPORT_SPACE.false in
-    let a = (start c.before.before.before.before.before.before.before).args in
+    let a = c.args in
     let w = a.answer.now in
     let r = reported c.report_of.result _ (report-is) w c.put_report.ensures in
-    let both = (r.0 ∙ enough w _ _ enough_words, (r.1 ∙ enough w _ _ enough_words, c.read.ensures.formula_after ∙ enough w _ _ enough_words)) in record { value = both.0; answer_after = both.1; formula_after = both.2; }
+    let both = (r.0 ∙ enough w _ _ enough_words, (r.1 ∙ enough w _ _ enough_words, c.read.ensures.formula_after ∙ enough w _ _ enough_words)) in record { value = both.0; answer_after = both.1; formula_after = both.2 }

@@ -9,7 +9,7 @@ pub returns-then-answer-lt-ANSWER_SPACE : goal.returns-then-answer-lt-ANSWER_SPA
 returns-then-answer-lt-ANSWER_SPACE c =
     let w = c.args.answer.now in
     let few = c.if-answer-lt-ANSWER_SPACE.true in
-    let both = (short w _ _ few, (short w _ _ few, (short w _ _ few, short w _ _ few))) in record { value = both.0; answer_after = both.1; index_after = both.2; client_index_after = both.3; }
+    let both = (short w _ _ few, (short w _ _ few, (short w _ _ few, short w _ _ few))) in record { value = both.0; answer_after = both.1; index_after = both.2; client_index_after = both.3 }
 
 pub report-requires : goal.report-requires
 report-requires c = (search rules, subst Small (sym c.measure.ensures.result_value) (measured_small _ _ _ _ _))
@@ -23,4 +23,4 @@ returns c =
     let both = (
       r.0 ∙ enough w _ _ room,
       (r.1 ∙ enough w _ _ room, (m.index_after.0 ∙ enough w _ _ room, m.index_after.1 ∙ enough w _ _ room)),
-    ) in record { value = both.0; answer_after = both.1; index_after = both.2; client_index_after = both.3; }
+    ) in record { value = both.0; answer_after = both.1; index_after = both.2; client_index_after = both.3 }

@@ -9,7 +9,7 @@ pub returns-then-answer-lt-ANSWER_SPACE : goal.returns-then-answer-lt-ANSWER_SPA
 returns-then-answer-lt-ANSWER_SPACE c =
     let w = c.args.answer.now in
     let few = c.if-answer-lt-ANSWER_SPACE.true in
-    let both = (short w _ _ few, (short w _ _ few, (short w _ _ few, (short w _ _ few, short w _ _ few)))) in record { value = both.0; answer_after = both.1; nodes_after = both.2; index_after = both.3; client_index_after = both.4; }
+    let both = (short w _ _ few, (short w _ _ few, (short w _ _ few, (short w _ _ few, short w _ _ few)))) in record { value = both.0; answer_after = both.1; nodes_after = both.2; index_after = both.3; client_index_after = both.4 }
 
 pub report-requires : goal.report-requires
 report-requires c = (search rules, subst Small (sym c.set.ensures.result_value) (setting_small _ _ _ _ _ _))
@@ -26,4 +26,4 @@ returns c =
         r.1 ∙ enough w _ _ room,
         (s.nodes_after.0 ∙ enough w _ _ room, (s.nodes_after.1.0 ∙ enough w _ _ room, s.nodes_after.1.1 ∙ enough w _ _ room)),
       ),
-    ) in record { value = both.0; answer_after = both.1; nodes_after = both.2; index_after = both.3; client_index_after = both.4; }
+    ) in record { value = both.0; answer_after = both.1; nodes_after = both.2; index_after = both.3; client_index_after = both.4 }

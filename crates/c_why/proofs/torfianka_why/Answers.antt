@@ -13,7 +13,7 @@ pub returns-then-answer-lt-ANSWER_SPACE : goal.returns-then-answer-lt-ANSWER_SPA
 returns-then-answer-lt-ANSWER_SPACE c =
     let w = c.args.answer.now in
     let few = c.if-answer-lt-ANSWER_SPACE.true in
-    let both = (short w _ _ few, (short w _ _ few, (short w _ _ few, short w _ _ few))) in record { value = both.0; answer_after = both.1; index_after = both.2; client_index_after = both.3; }
+    let both = (short w _ _ few, (short w _ _ few, (short w _ _ few, short w _ _ few))) in record { value = both.0; answer_after = both.1; index_after = both.2; client_index_after = both.3 }
 
 pub report_reasons-requires : goal.report_reasons-requires
 report_reasons-requires c =
@@ -28,4 +28,4 @@ returns c =
     let both = (
       r.0 ∙ enough w _ _ room,
       (r.1 ∙ enough w _ _ room, (m.index_after.0 ∙ enough w _ _ room, m.index_after.1 ∙ enough w _ _ room)),
-    ) in record { value = both.0; answer_after = both.1; index_after = both.2; client_index_after = both.3; }
+    ) in record { value = both.0; answer_after = both.1; index_after = both.2; client_index_after = both.3 }

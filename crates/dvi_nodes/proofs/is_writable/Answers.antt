@@ -8,7 +8,7 @@ pub returns-in-Glyph : goal.returns-in-Glyph
 returns-in-Glyph c =
     let fields = c.node-1.given.0 in
     rw (c.in-Glyph.is, c.within.ensures, c.within-in-Glyph.ensures)
-    (glyph_tests fields.0.0 fields.1.0.0 fields.1.1.0 fields.1.1.1.0 fields.1.1.1.1.0 (omega (arith, c.known_told-1.given)))
+    (glyph_tests fields.0.0 fields.1.0.0 fields.1.1.0 fields.1.1.1.0 fields.1.1.1.1.0 (omega (arith, c.in-Glyph.known_told-1-own.given)))
 
 pub returns-in-Rule : goal.returns-in-Rule
 returns-in-Rule c =

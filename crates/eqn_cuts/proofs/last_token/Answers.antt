@@ -78,7 +78,7 @@ loop-at-smaller c = omega (arith, token_moves c.token_at-token.ensures c.loop-at
 pub loop-at-preserved : goal.loop-at-preserved
 loop-at-preserved c =
     last_next c.loop-at.invariant c.token_at-token.ensures c.loop-at-test.true
-    (λ is. miss (0 ∷ 1 ∷ 2 ∷ 3 ∷ 4 ∷ []) 5 tt (rw is at c.in_default.keys2))
+    (λ is. miss (0 ∷ 1 ∷ 2 ∷ 3 ∷ 4 ∷ []) 5 tt (rw is at c.in_default.in_default-own.keys2))
 
 pub returns-in-loop-at : goal.returns-in-loop-at
 returns-in-loop-at c = last_ended c.loop-at.invariant (rw c.in-End.is at c.token_at-token.ensures.tokens)

@@ -42,4 +42,4 @@ returns-else-level-eq0 c =
     rw c.in-Close.is (one_less_lem level)
 
 pub returns-in_default : goal.returns-in_default
-returns-in_default c = let args = c.args in others args.level args.kind c.in_default.keys3
+returns-in_default c = let args = c.args in others args.level args.kind c.in_default.in_default-own.keys3

@@ -17,39 +17,29 @@ returns-in_default c =
     let absent = steps_not c.args.names.now c.loop-at.at c.next_record-front.ensures c.in_default.is in
     λ ns r. absurd (passed_stopped _ _ c.loop-at.invariant c.loop-at-test.true absent ns r)
 
--- the loop that a record was found in
-abbrev loop-of : tie.After-known-told invariant-loop decreases-loop → tie.At-loop invariant-loop decreases-loop
-loop-of c = c.before.before.before.before.before.before
-
 pub returns-then-are_same : goal.returns-then-are_same
 returns-then-are_same c =
-    let compared : (let loop = loop-of c.before.before.before in
-    let args = loop.before.before.before.args in
-    same (name_at args.names.now loop.loop.at c.in-Record.n c.in-Record.symbol).bytes args.word.now
-    ≡ c.are_same.result) = let args = (loop-of c.before.before.before).before.before.before.args in
-    ap (λ (w : List ℕ). same w args.word.now) (sym (name_bytes args.names.now (loop-of c.before.before.before).loop.at c.in-Record.n)) ∙ sym c.are_same.ensures in
-    let there : (let loop = loop-of c.before in
-    Steps loop.before.before.before.args.names.now loop.loop.at c.in-Record.n c.in-Record.symbol) = steps c.loop-at-test.true c.next_record-front.ensures c.in-Record.is in
-    let loop = loop-of c.before.before.before.before in
-    let word = loop.before.before.before.args.word.now in
+    let compared : (let args = c.args in
+    same (name_at args.names.now c.loop-at.at c.in-Record.n c.in-Record.symbol).bytes args.word.now
+    ≡ c.are_same.result) = let args = c.args in
+    ap (λ (w : List ℕ). same w args.word.now) (sym (name_bytes args.names.now c.loop-at.at c.in-Record.n)) ∙ sym c.are_same.ensures in
+    let there : Steps c.args.names.now c.loop-at.at c.in-Record.n c.in-Record.symbol = steps c.loop-at-test.true c.next_record-front.ensures c.in-Record.is in
+    let word = c.args.word.now in
     let own = compared ∙ c.if-are_same.true in
     λ ns r.
     sym
-    (passed_found _ _ loop.loop.inv (there) (λ ms. named_first _ ms word own) ns r
+    (passed_found _ _ c.loop-at.inv (there) (λ ms. named_first _ ms word own) ns r
     ∙ ap (λ (w : List ℕ). some (name_as w c.in-Record.symbol)) (same_is _ word own))
 
 pub loop-at-preserved : goal.loop-at-preserved
 loop-at-preserved c =
-    let there : (let loop = loop-of c.before in
-    Steps loop.before.before.before.args.names.now loop.loop.at c.in-Record.n c.in-Record.symbol) = steps c.loop-at-test.true c.next_record-front.ensures c.in-Record.is in
-    let compared : (let loop = loop-of c.before.before.before in
-    let args = loop.before.before.before.args in
-    same (name_at args.names.now loop.loop.at c.in-Record.n c.in-Record.symbol).bytes args.word.now
-    ≡ c.are_same.result) = let args = (loop-of c.before.before.before).before.before.before.args in
-    ap (λ (w : List ℕ). same w args.word.now) (sym (name_bytes args.names.now (loop-of c.before.before.before).loop.at c.in-Record.n)) ∙ sym c.are_same.ensures in
-    let loop = loop-of c.before.before.before.before in
-    passed_next _ _ loop.loop.inv (there)
-    (λ ms. named_next _ ms loop.before.before.before.args.word.now (compared ∙ c.if-are_same.false))
+    let there : Steps c.args.names.now c.loop-at.at c.in-Record.n c.in-Record.symbol = steps c.loop-at-test.true c.next_record-front.ensures c.in-Record.is in
+    let compared : (let args = c.args in
+    same (name_at args.names.now c.loop-at.at c.in-Record.n c.in-Record.symbol).bytes args.word.now
+    ≡ c.are_same.result) = let args = c.args in
+    ap (λ (w : List ℕ). same w args.word.now) (sym (name_bytes args.names.now c.loop-at.at c.in-Record.n)) ∙ sym c.are_same.ensures in
+    passed_next _ _ c.loop-at.inv (there)
+    (λ ms. named_next _ ms c.args.word.now (compared ∙ c.if-are_same.false))
 
 pub returns : goal.returns
 unfolding named

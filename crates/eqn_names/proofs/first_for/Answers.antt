@@ -14,10 +14,6 @@ returns-in_default c =
     let absent = steps_not c.args.names.now c.loop-at.at c.next_record-front.ensures c.in_default.is in
     λ ns r. absurd (passed_stopped _ _ c.loop-at.invariant c.loop-at-test.true absent ns (ns, r, refl))
 
--- the loop that a record was found in
-abbrev loop-of : tie.After-known-told invariant-loop decreases-loop → tie.At-loop invariant-loop decreases-loop
-loop-of c = c.before.before.before.before.before.before
-
 -- whether it is for the symbol
 fitting : (c : tie.After-fits2 invariant-loop decreases-loop) →
     let told = c.before in
@@ -33,19 +29,17 @@ both e f = ap₂ (λ (o : Option Name) (i : ℕ). (o, i)) e f
 
 pub returns-then-fits : goal.returns-then-fits
 returns-then-fits c =
-    let there : (let loop = loop-of c.before in
-    Steps loop.before.before.args.names.now loop.loop.at c.in-Record.n c.in-Record.symbol) = steps c.loop-at-test.true c.next_record-front.ensures c.in-Record.is in
-    let loop = loop-of c.before.before.before in
-    let args = loop.before.before.args in
+    let there : Steps c.args.names.now c.loop-at.at c.in-Record.n c.in-Record.symbol = steps c.loop-at-test.true c.next_record-front.ensures c.in-Record.is in
+    let args = c.args in
     let stood = there in
     let given = c.front-1.given.0 in
     let fits = fitting c.before.before ∙ c.if-fits.true in
     let asked = asked_as args.class in
-    let at = loop.loop.at in
+    let at = c.loop-at.at in
     let m = name_at args.names.now at given.0 given.1.0 in
     λ ns r.
     let found =
-    passed_found _ _ loop.loop.inv stood
+    passed_found _ _ c.loop-at.inv stood
     (λ ms. both (first_here args.family args.code asked m ms fits) (place_here args.family args.code asked at m ms fits)) ns (ns, r, refl) in (
       m,
       ap (λ (p : Option Name × ℕ). p.0) found,
@@ -57,16 +51,14 @@ returns-then-fits c =
 
 pub loop-at-preserved : goal.loop-at-preserved
 loop-at-preserved c =
-    let there : (let loop = loop-of c.before in
-    Steps loop.before.before.args.names.now loop.loop.at c.in-Record.n c.in-Record.symbol) = steps c.loop-at-test.true c.next_record-front.ensures c.in-Record.is in
-    let loop = loop-of c.before.before.before in
-    let args = loop.before.before.args in
+    let there : Steps c.args.names.now c.loop-at.at c.in-Record.n c.in-Record.symbol = steps c.loop-at-test.true c.next_record-front.ensures c.in-Record.is in
+    let args = c.args in
     let given = c.front-1.given.0 in
     let fails = fitting c.before.before ∙ c.if-fits.false in
     let asked = asked_as args.class in
-    let at = loop.loop.at in
+    let at = c.loop-at.at in
     let m = name_at args.names.now at given.0 given.1.0 in
-    passed_next _ _ loop.loop.inv (there)
+    passed_next _ _ c.loop-at.inv (there)
     (λ ms. both (first_next args.family args.code asked m ms fails) (place_next args.family args.code asked at m ms fails))
 
 pub returns : goal.returns

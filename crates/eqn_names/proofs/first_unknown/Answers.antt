@@ -33,8 +33,7 @@ loop-at-preserved-in-Named c =
     let args = c.args in
     let w = bytes_of args.text.now c.token_at-token.result in
     Listed args.names.now args.firsts.now ns → is_unknown ns (kind_as c.token_at-token.result.kind w) ≡ not (is_there (found_as w v)) = λ v is ns r. let w = bytes_of c.args.text.now c.token_at-token.result in
-    rw c.in-Word.is (ap (λ (o : Option Name). not (is_there o)) (sym (c.find-found.ensures ns r) ∙ ap (found_as w) is)) in
-    (
+    rw c.in-Word.is (ap (λ (o : Option Name). not (is_there o)) (sym (c.find-found.ensures ns r) ∙ ap (found_as w) is)) in (
       c.token_at-token.ensures.within,
       λ ns r.
           looked_next ns _ (c.loop-at.invariant.1 ns r) c.token_at-token.ensures
@@ -42,10 +41,9 @@ loop-at-preserved-in-Named c =
     )
 
 pub loop-at-preserved : goal.loop-at-preserved
-loop-at-preserved c =
-    (
-      c.token_at-token.ensures.within,
-      λ ns r.
-          looked_next ns _ (c.loop-at.invariant.1 ns r) c.token_at-token.ensures
-          ((plain c.token_at-token.result.kind c.in_default.keys2).known ns _),
-    )
+loop-at-preserved c = (
+  c.token_at-token.ensures.within,
+  λ ns r.
+      looked_next ns _ (c.loop-at.invariant.1 ns r) c.token_at-token.ensures
+      ((plain c.token_at-token.result.kind c.in_default.in_default-own.keys2).known ns _),
+)

@@ -37,9 +37,6 @@ returns-then-s-n c =
     let s = c.args.s.now in
     sym (front_absent s (λ f. omega (arith, f.room, length-drop 1 s)))
 
-abbrev start_of : tie.After-are-word-bytes → tie.Start
-start_of c = c.before.before.before.before.before.before.before.before.before.before.before
-
 -- the last test, of the bytes behind the first
 abbrev tested : tie.After-are-word-bytes → Bool
 tested c = c.before.before.is-symbol.result && c.are-word-bytes.result
@@ -49,8 +46,8 @@ told r n = (leb (get_or r n 0) greatest_family && leb (get_or r (n + 2) 0) great
 
 pub returns-then-is_symbol-are_word_bytes : goal.returns-then-is_symbol-are_word_bytes
 returns-then-is_symbol-are_word_bytes c =
-    let last-test : (let s = (start_of c.before).args.s.now in
-    tested c.before ≡ told (drop 1 s) (get_or s 0 0)) = let s = (start_of c.before).args.s.now in
+    let last-test : (let s = c.args.s.now in
+    tested c.before ≡ told (drop 1 s) (get_or s 0 0)) = let s = c.args.s.now in
     let n = get_or s 0 0 in
     let long : n + 1 - 1 ≡ n = omega arith in
     let symbol : c.is_symbol.result ≡ (leb (get_or (drop 1 s) n 0) greatest_family && leb (get_or (drop 1 s) (n + 2) 0) greatest_class) =
@@ -58,7 +55,7 @@ returns-then-is_symbol-are_word_bytes c =
     ∙ rw (behind_first s {i = n + 1} n refl, behind_first s {i = n + 1 + 2} (n + 2) (omega arith)) in
     let name : c.are_word_bytes.result ≡ all_word_bytes (take n (drop 1 s)) = c.are_word_bytes.ensures ∙ rw long in
     ap₂ ◌&&◌ symbol name in
-    let s = (start_of c.before.before).args.s.now in
+    let s = c.args.s.now in
     let n = get_or s 0 0 in
     let small = both_false {p = eqb n 0} c.if-n.false in
     let told-all = both_true {p = leb (get_or (drop 1 s) n 0) greatest_family && leb (get_or (drop 1 s) (n + 2) 0) greatest_class} (sym (last-test) ∙ c.if-is_symbol-are_word_bytes.true) in
@@ -78,8 +75,8 @@ returns-then-is_symbol-are_word_bytes c =
 
 pub returns : goal.returns
 returns c =
-    let last-test : (let s = (start_of c.before).args.s.now in
-    tested c.before ≡ told (drop 1 s) (get_or s 0 0)) = let s = (start_of c.before).args.s.now in
+    let last-test : (let s = c.args.s.now in
+    tested c.before ≡ told (drop 1 s) (get_or s 0 0)) = let s = c.args.s.now in
     let n = get_or s 0 0 in
     let long : n + 1 - 1 ≡ n = omega arith in
     let symbol : c.is_symbol.result ≡ (leb (get_or (drop 1 s) n 0) greatest_family && leb (get_or (drop 1 s) (n + 2) 0) greatest_class) =
@@ -87,7 +84,7 @@ returns c =
     ∙ rw (behind_first s {i = n + 1} n refl, behind_first s {i = n + 1 + 2} (n + 2) (omega arith)) in
     let name : c.are_word_bytes.result ≡ all_word_bytes (take n (drop 1 s)) = c.are_word_bytes.ensures ∙ rw long in
     ap₂ ◌&&◌ symbol name in
-    let s = (start_of c.before.before).args.s.now in
+    let s = c.args.s.now in
     sym
     (front_absent s
     (λ f.

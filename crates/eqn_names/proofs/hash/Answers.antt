@@ -17,8 +17,7 @@ loop-i-preserved c =
 
 pub returns : goal.returns
 unfolding hash_from
-returns c =
-    (
-      sym (c.loop-i.invariant.1 ∙ ap (hash_from c.loop-i.h) (drop_of_length-le c.args.name.now c.loop-i-test.false)),
-      c.loop-i.invariant.0,
-    )
+returns c = (
+  sym (c.loop-i.invariant.1 ∙ ap (hash_from c.loop-i.h) (drop_of_length-le c.args.name.now c.loop-i-test.false)),
+  c.loop-i.invariant.0,
+)

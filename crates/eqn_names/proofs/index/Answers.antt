@@ -26,11 +26,7 @@ pub returns-in_default : goal.returns-in_default
 returns-in_default c =
     let s = c.args.names.now in
     let both = told_bad s
-    (tested_bad s c.loop-at.invariant.1 c.loop-at-test.true (front_told c.loop-at.at s c.front_record-front.ensures c.in_default.is)) in record { value = both.0; listed = both.1; }
-
--- the loop that a record was found in
-abbrev loop-of : tie.After-known-told invariant-loop decreases-loop → tie.At-loop invariant-loop decreases-loop
-loop-of c = c.before.before.before.before.before.before
+    (tested_bad s c.loop-at.invariant.1 c.loop-at-test.true (front_told c.loop-at.at s c.front_record-front.ensures c.in_default.is)) in record { value = both.0; listed = both.1 }
 
 abbrev names_of : tie.After-known-told invariant-loop decreases-loop → List ℕ
 names_of c = (loop-of c).before.before.before.before.args.names.now
@@ -42,34 +38,34 @@ name_of c = name_at (names_of c) (loop-of c).loop.at c.before.front.given.0.0 c.
 -- the bytes before the record are lent
 pub slice_bounds-is_new-end : goal.slice_bounds-is_new-end
 slice_bounds-is_new-end c =
-    sym (length-take-le (loop-of c.before.before.before.before).loop.at (names_of c.before.before.before.before) (loop-of c.before.before.before.before).loop.invariant.1.within)
+    sym (length-take-le c.loop-at.at (names_of c.before.before.before.before) c.loop-at.invariant.1.within)
 
 pub returns-then-not-is_new : goal.returns-then-not-is_new
 returns-then-not-is_new c =
-    let there : Stands (names_of c.before) (loop-of c.before).loop.at c.in-Record.n c.in-Record.field-1 = stands c.loop-at-test.true c.front_record-front.ensures c.in-Record.is in
-    let asked : is_new (loop-of c.before.before.before.before.before.before.before).loop.invariant.0 (name_of c.before.before.before.before.before.before.before) ≡ c.is_new.result = let loop = (loop-of c.before.before.before.before.before.before.before).loop in
+    let there : Stands (names_of c.before) c.loop-at.at c.in-Record.n c.in-Record.field-1 = stands c.loop-at-test.true c.front_record-front.ensures c.in-Record.is in
+    let asked : is_new c.loop-at.invariant.0 (name_of c.before.before.before.before.before.before.before) ≡ c.is_new.result = let loop = c.loop-at in
     let s = names_of c.before.before.before.before.before.before.before in
     let w = take (loop.at + 1 + c.in-Record.n - (loop.at + 1)) (drop (loop.at + 1) s) in
     let before = loop.inv.0 in
     let from : From (take loop.at s) before w (get_or loop.firsts c.hash-h.result 0) = rw c.hash-h.ensures.0 (loop.inv.2.from w) in
     ap (λ (v : List ℕ). not (is_keyword v) && not (is_there (named before v))) (sym (name_bytes s loop.at c.in-Record.n))
     ∙ sym (c.is_new.ensures before from) in
-    let both = told_bad (names_of c.before.before.before.before.before.before.before.before) (tested_old _ (loop-of c.before.before.before.before.before.before.before.before).loop.invariant.1 (there) (asked ∙ not-true _ c.if-not-is_new.true)) in record { value = both.0; listed = both.1; }
+    let both = told_bad (names_of c.before.before.before.before.before.before.before.before) (tested_old _ c.loop-at.invariant.1 (there) (asked ∙ not-true _ c.if-not-is_new.true-raw)) in record { value = both.0; listed = both.1 }
 
 pub loop-at-preserved : goal.loop-at-preserved
 loop-at-preserved c =
-    let there : Stands (names_of c.before) (loop-of c.before).loop.at c.in-Record.n c.in-Record.field-1 = stands c.loop-at-test.true c.front_record-front.ensures c.in-Record.is in
-    let asked : is_new (loop-of c.before.before.before.before.before.before.before).loop.invariant.0 (name_of c.before.before.before.before.before.before.before) ≡ c.is_new.result = let loop = (loop-of c.before.before.before.before.before.before.before).loop in
+    let there : Stands (names_of c.before) c.loop-at.at c.in-Record.n c.in-Record.field-1 = stands c.loop-at-test.true c.front_record-front.ensures c.in-Record.is in
+    let asked : is_new c.loop-at.invariant.0 (name_of c.before.before.before.before.before.before.before) ≡ c.is_new.result = let loop = c.loop-at in
     let s = names_of c.before.before.before.before.before.before.before in
     let w = take (loop.at + 1 + c.in-Record.n - (loop.at + 1)) (drop (loop.at + 1) s) in
     let before = loop.inv.0 in
     let from : From (take loop.at s) before w (get_or loop.firsts c.hash-h.result 0) = rw c.hash-h.ensures.0 (loop.inv.2.from w) in
     ap (λ (v : List ℕ). not (is_keyword v) && not (is_there (named before v))) (sym (name_bytes s loop.at c.in-Record.n))
     ∙ sym (c.is_new.ensures before from) in
-    let hashed : c.hash-h.result ≡ hash_of (name_of c.before.before.before).bytes = c.hash-h.ensures.0 ∙ ap (λ (w : List ℕ). hash_of w) (name_bytes (names_of c.before.before.before) (loop-of c.before.before.before).loop.at c.in-Record.n) in
-    let loop = (loop-of c.before.before.before.before.before.before.before.before.before.before).loop in
+    let hashed : c.hash-h.result ≡ hash_of (name_of c.before.before.before).bytes = c.hash-h.ensures.0 ∙ ap (λ (w : List ℕ). hash_of w) (name_bytes (names_of c.before.before.before) c.loop-at.at c.in-Record.n) in
+    let loop = c.loop-at in
     let stood = there in
-    let new = asked ∙ not-false _ c.if-not-is_new.false in
+    let new = asked ∙ not-false _ c.if-not-is_new.false-raw in
     let room : loop.at + record_bytes (name_of c.before.before.before.before.before.before.before.before.before.before) ≤ length (names_of c.before.before.before.before.before.before.before.before.before.before) = omega (arith, stood.room, stood.next) in
     let kept-is : c.keep.new.0 ≡ kept loop.firsts (hash_of (name_of c.before.before.before.before.before.before.before.before.before.before).bytes) loop.at =
     c.keep.ensures ∙ ap (λ (h : ℕ). kept loop.firsts h loop.at) (hashed) in
@@ -80,4 +76,4 @@ returns c =
     let loop = c.loop-at in
     let s = c.args.names.now in
     let both = told_good s (Known s loop.firsts) (tested_all _ loop.invariant.1 c.loop-at-test.false)
-    (indexed_all loop.invariant.2 loop.invariant.1.records c.loop-at-test.false) in record { value = both.0; listed = both.1; }
+    (indexed_all loop.invariant.2 loop.invariant.1.records c.loop-at-test.false) in record { value = both.0; listed = both.1 }

@@ -9,25 +9,16 @@ use Rattle.font.specs.RecordsLaws.{recorded, few, all_within}
 use Rattle.font_build.proofs.BuildLaws.{running_small, built}
 use Rattle.font_build.proofs.build_index.Goals as goal
 
--- places: where the words are cleared, and the start
-abbrev cleared : tie.After-mark-all → tie.After-clear
-cleared c = c.before.before.before.before
-
-abbrev start : tie.After-clear → tie.Start
-start c = c.before.before.before.before
-
 pub sum-requires : goal.sum-requires
 sum-requires c =
-    let first = start (cleared c.before.before.before.before) in
-    let s = first.args.s.now in
-    let sound = first.pre.0 in
+    let s = c.args.s.now in
+    let sound = c.requires.0 in
     let marked = c.mark_all.ensures.0 in
     let small = running_small c.mark_all.new.1.0 (client_records s) (all_within (client_records s) sound.good) marked in
     (marked.long, omega (arith, small, recorded s, few s sound))
 
 pub returns : goal.returns
 returns c =
-    let first = start (cleared c.before.before.before.before.before.before.before) in
-    let s = first.args.s.now in
-    built c.mark_all.new.1.0 (client_records s) (all_within (client_records s) first.pre.0.good) c.mark_all.ensures.0 c.sum.new.0 c.sum.ensures
-    ∙ ap (λ (l : List ℕ). index_of (client_records s) ++ l) (c.mark_all.ensures.1 ∙ (cleared c.before.before.before.before.before.before.before).clear.ensures.1)
+    let s = c.args.s.now in
+    built c.mark_all.new.1.0 (client_records s) (all_within (client_records s) c.requires.0.good) c.mark_all.ensures.0 c.sum.new.0 c.sum.ensures
+    ∙ ap (λ (l : List ℕ). index_of (client_records s) ++ l) (c.mark_all.ensures.1 ∙ c.clear.ensures.1)

@@ -12,18 +12,13 @@ use Rattle.font_build.proofs.mark_all.Goals as goal
 pub loop-i-init : goal.loop-i-init
 loop-i-init c = marked_from_end _ _ _ (recorded c.args.s.now) c.requires.1
 
--- the turn of the loop in which a record is marked
-abbrev turn_of : tie.After-mark invariant-loop decreases-loop → tie.In-loop invariant-loop decreases-loop
-turn_of c = let read = c.before.before in read.before.before.before
-
 pub overflow_sub-i : goal.overflow_sub-i
 overflow_sub-i c = omega (arith, c.loop-i-test.true)
 
 pub overflow_mul-at : goal.overflow_mul-at
 overflow_mul-at c =
     let room : (let s = c.args.s.now in
-    (character_bytes * (c.loop-i.i - 1) + character_bytes ≤ length s) × (length s ≤ 65_536)) = let turn = c.loop-i in
-    (
+    (character_bytes * (c.loop-i.i - 1) + character_bytes ≤ length s) × (length s ≤ 65_536)) = let turn = c.loop-i in (
       read_within c.args.s.now c.requires.0 c.type_inv.s _ _ turn.i c.loop-i-test.true turn.invariant,
       read_small c.args.s.now c.requires.0 c.type_inv.s _ _ turn.i c.loop-i-test.true turn.invariant,
     ) in
@@ -32,8 +27,7 @@ overflow_mul-at c =
 pub overflow_add-size : goal.overflow_add-size
 overflow_add-size c =
     let room : (let s = c.args.s.now in
-    (character_bytes * (c.loop-i.i - 1) + character_bytes ≤ length s) × (length s ≤ 65_536)) = let turn = c.loop-i in
-    (
+    (character_bytes * (c.loop-i.i - 1) + character_bytes ≤ length s) × (length s ≤ 65_536)) = let turn = c.loop-i in (
       read_within c.args.s.now c.requires.0 c.type_inv.s _ _ turn.i c.loop-i-test.true turn.invariant,
       read_small c.args.s.now c.requires.0 c.type_inv.s _ _ turn.i c.loop-i-test.true turn.invariant,
     ) in
@@ -42,8 +36,7 @@ overflow_add-size c =
 pub bounds-s-at : goal.bounds-s-at
 bounds-s-at c =
     let room : (let s = c.args.s.now in
-    (character_bytes * (c.loop-i.i - 1) + character_bytes ≤ length s) × (length s ≤ 65_536)) = let turn = c.loop-i in
-    (
+    (character_bytes * (c.loop-i.i - 1) + character_bytes ≤ length s) × (length s ≤ 65_536)) = let turn = c.loop-i in (
       read_within c.args.s.now c.requires.0 c.shared_slice_known-1.given _ _ turn.i c.loop-i-test.true turn.invariant,
       read_small c.args.s.now c.requires.0 c.shared_slice_known-1.given _ _ turn.i c.loop-i-test.true turn.invariant,
     ) in
@@ -52,8 +45,7 @@ bounds-s-at c =
 pub overflow_add-family : goal.overflow_add-family
 overflow_add-family c =
     let room : (let s = c.args.s.now in
-    (character_bytes * (c.loop-i.i - 1) + character_bytes ≤ length s) × (length s ≤ 65_536)) = let turn = c.loop-i in
-    (
+    (character_bytes * (c.loop-i.i - 1) + character_bytes ≤ length s) × (length s ≤ 65_536)) = let turn = c.loop-i in (
       read_within c.args.s.now c.requires.0 c.shared_slice_known-1.given _ _ turn.i c.loop-i-test.true turn.invariant,
       read_small c.args.s.now c.requires.0 c.shared_slice_known-1.given _ _ turn.i c.loop-i-test.true turn.invariant,
     ) in
@@ -62,8 +54,7 @@ overflow_add-family c =
 pub bounds-s-at-in-loop-i : goal.bounds-s-at-in-loop-i
 bounds-s-at-in-loop-i c =
     let room : (let s = c.args.s.now in
-    (character_bytes * (c.loop-i.i - 1) + character_bytes ≤ length s) × (length s ≤ 65_536)) = let turn = c.loop-i in
-    (
+    (character_bytes * (c.loop-i.i - 1) + character_bytes ≤ length s) × (length s ≤ 65_536)) = let turn = c.loop-i in (
       read_within c.args.s.now c.requires.0 c.shared_slice_known-1.given _ _ turn.i c.loop-i-test.true turn.invariant,
       read_small c.args.s.now c.requires.0 c.shared_slice_known-1.given _ _ turn.i c.loop-i-test.true turn.invariant,
     ) in
@@ -72,8 +63,7 @@ bounds-s-at-in-loop-i c =
 pub overflow_add-code : goal.overflow_add-code
 overflow_add-code c =
     let room : (let s = c.args.s.now in
-    (character_bytes * (c.loop-i.i - 1) + character_bytes ≤ length s) × (length s ≤ 65_536)) = let turn = c.loop-i in
-    (
+    (character_bytes * (c.loop-i.i - 1) + character_bytes ≤ length s) × (length s ≤ 65_536)) = let turn = c.loop-i in (
       read_within c.args.s.now c.requires.0 c.shared_slice_known-1.given _ _ turn.i c.loop-i-test.true turn.invariant,
       read_small c.args.s.now c.requires.0 c.shared_slice_known-1.given _ _ turn.i c.loop-i-test.true turn.invariant,
     ) in
@@ -82,8 +72,7 @@ overflow_add-code c =
 pub bounds-s-at-in-loop-i-2 : goal.bounds-s-at-in-loop-i-2
 bounds-s-at-in-loop-i-2 c =
     let room : (let s = c.args.s.now in
-    (character_bytes * (c.loop-i.i - 1) + character_bytes ≤ length s) × (length s ≤ 65_536)) = let turn = c.loop-i in
-    (
+    (character_bytes * (c.loop-i.i - 1) + character_bytes ≤ length s) × (length s ≤ 65_536)) = let turn = c.loop-i in (
       read_within c.args.s.now c.requires.0 c.shared_slice_known-1.given _ _ turn.i c.loop-i-test.true turn.invariant,
       read_small c.args.s.now c.requires.0 c.shared_slice_known-1.given _ _ turn.i c.loop-i-test.true turn.invariant,
     ) in
@@ -96,16 +85,13 @@ mark-requires c =
     (l.invariant.marked.long, fits.0, fits.1, fits.2)
 
 pub loop-i-smaller : goal.loop-i-smaller
-loop-i-smaller c = omega (arith, (turn_of c.before.before.before).loop-test.taken)
+loop-i-smaller c = omega (arith, c.loop-i-test.taken)
 
 pub loop-i-preserved : goal.loop-i-preserved
 loop-i-preserved c =
-    let turn = turn_of c.before.before.before in
-    let l = turn.before.loop in
-    let known = turn.before.before.before in
-    let start = known.before in
+    let l = c.loop-i in
     rw c.mark.ensures
-    (marked_from start.args.s.now start.pre.0 known.shared-slice-known.given _ _ l.i turn.loop-test.taken l.inv)
+    (marked_from c.args.s.now c.requires.0 c.shared_slice_known-1.given _ _ l.i c.loop-i-test.taken l.inv)
 
 pub shape_of-index : goal.shape_of-index
 shape_of-index c =

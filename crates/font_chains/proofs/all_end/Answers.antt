@@ -14,31 +14,26 @@ use Rattle.font.specs.RecordsLaws.{count, counted, few, recorded, record_at}
 use Rattle.font_chains.proofs.all_end.Invariants.{ending}
 use Rattle.font_chains.proofs.all_end.Goals as goal
 
--- the start, before a turn of the loop
-abbrev start : tie.In-loop invariant-loop decreases-loop → tie.Start invariant-loop decreases-loop
-start c = let known = c.before.before in known.before.before.before
-
 pub loop-i-init : goal.loop-i-init
 unfolding client_records client_count
 loop-i-init c = record { passed = omega arith; rest = rw sub-zero }
 
 pub overflow_mul-at : goal.overflow_mul-at
 overflow_mul-at c =
-    let room : (let a = (start c.before).args in
-    character_bytes * c.loop-i.i + character_bytes ≤ length a.s.now) = omega (arith, counted (start c.before).args.s.now (start c.before).requires.1, c.loop-i-test.true) in
+    let room : (let a = c.args in
+    character_bytes * c.loop-i.i + character_bytes ≤ length a.s.now) = omega (arith, counted c.args.s.now c.requires.1, c.loop-i-test.true) in
     omega (arith, room)
 
 pub ends-good-requires : goal.ends-good-requires
 ends-good-requires c =
     let i = c.loop-i.i in
-    let first = start c.before.before in
-    let s = first.args.s.now in
+    let s = c.args.s.now in
     let inside : i < count s = omega (arith, c.loop-i-test.true) in
     let is = part_of (character_bytes * i) character_bytes s ∙ sym (record_at s i inside) in (
-      first.pre.0,
+      c.requires.0,
       omega (arith, c.ends-arg-1.given.2),
-      omega (arith, few s first.pre.1),
-      rw is (first.pre.2.each i (omega (arith, recorded s))),
+      omega (arith, few s c.requires.1),
+      rw is (c.requires.2.each i (omega (arith, recorded s))),
     )
 
 pub overflow_add-i : goal.overflow_add-i
@@ -51,7 +46,7 @@ pub loop-i-preserved : goal.loop-i-preserved
 unfolding every pieces
 loop-i-preserved c =
     let l = c.loop-i in
-    let a = (start c.before.before.before).args in
+    let a = c.args in
     let F = font_with a.table.now a.client.now in
     let s = a.s.now in
     let rest = drop character_bytes (drop (character_bytes * l.i) s) in

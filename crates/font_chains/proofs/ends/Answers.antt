@@ -8,19 +8,14 @@ use Rattle.font.specs.Table.{seen_ends}
 use Rattle.font_chains.proofs.ChainLaws.{flagged_ends}
 use Rattle.font_chains.proofs.ends.Goals as goal
 
--- the start, before the flag is tested
-abbrev start : tie.After-shared-slice-known4 → tie.Start
-start c = c.before.before.before.before
-
 pub returns-then-r-ne1 : goal.returns-then-r-ne1
-returns-then-r-ne1 c = sym ((start c.before.before).requires.3.quiet c.if-r-ne1.true)
+returns-then-r-ne1 c = sym (c.requires.3.quiet c.if-r-ne1.true)
 
 pub returns-then-client-eq0 : goal.returns-then-client-eq0
 returns-then-client-eq0 c =
-    let first = start c.before.before.before.before.before.before.before.before.before in
-    let a = first.args in
+    let a = c.args in
     let chain = flagged_ends (font_with a.table.now a.client.now) a.r.now c.if-r-ne1.false in
-    ap not c.goes_on.ensures ∙ sym (first.pre.3.own c.if-client-eq0.true ∙ chain)
+    ap not c.goes_on.ensures ∙ sym (c.requires.3.own c.if-client-eq0.true ∙ chain)
 
 pub returns : goal.returns
 unfolding seen_ends

@@ -5,17 +5,13 @@ use mathlib.Core.Option.{some}
 use Rattle.font.specs.LookupLaws.{read_short, read_long}
 use Rattle.font_index.proofs.symbol.Goals as goal
 
--- the start, before the record is found
-abbrev start : tie.After-record-of → tie.Start
-start c = let known = c.before in known.before.before.before.before
-
 pub returns-then-r-lt-CHARACTER_BYTES : goal.returns-then-r-lt-CHARACTER_BYTES
 returns-then-r-lt-CHARACTER_BYTES c =
-    let a = (start c.before.before).args in
-    sym (read_short a.table.now a.client.now a.size a.family a.code (start c.before.before).requires.tables _ c.record_of-r.ensures.result_value c.if-r-lt-CHARACTER_BYTES.true)
+    let a = c.args in
+    sym (read_short a.table.now a.client.now a.size a.family a.code c.requires.tables _ c.record_of-r.ensures.result_value c.if-r-lt-CHARACTER_BYTES.true)
 
 pub returns : goal.returns
 returns c =
-    let a = (start c.before.before.before).args in
+    let a = c.args in
     ap some c.metrics_of.ensures
-    ∙ sym (read_long a.table.now a.client.now a.size a.family a.code (start c.before.before.before).requires.tables _ c.record_of-r.ensures.result_value c.if-r-lt-CHARACTER_BYTES.false)
+    ∙ sym (read_long a.table.now a.client.now a.size a.family a.code c.requires.tables _ c.record_of-r.ensures.result_value c.if-r-lt-CHARACTER_BYTES.false)

@@ -114,7 +114,7 @@ returns-then-other-key c =
     let same = sym c.key_at-other.ensures.0 ∙ c.if-other-key.true ∙ made.0 in
     let inside : m < count s = omega (arith, more, l.invariant.within) in
     let found = numbered_there s c.requires c.type_inv.s a.size a.family a.code made.1 m inside same in
-    let both = lies a.size a.family a.code found a.s.ref_ptr (part_of (character_bytes * m) character_bytes s) in record { result_value = both.0; ref_ptr_value = both.1; }
+    let both = lies a.size a.family a.code found a.s.ref_ptr (part_of (character_bytes * m) character_bytes s) in record { result_value = both.0; ref_ptr_value = both.1 }
 
 pub overflow_add-from : goal.overflow_add-from
 overflow_add-from c =
@@ -170,4 +170,4 @@ returns c =
     let found =
     halved_nowhere s c.requires c.type_inv.s a.size a.family a.code made.1 l.from l.to l.steps
     (omega (arith, c.loop-from-test.false)) range in
-    let both = lies a.size a.family a.code found a.s.ref_ptr (rest_of (length s) s ∙ drop-length s) in record { result_value = both.0; ref_ptr_value = both.1; }
+    let both = lies a.size a.family a.code found a.s.ref_ptr (rest_of (length s) s ∙ drop-length s) in record { result_value = both.0; ref_ptr_value = both.1 }

@@ -17,4 +17,4 @@ returns-then-key_at-key_of c =
     let same = sym key ∙ c.if-key_at-key_of.true ∙ made.0 in
     let found =
     numbered_there s c.requires c.type_inv.s a.size a.family a.code made.1 a.number c.if-number-s.true same in
-    let both = lies a.size a.family a.code found a.s.ref_ptr (part_of (character_bytes * a.number) character_bytes s) in record { result_value = both.0; ref_ptr_value = both.1; }
+    let both = lies a.size a.family a.code found a.s.ref_ptr (part_of (character_bytes * a.number) character_bytes s) in record { result_value = both.0; ref_ptr_value = both.1 }

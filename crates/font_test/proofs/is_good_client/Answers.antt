@@ -18,14 +18,6 @@ use Rattle.font.specs.LookupLaws.{our_part, sound_part}
 use Rattle.font_test.proofs.FollowedLaws.{client_followed, ours_followed}
 use Rattle.font_test.proofs.is_good_client.Goals as goal
 
--- ---- places
--- behind the test of the length: where the bytes of both tables are known, and the start
-abbrev known : tie.Else3 → tie.After-shared-slice-known2
-known c = c.before.before.before
-
-abbrev start : tie.Else3 → tie.Start
-start c = (known c).before.before
-
 -- ---- the needs
 no_bytes : (l : List ℕ) → length l ≡ 0 → l ≡ []
 no_bytes [] h = refl
@@ -45,62 +37,58 @@ returns-then-n-gt-MOST_CLIENT_CHARACTERS c = sym (good-client _ _ ∙ stop _ _ (
 pub returns-then-not-are_characters : goal.returns-then-not-are_characters
 unfolding client_records client_count
 returns-then-not-are_characters c =
-    let characters-tested : c.are_characters.result ≡ sound_characters (client_records (start c.before.before).args.client.now) = c.are_characters.ensures in
-    let sized : good_client_length (start c.before).args.client.now ≡ true = client_sized _ c.if-client-n.false (omega (arith, c.if-n-gt-MOST_CLIENT_CHARACTERS.false)) in
-    let characters = sym (characters-tested) ∙ not-true _ c.if-not-are_characters.true in
+    let characters-tested : c.are_characters.result ≡ sound_characters (client_records c.args.client.now) = c.are_characters.ensures in
+    let sized : good_client_length c.args.client.now ≡ true = client_sized _ c.if-client-n.false (omega (arith, c.if-n-gt-MOST_CLIENT_CHARACTERS.false)) in
+    let characters = sym (characters-tested) ∙ not-true _ c.if-not-are_characters.true-raw in
     sym (good-client _ _ ∙ pass _ _ (sized) ∙ stop _ _ characters)
 
 pub all_end-requires : goal.all_end-requires
 all_end-requires c =
-    let sized : good_client_length (start c.before).args.client.now ≡ true = client_sized _ c.if-client-n.false (omega (arith, c.if-n-gt-MOST_CLIENT_CHARACTERS.false)) in
-    let characters-tested : c.are_characters.result ≡ sound_characters (client_records (start c.before.before).args.client.now) = c.are_characters.ensures in
-    let characters-good : sound_characters (client_records (start c.before.before.before).args.client.now) ≡ true = sym (characters-tested) ∙ not-false _ c.if-not-are_characters.false in
-    let client_good : good_client_records (start c.before.before.before).args.client.now ≡ true = good_client_records_lem _ ∙ pass _ _ (sized) ∙ characters-good in
-    let sound : (let a = (start c.before.before.before).args in
-    SoundTables a.table.now a.client.now) = let first = start c.before.before.before in
-    record { ours = good_records_lem first.args.table.now first.pre; client = client_good } in
-    let a = (start c.before.before.before).args in
-    (sound, sound_client a.client.now (client_good), client_followed a.table.now a.client.now (sound) (known c.before.before.before).shared-slice-known2.given)
+    let sized : good_client_length c.args.client.now ≡ true = client_sized _ c.if-client-n.false (omega (arith, c.if-n-gt-MOST_CLIENT_CHARACTERS.false)) in
+    let characters-tested : c.are_characters.result ≡ sound_characters (client_records c.args.client.now) = c.are_characters.ensures in
+    let characters-good : sound_characters (client_records c.args.client.now) ≡ true = sym (characters-tested) ∙ not-false _ c.if-not-are_characters.false-raw in
+    let client_good : good_client_records c.args.client.now ≡ true = good_client_records_lem _ ∙ pass _ _ (sized) ∙ characters-good in
+    let sound : (let a = c.args in
+    SoundTables a.table.now a.client.now) = record { ours = good_records_lem c.args.table.now c.requires; client = client_good } in
+    let a = c.args in
+    (sound, sound_client a.client.now (client_good), client_followed a.table.now a.client.now (sound) c.type_inv.client)
 
 pub returns-then-not-all_end : goal.returns-then-not-all_end
 returns-then-not-all_end c =
-    let sized : good_client_length (start c.before).args.client.now ≡ true = client_sized _ c.if-client-n.false (omega (arith, c.if-n-gt-MOST_CLIENT_CHARACTERS.false)) in
-    let characters-tested : c.are_characters.result ≡ sound_characters (client_records (start c.before.before).args.client.now) = c.are_characters.ensures in
-    let characters-good : sound_characters (client_records (start c.before.before.before).args.client.now) ≡ true = sym (characters-tested) ∙ not-false _ c.if-not-are_characters.false in
-    let client = sym c.all_end.ensures ∙ not-true _ c.if-not-all_end.true in
+    let sized : good_client_length c.args.client.now ≡ true = client_sized _ c.if-client-n.false (omega (arith, c.if-n-gt-MOST_CLIENT_CHARACTERS.false)) in
+    let characters-tested : c.are_characters.result ≡ sound_characters (client_records c.args.client.now) = c.are_characters.ensures in
+    let characters-good : sound_characters (client_records c.args.client.now) ≡ true = sym (characters-tested) ∙ not-false _ c.if-not-are_characters.false-raw in
+    let client = sym c.all_end.ensures ∙ not-true _ c.if-not-all_end.true-raw in
     sym (good-client _ _ ∙ pass _ _ (sized) ∙ pass _ _ (characters-good) ∙ stop _ _ client)
 
 pub slice_bounds-all_end-count : goal.slice_bounds-all_end-count
-slice_bounds-all_end-count c =
-    let first = start c.before.before.before.before.before in
-    good_header first.args.table.now first.pre
+slice_bounds-all_end-count c = good_header c.args.table.now c.requires
 
 pub slice_bounds-all_end-start : goal.slice_bounds-all_end-start
 slice_bounds-all_end-start c = omega (arith, sub-all-end c.before)
 
 pub all_end-requires-2 : goal.all_end-requires-2
 all_end-requires-2 c =
-    let sized : good_client_length (start c.before).args.client.now ≡ true = client_sized _ c.if-client-n.false (omega (arith, c.if-n-gt-MOST_CLIENT_CHARACTERS.false)) in
-    let characters-tested : c.are_characters.result ≡ sound_characters (client_records (start c.before.before).args.client.now) = c.are_characters.ensures in
-    let characters-good : sound_characters (client_records (start c.before.before.before).args.client.now) ≡ true = sym (characters-tested) ∙ not-false _ c.if-not-are_characters.false in
-    let client_good : good_client_records (start c.before.before.before).args.client.now ≡ true = good_client_records_lem _ ∙ pass _ _ (sized) ∙ characters-good in
-    let sound : (let a = (start c.before.before.before).args in
-    SoundTables a.table.now a.client.now) = let first = start c.before.before.before in
-    record { ours = good_records_lem first.args.table.now first.pre; client = client_good } in
-    let client-ends : (let a = (start c.before.before.before.before.before).args in
-    every (seen_ends (font_with a.table.now a.client.now)) (client_records a.client.now) ≡ true) = sym c.all_end.ensures ∙ not-false _ c.if-not-all_end.false in
-    let a = (start c.before.before.before.before.before.before).args in
+    let sized : good_client_length c.args.client.now ≡ true = client_sized _ c.if-client-n.false (omega (arith, c.if-n-gt-MOST_CLIENT_CHARACTERS.false)) in
+    let characters-tested : c.are_characters.result ≡ sound_characters (client_records c.args.client.now) = c.are_characters.ensures in
+    let characters-good : sound_characters (client_records c.args.client.now) ≡ true = sym (characters-tested) ∙ not-false _ c.if-not-are_characters.false-raw in
+    let client_good : good_client_records c.args.client.now ≡ true = good_client_records_lem _ ∙ pass _ _ (sized) ∙ characters-good in
+    let sound : (let a = c.args in
+    SoundTables a.table.now a.client.now) = record { ours = good_records_lem c.args.table.now c.requires; client = client_good } in
+    let client-ends : (let a = c.args in
+    every (seen_ends (font_with a.table.now a.client.now)) (client_records a.client.now) ≡ true) = sym c.all_end.ensures ∙ not-false _ c.if-not-all_end.false-raw in
+    let a = c.args in
     let t = a.table.now in
-    (sound, sound_part t (sound).ours, ours_followed t a.client.now (sound) (known c.before.before.before.before.before.before).before.shared-slice-known.given (client-ends))
+    (sound, sound_part t (sound).ours, ours_followed t a.client.now (sound) c.type_inv.table (client-ends))
 
 pub returns : goal.returns
 returns c =
-    let sized : good_client_length (start c.before).args.client.now ≡ true = client_sized _ c.if-client-n.false (omega (arith, c.if-n-gt-MOST_CLIENT_CHARACTERS.false)) in
-    let characters-tested : c.are_characters.result ≡ sound_characters (client_records (start c.before.before).args.client.now) = c.are_characters.ensures in
-    let characters-good : sound_characters (client_records (start c.before.before.before).args.client.now) ≡ true = sym (characters-tested) ∙ not-false _ c.if-not-are_characters.false in
-    let client-ends : (let a = (start c.before.before.before.before.before).args in
-    every (seen_ends (font_with a.table.now a.client.now)) (client_records a.client.now) ≡ true) = sym c.all_end.ensures ∙ not-false _ c.if-not-all_end.false in
-    let a = (start c.before.before.before.before.before.before.before).args in
+    let sized : good_client_length c.args.client.now ≡ true = client_sized _ c.if-client-n.false (omega (arith, c.if-n-gt-MOST_CLIENT_CHARACTERS.false)) in
+    let characters-tested : c.are_characters.result ≡ sound_characters (client_records c.args.client.now) = c.are_characters.ensures in
+    let characters-good : sound_characters (client_records c.args.client.now) ≡ true = sym (characters-tested) ∙ not-false _ c.if-not-are_characters.false-raw in
+    let client-ends : (let a = c.args in
+    every (seen_ends (font_with a.table.now a.client.now)) (client_records a.client.now) ≡ true) = sym c.all_end.ensures ∙ not-false _ c.if-not-all_end.false-raw in
+    let a = c.args in
     let t = a.table.now in
     c.all_end-2.ensures
     ∙ ap (every (seen_ends (font_with t a.client.now))) (our_part t)

@@ -38,7 +38,7 @@ returns-in-6 c = ap (get_elem? classes) c.in-6.is
 
 pub returns-in_default : goal.returns-in_default
 returns-in_default c =
-    let not = c.in_default.rest in
+    let not = c.in_default.in_default-own.rest in
     let from-four : 4 ≤ c.args.n =
     up (up (up (up (omega arith) not.0.0.0.0.0.0.1) not.0.0.0.0.0.1) not.0.0.0.0.1) not.0.0.0.1
     in

@@ -3,8 +3,7 @@
 use Rattle.nucleus_kinds.proofs.overline.Goals as goal
 
 pub returns : goal.returns
-returns c =
-    (
-      rw (c.plus-2.ensures.is, c.times-2.ensures.is, c.plus.ensures.is, c.times.ensures.is) at c.lined.ensures.0,
-      c.lined.ensures.1,
-    )
+returns c = (
+  rw (c.plus-2.ensures.is, c.times-2.ensures.is, c.plus.ensures.is, c.times.ensures.is) at c.lined.ensures.0,
+  c.lined.ensures.1,
+)

@@ -7,16 +7,15 @@ use Rattle.boxes.specs.Boxes.{Size}
 use Rattle.nucleus_kinds.proofs.symbol_nucleus.Goals as goal
 
 pub returns-then-subscript : goal.returns-then-subscript
-returns-then-subscript c =
-    (
-      rw (c.if-subscript.true, c.of_word.ensures.0.is, c.of_word-then-subscript.ensures.0.is, c.of_word-then-subscript-2.ensures.0.is, c.origin.ensures.0, c.of_word-then-subscript-3.ensures.0.is, c.no_own.ensures.0),
-      record {
-        size = search rules;
-        first = omega (arith, c.origin.ensures.1);
-        delta = omega (arith, c.of_word-then-subscript-3.ensures);
-        own = c.no_own.ensures.1;
-      },
-    )
+returns-then-subscript c = (
+  rw (c.if-subscript.true, c.of_word.ensures.0.is, c.of_word-then-subscript.ensures.0.is, c.of_word-then-subscript-2.ensures.0.is, c.origin.ensures.0, c.of_word-then-subscript-3.ensures.0.is, c.no_own.ensures.0),
+  record {
+    size = search rules;
+    first = omega (arith, c.origin.ensures.1);
+    delta = omega (arith, c.of_word-then-subscript-3.ensures);
+    own = c.no_own.ensures.1;
+  },
+)
 
 pub returns-else-subscript : goal.returns-else-subscript
 returns-else-subscript c =

@@ -17,9 +17,6 @@ use Rattle.picking.proofs.step_from.Goals as goal
 pub returns-then-place-eq0 : goal.returns-then-place-eq0
 returns-then-place-eq0 c = step_here _ _ _ c.requires.2 c.requires.0 _ c.if-place-eq0.true
 
-abbrev start_of : tie.After-held → tie.Start
-start_of c = c.before.before.before.before
-
 pub held-x-requires : goal.held-x-requires
 held-x-requires c =
     let noad_of : (let a = c.args in Noad a.s.now a.kind) = noad_at_lem _ _ c.requires.2 c.requires.0 in
@@ -28,8 +25,8 @@ held-x-requires c =
 
 pub returns-then-place-x : goal.returns-then-place-x
 returns-then-place-x c =
-    let first-held : (let a = (start_of c.before).args in
-    HeldSpan a.s.now (opening_bytes a.kind) c.held-x.result) = let a = (start_of c.before).args in
+    let first-held : (let a = c.args in
+    HeldSpan a.s.now (opening_bytes a.kind) c.held-x.result) = let a = c.args in
     subst (λ (n : ℕ). HeldSpan a.s.now n c.held-x.result) c.opening_bytes.ensures c.held-x.ensures in
     let a = c.args in
     let x = first-held in
@@ -41,20 +38,19 @@ returns-then-place-x c =
 pub held-y-requires : goal.held-y-requires
 held-y-requires c =
     let noad_of : (let a = c.args in Noad a.s.now a.kind) = noad_at_lem _ _ c.requires.2 c.requires.0 in
-    let first-held : (let a = (start_of c.before).args in
-    HeldSpan a.s.now (opening_bytes a.kind) c.held-x.result) = let a = (start_of c.before).args in
+    let first-held : (let a = c.args in
+    HeldSpan a.s.now (opening_bytes a.kind) c.held-x.result) = let a = c.args in
     subst (λ (n : ℕ). HeldSpan a.s.now n c.held-x.result) c.opening_bytes.ensures c.held-x.ensures in
-    let start = start_of c.before.before.before in
     let noad = noad_of in
-    rw (first-held).end_is (noad.y, omega (arith, noad.second_in, noad.third_in_lem, noad.end_in), start.pre.1)
+    rw (first-held).end_is (noad.y, omega (arith, noad.second_in, noad.third_in_lem, noad.end_in), c.requires.1)
 
 pub returns-then-place-y : goal.returns-then-place-y
 returns-then-place-y c =
-    let first-held : (let a = (start_of c.before).args in
-    HeldSpan a.s.now (opening_bytes a.kind) c.held-x.result) = let a = (start_of c.before).args in
+    let first-held : (let a = c.args in
+    HeldSpan a.s.now (opening_bytes a.kind) c.held-x.result) = let a = c.args in
     subst (λ (n : ℕ). HeldSpan a.s.now n c.held-x.result) c.opening_bytes.ensures c.held-x.ensures in
-    let second-held : (let a = (start_of c.before.before.before.before).args in
-    HeldSpan a.s.now (second a.s.now a.kind) c.held-y.result) = let a = (start_of c.before.before.before.before).args in
+    let second-held : (let a = c.args in
+    HeldSpan a.s.now (second a.s.now a.kind) c.held-y.result) = let a = c.args in
     subst (λ (n : ℕ). HeldSpan a.s.now n c.held-y.result) (first-held).end_is c.held-y.ensures in
     let a = c.args in
     let x = first-held in
@@ -68,11 +64,11 @@ returns-then-place-y c =
 pub held-requires : goal.held-requires
 held-requires c =
     let noad_of : (let a = c.args in Noad a.s.now a.kind) = noad_at_lem _ _ c.requires.2 c.requires.0 in
-    let first-held : (let a = (start_of c.before).args in
-    HeldSpan a.s.now (opening_bytes a.kind) c.held-x.result) = let a = (start_of c.before).args in
+    let first-held : (let a = c.args in
+    HeldSpan a.s.now (opening_bytes a.kind) c.held-x.result) = let a = c.args in
     subst (λ (n : ℕ). HeldSpan a.s.now n c.held-x.result) c.opening_bytes.ensures c.held-x.ensures in
-    let second-held : (let a = (start_of c.before.before.before.before).args in
-    HeldSpan a.s.now (second a.s.now a.kind) c.held-y.result) = let a = (start_of c.before.before.before.before).args in
+    let second-held : (let a = c.args in
+    HeldSpan a.s.now (second a.s.now a.kind) c.held-y.result) = let a = c.args in
     subst (λ (n : ℕ). HeldSpan a.s.now n c.held-y.result) (first-held).end_is c.held-y.ensures in
     let a = c.args in
     let noad = noad_of in
@@ -81,11 +77,11 @@ held-requires c =
 
 pub returns-then-has_third : goal.returns-then-has_third
 returns-then-has_third c =
-    let first-held : (let a = (start_of c.before).args in
-    HeldSpan a.s.now (opening_bytes a.kind) c.held-x.result) = let a = (start_of c.before).args in
+    let first-held : (let a = c.args in
+    HeldSpan a.s.now (opening_bytes a.kind) c.held-x.result) = let a = c.args in
     subst (λ (n : ℕ). HeldSpan a.s.now n c.held-x.result) c.opening_bytes.ensures c.held-x.ensures in
-    let second-held : (let a = (start_of c.before.before.before.before).args in
-    HeldSpan a.s.now (second a.s.now a.kind) c.held-y.result) = let a = (start_of c.before.before.before.before).args in
+    let second-held : (let a = c.args in
+    HeldSpan a.s.now (second a.s.now a.kind) c.held-y.result) = let a = c.args in
     subst (λ (n : ℕ). HeldSpan a.s.now n c.held-y.result) (first-held).end_is c.held-y.ensures in
     let a = c.args in
     let s = a.s.now in
@@ -102,14 +98,13 @@ returns-then-has_third c =
 
 pub returns : goal.returns
 returns c =
-    let first-held : (let a = (start_of c.before).args in
-    HeldSpan a.s.now (opening_bytes a.kind) c.held-x.result) = let a = (start_of c.before).args in
+    let first-held : (let a = c.args in
+    HeldSpan a.s.now (opening_bytes a.kind) c.held-x.result) = let a = c.args in
     subst (λ (n : ℕ). HeldSpan a.s.now n c.held-x.result) c.opening_bytes.ensures c.held-x.ensures in
-    let second-held : (let a = (start_of c.before.before.before.before).args in
-    HeldSpan a.s.now (second a.s.now a.kind) c.held-y.result) = let a = (start_of c.before.before.before.before).args in
+    let second-held : (let a = c.args in
+    HeldSpan a.s.now (second a.s.now a.kind) c.held-y.result) = let a = c.args in
     subst (λ (n : ℕ). HeldSpan a.s.now n c.held-y.result) (first-held).end_is c.held-y.ensures in
-    let start = start_of c.before.before.before.before.before.before.before.before in
-    let a = start.args in
+    let a = c.args in
     let none = sym c.has_third.ensures ∙ c.if-has_third.false in
-    let inside = rw none at start.pre.3 in
+    let inside = rw none at c.requires.3 in
     absurd (omega (arith, inside, (second-held).end_is, c.if-place-y.false))

@@ -14,10 +14,6 @@ use Rattle.picking.specs.Picking.{StepDone}
 use Rattle.picking.proofs.PickingLaws.{behind_done, short_step, along_start, along_here, here_inside, along_next, along_done}
 use Rattle.picking.proofs.step_in.Goals as goal
 
--- the round in which an item was looked at
-abbrev turn_of : tie.After-look-at invariant-loop decreases-loop → tie.In-loop invariant-loop decreases-loop
-turn_of c = c.before.before
-
 pub loop-at-init : goal.loop-at-init
 loop-at-init c = along_start _ _ _ c.requires.0
 
@@ -45,69 +41,59 @@ overflow_add-next c =
     omega (arith, (next_between along.between more c.look_at-sight.ensures).inside, c.requires.1)
 
 pub overflow_sub-place : goal.overflow_sub-place
-overflow_sub-place c = omega (arith, (turn_of c.before.before.before).before.loop.inv.low)
+overflow_sub-place c = omega (arith, c.loop-at.inv.low)
 
 pub slice_bounds-step_at-count : goal.slice_bounds-step_at-count
-slice_bounds-step_at-count c = omega (arith, (turn_of c.before.before.before).before.loop.inv.between.inside)
+slice_bounds-step_at-count c = omega (arith, c.loop-at.inv.between.inside)
 
 pub slice_bounds-step_at-start : goal.slice_bounds-step_at-start
-slice_bounds-step_at-start c = omega (arith, (turn_of c.before.before.before).before.loop.inv.between.inside)
+slice_bounds-step_at-start c = omega (arith, c.loop-at.inv.between.inside)
 
 pub slice_bounds-step_at-end : goal.slice_bounds-step_at-end
-slice_bounds-step_at-end c = omega (arith, (turn_of c.before.before.before).before.loop.inv.between.inside)
+slice_bounds-step_at-end c = omega (arith, c.loop-at.inv.between.inside)
 
 pub step_at-requires : goal.step_at-requires
 step_at-requires c =
-    let turn = turn_of c.before.before.before.before in
-    let along = turn.before.loop.inv in
-    let more = turn.loop-test.taken in
-    let start = turn.before.before.before in
-    let s = start.args.s.now in
-    let g = (rest_opens along.between more start.pre.1).0 in
-    (g.0, g.1, g.2, rw (tail_part s turn.before.loop.at) (here_inside along more c.look_at-sight.ensures c.if-place-next.true))
+    let along = c.loop-at.inv in
+    let more = c.loop-at-test.taken in
+    let s = c.args.s.now in
+    let g = (rest_opens along.between more c.requires.1).0 in
+    (g.0, g.1, g.2, rw (tail_part s c.loop-at.at) (here_inside along more c.look_at-sight.ensures c.if-place-next.true))
 
 pub behind-requires : goal.behind-requires
 behind-requires c =
-    let turn = turn_of c.before.before.before.before.before in
-    let along = turn.before.loop.inv in
-    let more = turn.loop-test.taken in
-    let start = turn.before.before.before in
-    let s = start.args.s.now in
-    let at = turn.before.loop.at in
+    let along = c.loop-at.inv in
+    let more = c.loop-at-test.taken in
+    let s = c.args.s.now in
+    let at = c.loop-at.at in
     short_step _ _ _ _ c.step_at.result c.step_at.ensures
-    (omega (arith, along.between.inside, start.pre.1, length-take (length s - at) (drop at s), length-drop at s))
+    (omega (arith, along.between.inside, c.requires.1, length-take (length s - at) (drop at s), length-drop at s))
 
 pub returns-then-place-next : goal.returns-then-place-next
 returns-then-place-next c =
-    let turn = turn_of c.before.before.before.before.before.before in
-    let along = turn.before.loop.inv in
-    let more = turn.loop-test.taken in
-    let start = turn.before.before.before in
-    let s = start.args.s.now in
-    let at = turn.before.loop.at in
+    let along = c.loop-at.inv in
+    let more = c.loop-at-test.taken in
+    let s = c.args.s.now in
+    let at = c.loop-at.at in
     let r = c.step_at.result in
-    let want = pick_in start.args.style start.args.place (tree_of s) in
+    let want = pick_in c.args.style c.args.place (tree_of s) in
     let wanted = along_here along more c.look_at-sight.ensures c.if-place-next.true in
     let done = rw (tail_part s at) at c.step_at.ensures in
-    subst (λ (x : Step). StepDone want start.args.place s x) (sym c.behind.ensures)
-    (behind_done want s along.low along.between.inside r (subst (λ (w : Option Picked). StepDone w (start.args.place - at) (drop at s) r) (sym wanted) done))
+    subst (λ (x : Step). StepDone want c.args.place s x) (sym c.behind.ensures)
+    (behind_done want s along.low along.between.inside r (subst (λ (w : Option Picked). StepDone w (c.args.place - at) (drop at s) r) (sym wanted) done))
 
 pub loop-at-smaller : goal.loop-at-smaller
 loop-at-smaller c =
-    let turn = turn_of c.before.before.before.before in
-    let along = turn.before.loop.inv in
-    let more = turn.loop-test.taken in
-    let start = turn.before.before.before in
-    let s = start.args.s.now in
+    let along = c.loop-at.inv in
+    let more = c.loop-at-test.taken in
+    let s = c.args.s.now in
     omega (arith, next_some along.between more c.look_at-sight.ensures, (next_between along.between more c.look_at-sight.ensures).inside)
 
 pub loop-at-preserved : goal.loop-at-preserved
 loop-at-preserved c =
-    let turn = turn_of c.before.before.before.before in
-    let along = turn.before.loop.inv in
-    let more = turn.loop-test.taken in
-    let start = turn.before.before.before in
-    let s = start.args.s.now in
+    let along = c.loop-at.inv in
+    let more = c.loop-at-test.taken in
+    let s = c.args.s.now in
     along_next along more c.look_at-sight.ensures c.if-place-next.false
 
 pub returns : goal.returns

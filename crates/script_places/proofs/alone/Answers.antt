@@ -17,8 +17,7 @@ assembled-requires c =
 
 pub returns : goal.returns
 unfolding reach
-returns c =
-    (
-      rw (c.max-bottom.ensures.is, c.minus.ensures.is, c.max-top.ensures.is, c.plus.ensures.is, c.plus.ensures.is) at c.assembled.ensures.0,
-      c.assembled.ensures.1,
-    )
+returns c = (
+  rw (c.max-bottom.ensures.is, c.minus.ensures.is, c.max-top.ensures.is, c.plus.ensures.is, c.plus.ensures.is) at c.assembled.ensures.0,
+  c.assembled.ensures.1,
+)

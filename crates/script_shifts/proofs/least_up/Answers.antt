@@ -13,20 +13,18 @@ returns-then-style c =
 
 pub returns-then-is_display : goal.returns-then-is_display
 unfolding least_up
-returns-then-is_display c =
-    (
-      pick_no _ c.if-style.false
-          (pick_yes _ (sym c.is_display.ensures ∙ c.if-is_display.true)
-          (rw (c.parameter-then-is_display.ensures.0.is, c.font_size-size.ensures.0))),
-      search rules,
-    )
+returns-then-is_display c = (
+  pick_no _ c.if-style.false
+      (pick_yes _ (sym c.is_display.ensures ∙ c.if-is_display.true)
+      (rw (c.parameter-then-is_display.ensures.0.is, c.font_size-size.ensures.0))),
+  search rules,
+)
 
 pub returns : goal.returns
 unfolding least_up
-returns c =
-    (
-      pick_no _ c.if-style.false
-          (pick_no _ (sym c.is_display.ensures ∙ c.if-is_display.false)
-          (rw (c.parameter-2.ensures.0.is, c.font_size-size.ensures.0))),
-      search rules,
-    )
+returns c = (
+  pick_no _ c.if-style.false
+      (pick_no _ (sym c.is_display.ensures ∙ c.if-is_display.false)
+      (rw (c.parameter-2.ensures.0.is, c.font_size-size.ensures.0))),
+  search rules,
+)

@@ -12,8 +12,7 @@ returns-in-Unasked c =
 pub returns-in-Asked : goal.returns-in-Asked
 unfolding greatest
 returns-in-Asked c =
-    let known = c.in-Asked.is in
-    (
+    let known = c.in-Asked.is in (
       rw (known, c.max.ensures.is, c.max-shift.ensures.is),
       λ within. omega (arith, c.max.ensures.parts, c.max-shift.ensures.parts, within.dropped, within.least, rw known at within.free),
     )

@@ -17,24 +17,19 @@ use Rattle.walk_items.specs.Items.{own_put}
 use Rattle.walk_items.specs.ItemLaws.{few_owned}
 use Rattle.walk_items.proofs.put_item.Goals as goal
 
-abbrev start_of : tie.After-behind → tie.Start
-start_of c = c.before.before.before.before
-
 -- each proof goes back from step to step: `ahead`, `first`, `owned`, `second` and `third` are the places behind them
 pub move_field-first-requires : goal.move_field-first-requires
 move_field-first-requires c =
-    let start = start_of c.before.before.before.before.before.before.before in
-    let g = start.pre in
-    let few = few_owned start.args.arranged.own.before in
+    let g = c.requires in
+    let few = few_owned c.args.arranged.own.before in
     let n₀ = c.empty.ensures.count_is in
     let n₁ = c.put_own-ahead.ensures.count_is in
     record { few = omega arith; hull = g.first; x_small = g.x_small; place = g.bounded.first }
 
 pub put_own-owned-requires : goal.put_own-owned-requires
 put_own-owned-requires c =
-    let start = start_of c.before.before.before.before.before.before.before.before.before.before.before in
-    let g = start.pre in
-    let few = few_owned start.args.arranged.own.before in
+    let g = c.requires in
+    let few = few_owned c.args.arranged.own.before in
     let n₀ = c.empty.ensures.count_is in
     let n₁ = c.put_own-ahead.ensures.count_is in
     let n₂ = c.move_field-first.ensures.count_is in
@@ -42,10 +37,9 @@ put_own-owned-requires c =
 
 pub move_field-second-requires : goal.move_field-second-requires
 move_field-second-requires c =
-    let start = start_of c.before.before.before.before.before.before.before.before.before.before.before.before.before.before.before in
-    let g = start.pre in
-    let few = few_owned start.args.arranged.own.before in
-    let few-2 = few_owned start.args.arranged.own.behind in
+    let g = c.requires in
+    let few = few_owned c.args.arranged.own.before in
+    let few-2 = few_owned c.args.arranged.own.behind in
     let n₀ = c.empty.ensures.count_is in
     let n₁ = c.put_own-ahead.ensures.count_is in
     let n₂ = c.move_field-first.ensures.count_is in
@@ -54,10 +48,9 @@ move_field-second-requires c =
 
 pub move_field-requires : goal.move_field-requires
 move_field-requires c =
-    let start = start_of c.before.before.before.before.before.before.before.before.before.before.before.before.before.before.before.before.before.before.before in
-    let g = start.pre in
-    let few = few_owned start.args.arranged.own.before in
-    let few-2 = few_owned start.args.arranged.own.behind in
+    let g = c.requires in
+    let few = few_owned c.args.arranged.own.before in
+    let few-2 = few_owned c.args.arranged.own.behind in
     let n₀ = c.empty.ensures.count_is in
     let n₁ = c.put_own-ahead.ensures.count_is in
     let n₂ = c.move_field-first.ensures.count_is in
@@ -75,12 +68,11 @@ shape_of-buf c =
 
 pub returns : goal.returns
 returns c =
-    let start = start_of c.before.before.before.before.before.before.before.before.before.before.before.before.before.before.before.before.before.before.before.before.before.before in
-    let x = start.args.x.0 in
-    let A = arranged_as start.args.arranged in
-    let i = start.args.a.count in
-    let j = start.args.b.count in
-    let k = start.args.c.count in
+    let x = c.args.x.0 in
+    let A = arranged_as c.args.arranged in
+    let i = c.args.a.count in
+    let j = c.args.b.count in
+    let k = c.args.c.count in
     let none_there = c.empty.ensures in
     let ahead = c.put_own-ahead.ensures in
     let first = c.move_field-first.ensures in
@@ -97,19 +89,19 @@ returns c =
     let at₂ : c.move_field-first.result.count ≡ length A.own.before + i = omega arith in
     let at₃ : c.put_own-owned.result.count ≡ length A.own.before + i + length A.own.behind = omega arith in
     let at₄ : c.move_field-second.result.count ≡ length A.own.before + i + length A.own.behind + j = omega arith in
-    let b₀ = ahead.buffer_is ∙ ap (λ (n : ℕ). own_put x n A.own.before start.args.buf.now) zero in
+    let b₀ = ahead.buffer_is ∙ ap (λ (n : ℕ). own_put x n A.own.before c.args.buf.now) zero in
     let b₁ = first.buffer_is ∙ ap₂ (λ (n : ℕ) (b : List ℕ). behind_nodes n (moved_front (x +ℤ A.first.across) A.first.up i) b) at₁ b₀ in
     let b₂ = owned.buffer_is ∙ ap₂ (λ (n : ℕ) (b : List ℕ). own_put x n A.own.behind b) at₂ b₁ in
     let b₃ = second.buffer_is ∙ ap₂ (λ (n : ℕ) (b : List ℕ). behind_nodes n (moved_front (x +ℤ A.second.across) A.second.up j) b) at₃ b₂ in
     let h₀ = ahead.hull_is ∙ ap (λ (h : Hull). joined h (hull (moved x (pos 0) (own_nodes A.own.before)))) none_there.hull_is in
-    let h₁ = first.hull_is ∙ ap (λ (h : Hull). joined h (moved_hull (x +ℤ A.first.across) A.first.up (hull_of start.args.a))) h₀ in
+    let h₁ = first.hull_is ∙ ap (λ (h : Hull). joined h (moved_hull (x +ℤ A.first.across) A.first.up (hull_of c.args.a))) h₀ in
     let h₂ = owned.hull_is ∙ ap (λ (h : Hull). joined h (hull (moved x (pos 0) (own_nodes A.own.behind)))) h₁ in
-    let h₃ = second.hull_is ∙ ap (λ (h : Hull). joined h (moved_hull (x +ℤ A.second.across) A.second.up (hull_of start.args.b))) h₂ in
-    let l₁ = first.large_is ∙ ap (λ (t : Bool). t || is_large start.args.a) (ahead.large_is ∙ none_there.large_is) in
-    let l₃ = second.large_is ∙ ap (λ (t : Bool). t || is_large start.args.b) (owned.large_is ∙ l₁) in
+    let h₃ = second.hull_is ∙ ap (λ (h : Hull). joined h (moved_hull (x +ℤ A.second.across) A.second.up (hull_of c.args.b))) h₂ in
+    let l₁ = first.large_is ∙ ap (λ (t : Bool). t || is_large c.args.a) (ahead.large_is ∙ none_there.large_is) in
+    let l₃ = second.large_is ∙ ap (λ (t : Bool). t || is_large c.args.b) (owned.large_is ∙ l₁) in
     record {
       count_is = omega arith;
-      large_is = third.large_is ∙ ap (λ (t : Bool). t || is_large start.args.c) l₃;
-      hull_is = third.hull_is ∙ ap (λ (h : Hull). joined h (moved_hull (x +ℤ A.third.across) A.third.up (hull_of start.args.c))) h₃;
+      large_is = third.large_is ∙ ap (λ (t : Bool). t || is_large c.args.c) l₃;
+      hull_is = third.hull_is ∙ ap (λ (h : Hull). joined h (moved_hull (x +ℤ A.third.across) A.third.up (hull_of c.args.c))) h₃;
       buffer_is = third.buffer_is ∙ ap₂ (λ (n : ℕ) (b : List ℕ). behind_nodes n (moved_front (x +ℤ A.third.across) A.third.up k) b) at₄ b₃;
     }

@@ -56,7 +56,7 @@ pub returns-in_default : goal.returns-in_default
 unfolding style_of
 returns-in_default c =
     let n = c.args.number in
-    let late = c.in_default.rest in
+    let late = c.in_default.in_default-own.rest in
     let early = late.0.0.0.0 in
     past styles n
     (four 4 n (four 0 n (omega arith) early.0.0.0.1 early.0.0.1 early.0.1 early.1)

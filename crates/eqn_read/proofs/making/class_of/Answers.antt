@@ -9,4 +9,4 @@ pub returns-in_default : goal.returns-in_default
 returns-in_default c =
     let a = c.args in
     group_class a.names.now a.firsts.now c.token_at-token.ensures
-    (λ is. miss (1 ∷ 2 ∷ 3 ∷ 4 ∷ 5 ∷ []) 0 tt (rw is at c.in_default.keys2))
+    (λ is. miss (1 ∷ 2 ∷ 3 ∷ 4 ∷ 5 ∷ []) 0 tt (rw is at c.in_default.in_default-own.keys2))

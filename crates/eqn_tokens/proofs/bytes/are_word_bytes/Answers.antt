@@ -13,13 +13,13 @@ use Rattle.eqn_tokens.proofs.bytes.are_word_bytes.Goals as goal
 pub returns-then-not-is_word_byte : goal.returns-then-not-is_word_byte
 returns-then-not-is_word_byte c =
     let s = c.args.s.now in
-    let stops : is_word_byte (get_or s c.loop-i.i 0) ≡ false = sym c.is_word_byte.ensures ∙ not-true _ c.if-not-is_word_byte.true in
+    let stops : is_word_byte (get_or s c.loop-i.i 0) ≡ false = sym c.is_word_byte.ensures ∙ not-true _ c.if-not-is_word_byte.true-raw in
     sym (c.loop-i.invariant.1 ∙ rw (all_here s c.loop-i.i c.loop-i-test.true, stops))
 
 pub loop-i-preserved : goal.loop-i-preserved
 loop-i-preserved c =
     let s = c.args.s.now in
-    let passes : is_word_byte (get_or s c.loop-i.i 0) ≡ true = sym c.is_word_byte.ensures ∙ not-false _ c.if-not-is_word_byte.false in
+    let passes : is_word_byte (get_or s c.loop-i.i 0) ≡ true = sym c.is_word_byte.ensures ∙ not-false _ c.if-not-is_word_byte.false-raw in
     (omega arith, c.loop-i.invariant.1 ∙ rw (all_here s c.loop-i.i c.loop-i-test.true, passes))
 
 pub returns : goal.returns

@@ -17,7 +17,7 @@ returns-then-not-is_separator c =
       behind = loop.invariant.0;
       within = loop.invariant.1;
       all = loop.invariant.2;
-      last = λ l. sym c.is_separator.ensures ∙ not-true _ c.if-not-is_separator.true;
+      last = λ l. sym c.is_separator.ensures ∙ not-true _ c.if-not-is_separator.true-raw;
     }
 
 pub loop-i-preserved : goal.loop-i-preserved
@@ -25,7 +25,7 @@ loop-i-preserved c =
     let inv = c.loop-i.invariant in
     let args = c.args in
     let passes : is_separator (get_or args.s.now c.loop-i.i 0) ≡ true =
-    sym c.is_separator.ensures ∙ not-false _ c.if-not-is_separator.false in
+    sym c.is_separator.ensures ∙ not-false _ c.if-not-is_separator.false-raw in
     let below = below_more (λ (k : ℕ). args.at ≤ k → is_separator (get_or args.s.now k 0) ≡ true) c.loop-i.i (λ k l m. inv.2 k m l) (λ m. passes) in
     (omega arith, omega arith, λ k l m. below k m l)
 

@@ -13,9 +13,6 @@ use Rattle.setting.specs.Setting.{set_field}
 use Rattle.picking.specs.Picking.{ShapeDone}
 use Rattle.picking.proofs.why.third_shape.Goals as goal
 
-abbrev start_of : tie.After-has-third → tie.Start
-start_of c = c.before.before.before.before.before.before
-
 -- the shape of the third field, if there is one
 abbrev ThirdShape : tie.Start → Bool → Shape → Type 0
 ThirdShape c has shape =
@@ -24,7 +21,7 @@ ThirdShape c has shape =
 
 pub shape_of-requires-then-has_third : goal.shape_of-requires-then-has_third
 shape_of-requires-then-has_third c =
-    let pre = (start_of c.before.before.before).requires in
+    let pre = c.requires in
     let has = sym c.has_third.ensures ∙ c.if-has_third.true in
     record {
       tables_good = pre.tables_good;
@@ -37,12 +34,12 @@ shape_of-requires-then-has_third c =
 pub returns-then-has_third : goal.returns-then-has_third
 returns-then-has_third c =
     let has = sym c.has_third.ensures ∙ c.if-has_third.true in
-    subst (λ (t : Bool). ThirdShape (start_of c.before.before.before.before) t c.shape_of.result) (sym has)
+    subst (λ (t : Bool). ThirdShape c.before t c.shape_of.result) (sym has)
     (rw c.third_style.ensures at c.shape_of.ensures)
 
 pub returns : goal.returns
 unfolding set_field
 returns c =
     let none = sym c.has_third.ensures ∙ c.if-has_third.false in
-    subst (λ (t : Bool). ThirdShape (start_of c.before.before) t Nothing) (sym none)
+    subst (λ (t : Bool). ThirdShape c.before t Nothing) (sym none)
     (record { moderate = tt; is = λ there fits. refl })

@@ -9,44 +9,40 @@ use Rattle.picking.specs.Picking.{Spotted}
 use Rattle.picking.proofs.WhyLaws.{place_without_reasons, place_reasons}
 use Rattle.picking.proofs.why.why_at.Goals as goal
 
-abbrev start_of : tie.After-known-told → tie.Start
-start_of c = c.before.before.before.before.before.before.before.before.before
-
 pub slice_bounds-why_head-count : goal.slice_bounds-why_head-count
 slice_bounds-why_head-count c =
-    let spotted : (let a = (start_of c.before).args in
+    let spotted : (let a = c.args in
     let spot = c.spot-1.given.0 in
     Spotted (pick_in a.style a.place (tree_of a.s.now)) spot.0 a.place a.s.now spot.1.0) = rw c.in-Item.is at c.pick-spot.ensures in
     let spot = spotted in omega (arith, spot.low)
 
 pub slice_bounds-why_head-start : goal.slice_bounds-why_head-start
 slice_bounds-why_head-start c =
-    let spotted : (let a = (start_of c.before).args in
+    let spotted : (let a = c.args in
     let spot = c.spot-1.given.0 in
     Spotted (pick_in a.style a.place (tree_of a.s.now)) spot.0 a.place a.s.now spot.1.0) = rw c.in-Item.is at c.pick-spot.ensures in
     let spot = spotted in omega (arith, spot.low, spot.inside)
 
 pub slice_bounds-why_head-end : goal.slice_bounds-why_head-end
 slice_bounds-why_head-end c =
-    let spotted : (let a = (start_of c.before).args in
+    let spotted : (let a = c.args in
     let spot = c.spot-1.given.0 in
     Spotted (pick_in a.style a.place (tree_of a.s.now)) spot.0 a.place a.s.now spot.1.0) = rw c.in-Item.is at c.pick-spot.ensures in
     let spot = spotted in omega (arith, spot.low, spot.inside)
 
 pub why_head-requires : goal.why_head-requires
 why_head-requires c =
-    let spotted : (let a = (start_of c.before).args in
+    let spotted : (let a = c.args in
     let spot = c.spot-1.given.0 in
     Spotted (pick_in a.style a.place (tree_of a.s.now)) spot.0 a.place a.s.now spot.1.0) = rw c.in-Item.is at c.pick-spot.ensures in
-    let start = start_of c.before.before in
-    let a = start.args in
+    let a = c.args in
     let spot = spotted in
     let end = c.in-Item.end in
     record {
-      tables_good = start.pre.tables_good;
-      parameters_are = start.pre.parameters_are;
+      tables_good = c.requires.tables_good;
+      parameters_are = c.requires.parameters_are;
       readable = spot.head.readable;
-      short = omega (arith, start.pre.short, spot.inside, length-take (end - a.place) (drop a.place a.s.now));
+      short = omega (arith, c.requires.short, spot.inside, length-take (end - a.place) (drop a.place a.s.now));
     }
 
 pub returns-in-Nowhere : goal.returns-in-Nowhere
@@ -54,7 +50,7 @@ returns-in-Nowhere c = place_without_reasons _ _ _ _ (rw c.in-Nowhere.is at c.pi
 
 pub returns-in-Item : goal.returns-in-Item
 returns-in-Item c =
-    let spotted : (let a = (start_of c.before).args in
+    let spotted : (let a = c.args in
     let spot = c.spot-1.given.0 in
     Spotted (pick_in a.style a.place (tree_of a.s.now)) spot.0 a.place a.s.now spot.1.0) = rw c.in-Item.is at c.pick-spot.ensures in
     place_reasons _ _ _ _ c.why_head.result (spotted) c.why_head.ensures

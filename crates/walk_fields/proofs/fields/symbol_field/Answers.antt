@@ -9,30 +9,25 @@ use Rattle.walk_symbols.specs.Values.{symbol_as, symbol_search_as}
 use Rattle.walk_fields.specs.FieldBoxLaws.{symbol_whole, symbol_missing}
 use Rattle.walk_fields.proofs.fields.symbol_field.Goals as goal
 
-abbrev start_of : tie.After-symbol-in → tie.Start
-start_of c = c.before.before.before.before.before.before.before.before
-
 abbrev font-of : tie.Start → Font
 font-of c = font_with c.args.table.now c.args.client.now
 
 pub returns-in-Present : goal.returns-in-Present
 returns-in-Present c =
-    let start = start_of c.before.before.before.before.before.before.before.before.before.before in
-    let a = start.args in
+    let a = c.args in
     let size = c.font_size-size.ensures.0 in
     let large = c.is_enlarged.ensures in
     let symbol = c.in-Present.symbol in
-    let found : symbol_in (font-of start) (font_size a.style) (is_enlarged a.manner) a.family a.code ≡ some (symbol_as symbol) =
+    let found : symbol_in (font-of c.before) (font_size a.style) (is_enlarged a.manner) a.family a.code ≡ some (symbol_as symbol) =
     rw (← size, ← large) (sym c.symbol_in-sought.ensures ∙ ap symbol_search_as c.in-Present.is) in
-    symbol_whole (font-of start) a.style a.manner a.at a.end a.buf.now a.family a.code start.pre.1 symbol _ _ found
+    symbol_whole (font-of c.before) a.style a.manner a.at a.end a.buf.now a.family a.code c.requires.1 symbol _ _ found
     c.point.ensures (rw (← size) c.put_glyph.ensures)
 
 pub returns-in-Absent : goal.returns-in-Absent
 returns-in-Absent c =
-    let start = start_of c.before.before.before in
-    let a = start.args in
+    let a = c.args in
     let size = c.font_size-size.ensures.0 in
     let large = c.is_enlarged.ensures in
-    let lacks : symbol_in (font-of start) (font_size a.style) (is_enlarged a.manner) a.family a.code ≡ none =
+    let lacks : symbol_in (font-of c.before) (font_size a.style) (is_enlarged a.manner) a.family a.code ≡ none =
     rw (← size, ← large) (sym c.symbol_in-sought.ensures ∙ ap symbol_search_as c.in-Absent.is) in
-    symbol_missing (font-of start) a.style a.manner a.at a.end a.buf.now a.family a.code start.pre.1 lacks
+    symbol_missing (font-of c.before) a.style a.manner a.at a.end a.buf.now a.family a.code c.requires.1 lacks

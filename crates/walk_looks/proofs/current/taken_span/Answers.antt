@@ -37,7 +37,7 @@ slice_bounds-field_head-start c = omega (arith, place_is c.before, (choice_of_le
 pub returns-in_default : goal.returns-in_default
 returns-in_default c =
     let a = (start_of c.before.before.before.before).args in
-    absurd (taken_is_list a.style a.s.now (choice_of_lem c.before.before.before.before) (place_is c.before.before.before.before) c.field_head-head.ensures c.in_default.keys2)
+    absurd (taken_is_list a.style a.s.now (choice_of_lem c.before.before.before.before) (place_is c.before.before.before.before) c.field_head-head.ensures c.in_default.in_default-own.keys2)
 
 -- its head is that of a list
 abbrev Listed : Type 0

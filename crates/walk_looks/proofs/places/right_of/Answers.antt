@@ -30,4 +30,4 @@ pub returns-in-Bin : goal.returns-in-Bin
 returns-in-Bin c = ap (changed_class left _) c.next_class.ensures
 
 pub returns : goal.returns
-returns c = rw (← c.class_of-class.ensures) (others_alike c.class_of-class.result c.in_default.keys2 left _ _)
+returns c = rw (← c.class_of-class.ensures) (others_alike c.class_of-class.result c.in_default.in_default-own.keys2 left _ _)

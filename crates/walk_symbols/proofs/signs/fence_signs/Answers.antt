@@ -8,16 +8,11 @@ use Rattle.boxes.specs.Values.{shape_as}
 use Rattle.fences.specs.Fences.{fence_extent}
 use Rattle.walk_symbols.proofs.signs.fence_signs.Goals as goal
 
--- once the four tables are known
-abbrev start_of : tie.After-shared-slice-known4 → tie.Start
-start_of c = c.before.before.before.before
-
 pub returns : goal.returns
 returns c =
-    let start = start_of c.before.before.before.before.before.before in
-    let a = start.args in
+    let a = c.args in
     let F = font_with a.table.now a.client.now in
     let needed : c.fence_extent-needed.result.0 ≡ fence_extent F.parameter a.style (size_of (shape_as a.list)) =
     c.fence_extent-needed.ensures.0
-    ∙ ap₂ (λ (P : Parameters) (z : Size). fence_extent P a.style z) start.pre.1 c.size_of.ensures.0 in
+    ∙ ap₂ (λ (P : Parameters) (z : Size). fence_extent P a.style z) c.requires.1 c.size_of.ensures.0 in
     rw (c.sign_for-2.ensures, c.sign_for.ensures, c.font_size-size.ensures.0, needed)

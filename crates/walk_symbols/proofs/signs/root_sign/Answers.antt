@@ -11,16 +11,11 @@ use Rattle.delimiters.specs.Delimiters.{sign_for}
 use Rattle.roots.specs.Roots.{sign_extent}
 use Rattle.walk_symbols.proofs.signs.root_sign.Goals as goal
 
--- once the four tables are known
-abbrev start_of : tie.After-shared-slice-known4 → tie.Start
-start_of c = c.before.before.before.before
-
 pub returns : goal.returns
 returns c =
-    let start = start_of c.before.before.before.before.before in
-    let a = start.args in
+    let a = c.args in
     let F = font_with a.table.now a.client.now in
     let needed : c.sign_extent-needed.result.0 ≡ sign_extent F.parameter a.style (size_of (shape_as a.nucleus)) =
     c.sign_extent-needed.ensures.0
-    ∙ ap₂ (λ (P : Parameters) (z : Size). sign_extent P a.style z) start.pre.1 c.size_of.ensures.0 in
+    ∙ ap₂ (λ (P : Parameters) (z : Size). sign_extent P a.style z) c.requires.1 c.size_of.ensures.0 in
     c.sign_for.ensures ∙ ap₂ (λ (n : ℕ) (k : ℤ). sign_for F n a.d k) c.font_size.ensures.0 needed
