@@ -5,10 +5,10 @@ use Rattle.eqn_calls.proofs.TestLaws.{bad_told, good_told, stuck_told, whole_tol
 use Rattle.eqn_calls.proofs.test.Goals as goal
 
 pub returns-in-BadAt : goal.returns-in-BadAt
-returns-in-BadAt c =record {
-      tests_done = bad_refuses _ _ (bad_told _ (sym c.in-BadAt.is ∙ c.index-checked.ensures.value));
-      listed = c.index-checked.ensures.listed;
-    }
+returns-in-BadAt c = record {
+  tests_done = bad_refuses _ _ (bad_told _ (sym c.in-BadAt.is ∙ c.index-checked.ensures.value));
+  listed = c.index-checked.ensures.listed;
+}
 
 pub returns-in-At : goal.returns-in-At
 returns-in-At c =
@@ -32,6 +32,6 @@ returns c =
     let good = good_told _ (sym c.enum_told.given.1 ∙ c.index.ensures.0) in
     let all_Known = rw c.in_default-unknown.is at (c.first_unknown-unknown.ensures good.0 (c.index.ensures.1 good.0 good.1)) in
     let is = whole_told _ _ (sym c.in_default-tested.is ∙ c.test-tested.ensures) in record {
-      tests_done = record { ns = good.0; names_are = good.1; c.before.before.before.before = all_Known; row = is.0; parsed = is.1 };
+      tests_done = record { ns = good.0; names_are = good.1; known = all_Known; row = is.0; parsed = is.1 };
       listed = c.index.ensures.1;
     }

@@ -25,8 +25,8 @@ returns-in-Absent c =
 
 pub returns-in-Given : goal.returns-in-Given
 returns-in-Given c =
-    let shift = ap (λ (c.before.before.before.before.before : Limit). c.shift) c.limit-l.ensures.0 in
-    let reach = ap (λ (c.before.before.before.before.before : Limit). c.reach-1) c.limit-l.ensures.0 in (
+    let shift = ap (λ (l : Limit). l.shift) c.limit-l.ensures.0 in
+    let reach = ap (λ (l : Limit). l.reach) c.limit-l.ensures.0 in (
       rw (c.in-Given.is, shift, reach, c.plus.ensures.is, c.centred.ensures.0),
       omega (arith, c.plus.ensures.parts, c.centred.ensures.1, c.limit-l.ensures.1, c.requires.5),
     )

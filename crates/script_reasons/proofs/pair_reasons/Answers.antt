@@ -37,8 +37,8 @@ widened-apart-requires c =
       pre.1,
       pre.2,
       record {
-        c.before.before.before.before.before.before = c.chosen-up.ensures.1 c.superscript_candidates.ensures.1;
-        c.before.before.before.before = c.chosen-down.ensures.1 c.pair_candidates.ensures.1;
+        up = c.chosen-up.ensures.1 c.superscript_candidates.ensures.1;
+        down = c.chosen-down.ensures.1 c.pair_candidates.ensures.1;
       },
     )
 

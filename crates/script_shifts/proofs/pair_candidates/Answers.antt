@@ -8,8 +8,7 @@ use Rattle.script_shifts.proofs.pair_candidates.Goals as goal
 
 pub returns : goal.returns
 unfolding pair_candidates
-returns c =
-    (
-      rw (c.parameter.ensures.0.is, c.font_size.ensures.0, ap (λ (t : Shifts). t.down) c.drops.ensures.0),
-      record { c.before.before.before.before = c.drops.ensures.1.down; least = search rules; free = tt },
-    )
+returns c = (
+  rw (c.parameter.ensures.0.is, c.font_size.ensures.0, ap (λ (t : Shifts). t.down) c.drops.ensures.0),
+  record { dropped = c.drops.ensures.1.down; least = search rules; free = tt },
+)

@@ -11,8 +11,8 @@ spread-requires c =
       pre.1,
       pre.2,
       record {
-        c.before.before.before.before = c.greatest.ensures.1 c.superscript_candidates.ensures.1;
-        c.before.before = c.greatest-2.ensures.1 c.pair_candidates.ensures.1;
+        up = c.greatest.ensures.1 c.superscript_candidates.ensures.1;
+        down = c.greatest-2.ensures.1 c.pair_candidates.ensures.1;
       },
     )
 

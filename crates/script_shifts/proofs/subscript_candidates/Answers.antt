@@ -8,12 +8,11 @@ use Rattle.script_shifts.proofs.subscript_candidates.Goals as goal
 
 pub returns : goal.returns
 unfolding subscript_candidates
-returns c =
-    (
-      rw (c.minus.ensures.is, c.four_fifths_x_height.ensures.0, c.parameter.ensures.0.is, ap (λ (t : Shifts). t.down) c.drops.ensures.0, c.font_size-size.ensures.0),
-      record {
-        c.before.before.before.before.before = c.drops.ensures.1.down;
-        c.before.before.before = omega (arith, c.parameter.ensures);
-        free = omega (arith, c.minus.ensures.parts, c.four_fifths_x_height.ensures.1, c.requires.1);
-      },
-    )
+returns c = (
+  rw (c.minus.ensures.is, c.four_fifths_x_height.ensures.0, c.parameter.ensures.0.is, ap (λ (t : Shifts). t.down) c.drops.ensures.0, c.font_size-size.ensures.0),
+  record {
+    dropped = c.drops.ensures.1.down;
+    least = omega (arith, c.parameter.ensures);
+    free = omega (arith, c.minus.ensures.parts, c.four_fifths_x_height.ensures.1, c.requires.1);
+  },
+)

@@ -24,6 +24,6 @@ returns c =
     let k : d.result ≤ 20 = within d.result a.n (search rules) d.ensures.len.0 in
     let l : d.result ≡ length (take d.result d.new.1.0) = d.ensures.in_bounds.1 in
     record {
-      c.before.before.before = put_as (d.ensures.len.1 ∙ decimal_is d.result a.n (search rules) d.ensures.len.0) w;
+      put = put_as (d.ensures.len.1 ∙ decimal_is d.result a.n (search rules) d.ensures.len.0) w;
       near = omega (arith, w.size);
     }
