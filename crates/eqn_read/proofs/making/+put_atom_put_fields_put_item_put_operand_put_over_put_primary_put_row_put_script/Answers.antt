@@ -2,7 +2,7 @@
 -- `put_atom` calls `put_fields`, that `put_operand` and `put_script`, and that `put_operand`; `put_operand` calls `put_primary`, or `put_over` with
 -- one level less, and `put_primary` calls `put_row` with one level less. The measure is eight times the levels, and one more for each of
 -- them upward.
--- At each call whose result is matched one helper says what is known there (`over_opened`, `over_begun`, `fields_begun`, ..), and each need
+-- At each call whose result is matched one fact says what is known there (`over_opened`, `over_begun`, `fields_begun`, ..), and each goal
 -- follows by one law of `PrimaryLaws`, `ItemLaws` or `RowLaws`. The loop's invariant: of what is left of a row, the whole follows (`RowLeft`).
 -- Assumes nothing.
 use mathlib.Core.Path.{◌≡◌, sym, ◌∙◌}

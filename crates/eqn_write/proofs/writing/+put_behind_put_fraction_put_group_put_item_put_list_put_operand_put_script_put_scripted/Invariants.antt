@@ -1,6 +1,5 @@
 use Prim.Native.Nat.{◌+◌, ◌-◌, ◌*◌}
 use lib.ListN.{length}
-use Rattle.formula.specs.Places.{end}
 use Rattle.eqn_write.proofs.ListLaws.{Reached}
 use Rattle.eqn_write.proofs.writing.+put_behind_put_fraction_put_group_put_item_put_list_put_operand_put_script_put_scripted.Given as goal
 
