@@ -134,7 +134,8 @@ fn read_short(file: &mut impl Read, buffer: &mut [u8]) -> usize
 fn read_long(file: &mut impl Read, buffer: &mut [u8]) -> usize
     ensures { result ≤ length buffer.new }
 {
-    read_front(file, read_word(file), buffer)
+    let size = read_word(file);
+    read_front(file, size, buffer)
 }
 
 fn read_word(file: &mut impl Read) -> u32 {
