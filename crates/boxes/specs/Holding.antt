@@ -9,7 +9,8 @@ use Rattle.std.specs.Prelude.{◌≡◌, List, [], ◌∷◌, ◌+◌, ◌≤◌
 use Rattle.std.proofs.Math.Option.{Option, none, some}
 use Rattle.std.proofs.Common.{arith}
 use Rattle.scaled.specs.Signed.{NotNegative, above, below}
-use Rattle.scaled.specs.Linear.{#, ◌⊕◌, ◌⊖◌, le_by}
+use Rattle.scaled.specs.Linear.{#, ◌⊕◌, ◌⊖◌}
+use Rattle.scaled.proofs.Linear.{le_by}
 use Rattle.font.specs.Font.{Metrics, Font}
 use Rattle.boxes.specs.Boxes.{Size, char_size, Rule, Glyph, OwnNode, ruled, signed, Own, no_own, ruled_behind}
 

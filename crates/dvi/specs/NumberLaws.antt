@@ -8,7 +8,8 @@ use Rattle.std.specs.Prelude.{◌≡◌, refl, Bool, true, false, List, [], ◌�
 use Rattle.std.proofs.Common.{ap, ◌∙◌, append-nil, arith, ltb-true, ltb-false}
 use Rattle.std.proofs.lemmas.List.{reverse-reverse}
 use Rattle.scaled.specs.Signed.{Within}
-use Rattle.scaled.specs.Linear.{#, ◌⊖◌, eq_by}
+use Rattle.scaled.specs.Linear.{#, ◌⊖◌}
+use Rattle.scaled.proofs.Linear.{eq_by}
 use Rattle.words.specs.Words.{little_endian, word_range, signed_word, word_of, four_bytes}
 use Rattle.words.specs.WordLaws.{Bytes, word_below, signed_small, signed_great, four_back, four_again}
 use Rattle.nodes.specs.Nodes.{signed_bytes}

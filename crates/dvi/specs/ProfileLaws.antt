@@ -11,7 +11,8 @@ use Rattle.std.specs.Int.Signed.{le_z}
 use Rattle.laws.specs.Truths.{both_true, true_both}
 use Rattle.scaled.specs.Length.{max_ℤ}
 use Rattle.scaled.specs.Signed.{Within, NotNegative}
-use Rattle.scaled.specs.Linear.{#, greatest, eq_by}
+use Rattle.scaled.specs.Linear.{#, greatest}
+use Rattle.scaled.proofs.Linear.{eq_by}
 use Rattle.nodes.specs.Nodes.{Node, glyph, rule}
 use Rattle.nodes.specs.Bounds.{greatest_length, within}
 use Rattle.nodes.specs.HullLaws.{within_true, true_within}

@@ -10,7 +10,8 @@ use Rattle.std.proofs.Common.{arith}
 use Rattle.laws.specs.Truths.{both_true, true_both}
 use Rattle.scaled.specs.Length.{max_ℤ}
 use Rattle.scaled.specs.Signed.{above, below, own, parts_max}
-use Rattle.scaled.specs.Linear.{#, greatest, eq_by}
+use Rattle.scaled.specs.Linear.{#, greatest}
+use Rattle.scaled.proofs.Linear.{eq_by}
 use Rattle.nodes.specs.Nodes.{Node, glyph, rule, moved, node_bytes, bytes_of}
 use Rattle.nodes.specs.Bounds.{greatest_length, within, node_fits, nodes_fit}
 use Rattle.nodes.specs.HullLaws.{within_true}

@@ -7,7 +7,8 @@ use Rattle.std.specs.Prelude.{ℤ, pos, ◌+ℤ◌, ◌-ℤ◌, ◌*ℤ◌, ◌�
 use Rattle.std.specs.Int.Signed.{quot_z}
 use Rattle.scaled.specs.Length.{max_ℤ, half}
 use Rattle.scaled.specs.Signed.{NotNegative}
-use Rattle.scaled.specs.Linear.{#, ◌⊕◌, ◌⊖◌, greatest, halved, le_by}
+use Rattle.scaled.specs.Linear.{#, ◌⊕◌, ◌⊖◌, greatest, halved}
+use Rattle.scaled.proofs.Linear.{le_by}
 use Rattle.boxes.specs.declared.styles.Style.{Style}
 use Rattle.boxes.specs.Styles.{font_size}
 use Rattle.boxes.specs.Parameters.{Parameters, axis_height}

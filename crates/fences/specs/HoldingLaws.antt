@@ -4,7 +4,8 @@
 -- Assumes nothing.
 use Rattle.std.proofs.Common.{arith}
 use Rattle.std.specs.Prelude.{ℤ}
-use Rattle.scaled.specs.Linear.{#, ◌⊕◌, ◌⊖◌, greatest, sound}
+use Rattle.scaled.specs.Linear.{#, ◌⊕◌, ◌⊖◌, greatest}
+use Rattle.scaled.proofs.Linear.{sound}
 use Rattle.boxes.specs.declared.styles.Style.{Style}
 use Rattle.boxes.specs.Parameters.{Parameters}
 use Rattle.boxes.specs.Boxes.{Size}

@@ -10,7 +10,8 @@ use Rattle.std.proofs.Common.{arith}
 use Rattle.std.specs.Int.Signed.{lt_z}
 use Rattle.scaled.specs.Length.{pick, max_ℤ, half}
 use Rattle.scaled.specs.Signed.{above, below, NotNegative, le_parts}
-use Rattle.scaled.specs.Linear.{Exp, #, ◌⊕◌, ◌⊖◌, neg, times, halved, sound, le_by}
+use Rattle.scaled.specs.Linear.{Exp, #, ◌⊕◌, ◌⊖◌, neg, times, halved}
+use Rattle.scaled.proofs.Linear.{sound, le_by}
 use Rattle.scaled.specs.Made.{Less, less}
 use Rattle.formula.specs.declared.Bar.{Bar}
 use Rattle.formula.specs.declared.Bar.TheVariants.{Default, Without}

@@ -9,7 +9,8 @@ use Rattle.std.proofs.Math.Bool.{true, false}
 use Rattle.std.proofs.Math.Option.{some}
 use Rattle.std.specs.Int.Signed.{lt_z, ≤ℤ_refl}
 use Rattle.scaled.specs.Length.{pick, half}
-use Rattle.scaled.specs.Linear.{#, ◌⊕◌, ◌⊖◌, eq_by}
+use Rattle.scaled.specs.Linear.{#, ◌⊕◌, ◌⊖◌}
+use Rattle.scaled.proofs.Linear.{eq_by}
 use Rattle.formula.specs.declared.Bar.{Bar}
 use Rattle.boxes.specs.declared.styles.Style.{Style}
 use Rattle.boxes.specs.Styles.{font_size}

@@ -6,7 +6,8 @@ use Rattle.std.proofs.Math.Option.{Option, none, some}
 use Rattle.std.proofs.Common.{arith}
 use Rattle.scaled.specs.Length.{half}
 use Rattle.scaled.specs.Signed.{above, below}
-use Rattle.scaled.specs.Linear.{#, ◌⊕◌, ◌⊖◌, neg, greatest, sound}
+use Rattle.scaled.specs.Linear.{#, ◌⊕◌, ◌⊖◌, neg, greatest}
+use Rattle.scaled.proofs.Linear.{sound}
 use Rattle.boxes.specs.Parameters.{Parameters}
 use Rattle.boxes.specs.Boxes.{Size}
 use Rattle.boxes.specs.Holding.{Upright, UprightIf, Holds, HoldsIf}

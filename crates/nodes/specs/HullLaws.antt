@@ -16,7 +16,8 @@ use Rattle.std.proofs.lemmas.Bool.{not-true}
 use Rattle.laws.specs.Truths.{same_truth}
 use Rattle.scaled.specs.Length.{max_ℤ, min_ℤ}
 use Rattle.scaled.specs.Signed.{Within, own, le_parts, parts_max, parts_min}
-use Rattle.scaled.specs.Linear.{#, ◌⊕◌, greatest, least, eq_by, le_by, within_by}
+use Rattle.scaled.specs.Linear.{#, ◌⊕◌, greatest, least}
+use Rattle.scaled.proofs.Linear.{eq_by, le_by, within_by}
 use Rattle.nodes.specs.Nodes.{Node, glyph, rule, moved_node, moved}
 use Rattle.nodes.specs.Bounds.{greatest_length, within, nodes_fit}
 use Rattle.nodes.specs.Hull.{Hull, none, around, joined, moved_hull, node_hull, hull, hull_fits, HullWithin}

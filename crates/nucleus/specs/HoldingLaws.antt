@@ -7,7 +7,8 @@ use Rattle.std.specs.Prelude.{◌≡◌, Bool, true, false, ◌&&◌, not, ℤ, 
 use Rattle.std.proofs.Math.Option.{Option}
 use Rattle.std.proofs.Common.{arith}
 use Rattle.scaled.specs.Signed.{NotNegative}
-use Rattle.scaled.specs.Linear.{#, ◌⊕◌, ◌⊖◌, neg, times, greatest, sound}
+use Rattle.scaled.specs.Linear.{#, ◌⊕◌, ◌⊖◌, neg, times, greatest}
+use Rattle.scaled.proofs.Linear.{sound}
 use Rattle.font.specs.Font.{Metrics, Font}
 use Rattle.boxes.specs.Boxes.{Size, Shape, nothing, char, box, char_size, zero_size, size_of, Arranged}
 use Rattle.boxes.specs.Holding.{Upright, Holds, HoldsIf, holds_itself, OwnHeld, none_held, rule_held}

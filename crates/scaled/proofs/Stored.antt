@@ -11,8 +11,10 @@ use mir.Val.{Fits, SFits, to_z, of_z}
 use mir.ValLaws.{to_z-of_z, to_z_pos, sfits_le}
 use Rattle.scaled.specs.Length.{units_in_quad, at_quad}
 use Rattle.scaled.specs.Signed.{Within, NotNegative, own, fits_parts, fits_within, within_times, mag_parts, quot_floor}
-use Rattle.scaled.specs.Linear.{#, ◌⊕◌, ◌⊖◌, fits_by}
-use Rattle.scaled.specs.Made.{reach, at_quad_lem}
+use Rattle.scaled.specs.Linear.{#, ◌⊕◌, ◌⊖◌}
+use Rattle.scaled.proofs.Linear.{fits_by}
+use Rattle.scaled.specs.Made.{reach}
+use Rattle.scaled.proofs.Made.{at_quad_lem}
 
 -- z is written to bits and read from them
 abbrev pub read : ℤ → ℤ

@@ -13,7 +13,7 @@ use Rattle.std.proofs.Common.{arith, le_refl, ltb-true, ltb-false}
 use Rattle.std.specs.Int.Signed.{lt_z}
 use Rattle.scaled.specs.Length.{pick, at_quad, units_in_quad}
 use Rattle.scaled.specs.Signed.{above, below, Within, NotNegative, own, lt_test, parts_is, parts_same, within_times}
-use Rattle.scaled.specs.Linear.{Exp, #, ◌⊕◌, ◌⊖◌, neg, times, greatest, least, halved, floor, units, den, hi, lo, Ok, sound}
+use Rattle.scaled.specs.Linear.{Exp, #, ◌⊕◌, ◌⊖◌, neg, times, greatest, least, halved, floor, units, den, hi, lo, Ok}
 
 -- 255 times that fits 64 bits, and the sum of 131,072 lengths of 2 ^ 33 each is within it
 abbrev pub reach : ℕ
@@ -22,13 +22,6 @@ reach = 2 ^ 55
 pub record Made (e : Exp) (r : ℤ) : Type 0 where
   pub is : r ≡ den e
   pub parts : above r + lo e ≡ hi e + below r
-
-module _ {e : Exp} {r : ℤ} where
-  pub made : Ok e → r ≡ den e → Made e r
-  made o is = record { is = is; parts = (parts_is is (sound e o)).parts }
-
-  pub made_parts : Ok e × (above r + lo e ≡ hi e + below r) → Made e r
-  made_parts o = record { is = parts_same (own r) (sound e o.0) o.1; parts = o.1 }
 
 abbrev pub Sum : ℤ → ℤ → ℤ → Type 0
 Sum a b r = Made (# a ⊕ # b) r
@@ -65,15 +58,6 @@ pub record AtQuad (a quad r : ℤ) : Type 0 where
   pub at : Made (units (# a) (# quad)) r
   pub over : above r + below quad ≤ above quad + below r
   pub under : below r + below quad ≤ above quad + above r
-
--- at most eighteen units are at most the quad
-pub at_quad_lem : {a quad r : ℤ} → Within units_in_quad a → NotNegative quad → r ≡ at_quad a quad → AtQuad a quad r
-unfolding at_quad
-at_quad_lem {quad = pos q} {r} few up is =
-    let unit = q / units_in_quad in
-    let bound : Within (units_in_quad * unit) r = rw is (within_times few (le_refl unit)) in
-    record { at = made (tt, tt) is; over = omega arith; under = omega arith }
-at_quad_lem {quad = negsuc q} few up is = absurd (omega arith)
 
 -- t is whether a is less than b
 pub record Less (a b : ℤ) (t : Bool) : Type 0 where

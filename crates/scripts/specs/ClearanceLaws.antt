@@ -8,7 +8,8 @@ use Rattle.std.proofs.Math.Bool.{true, false}
 use Rattle.std.proofs.Math.Option.{Option, none, some}
 use native.Mathlib.Omega.{arith}
 use Rattle.std.specs.Int.Signed.{lt_z}
-use Rattle.scaled.specs.Linear.{Exp, #, ◌⊕◌, ◌⊖◌, neg, greatest, sound, le_by}
+use Rattle.scaled.specs.Linear.{Exp, #, ◌⊕◌, ◌⊖◌, neg, greatest}
+use Rattle.scaled.proofs.Linear.{sound, le_by}
 use Rattle.scaled.specs.Made.{Less, less}
 use Rattle.boxes.specs.declared.styles.Style.{Style}
 use Rattle.boxes.specs.Styles.{font_size}

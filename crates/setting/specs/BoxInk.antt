@@ -9,7 +9,8 @@ use Rattle.std.proofs.Math.Path.{refl}
 use mathlib.Core.List.{List, [], ◌∷◌, ◌++◌}
 use Rattle.std.proofs.Math.Option.{Option, none, some}
 use Rattle.std.proofs.Common.{arith}
-use Rattle.scaled.specs.Linear.{#, ◌⊕◌, ◌⊖◌, neg, greatest, sound, le_by}
+use Rattle.scaled.specs.Linear.{#, ◌⊕◌, ◌⊖◌, neg, greatest}
+use Rattle.scaled.proofs.Linear.{sound, le_by}
 use Rattle.font.specs.Font.{Font, Metrics}
 use Rattle.formula.specs.declared.Class.{Class}
 use Rattle.formula.specs.declared.Kind.{Kind}

@@ -12,7 +12,8 @@ use Rattle.std.proofs.Common.{arith}
 use Rattle.std.specs.Int.Signed.{≤ℤ_refl}
 use Rattle.scaled.specs.Length.{max_ℤ}
 use Rattle.scaled.specs.Signed.{le_parts}
-use Rattle.scaled.specs.Linear.{#, ◌⊕◌, ◌⊖◌, neg, sound, le_by}
+use Rattle.scaled.specs.Linear.{#, ◌⊕◌, ◌⊖◌, neg}
+use Rattle.scaled.proofs.Linear.{sound, le_by}
 use Rattle.font.specs.Font.{Font}
 use Rattle.formula.specs.declared.Kind.{Kind}
 use Rattle.formula.specs.declared.Kind.TheVariants.{Scripted, Fraction}

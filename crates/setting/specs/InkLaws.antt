@@ -11,7 +11,8 @@ use Rattle.std.proofs.Common.{sym, ap, ap₂, subst, arith}
 use mathlib.Core.List.{List, [], ◌∷◌, ◌++◌}
 use Rattle.std.proofs.Math.Option.{Option, none, some}
 use Rattle.scaled.specs.Signed.{le_parts}
-use Rattle.scaled.specs.Linear.{#, ◌⊕◌, ◌⊖◌, neg, sound, eq_by, le_by}
+use Rattle.scaled.specs.Linear.{#, ◌⊕◌, ◌⊖◌, neg}
+use Rattle.scaled.proofs.Linear.{sound, eq_by, le_by}
 use Rattle.font.specs.Font.{Font, Metrics}
 use Rattle.boxes.specs.Boxes.{Size}
 use Rattle.boxes.specs.Holding.{Holds}

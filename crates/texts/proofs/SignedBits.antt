@@ -14,7 +14,8 @@ use mir.Syntax.{w64}
 use mir.Val.{Fits, SFits, to_z, of_z}
 use mir.ValLaws.{to_z-of_z}
 use borrow.Author.Tests.{ltb-true, le-ltb}
-use Rattle.scaled.specs.Linear.{#, ◌⊖◌, eq_by}
+use Rattle.scaled.specs.Linear.{#, ◌⊖◌}
+use Rattle.scaled.proofs.Linear.{eq_by}
 use Rattle.texts.specs.Decimals.{text_of}
 use Rattle.texts.specs.Written.{signed_text}
 

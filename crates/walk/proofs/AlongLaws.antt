@@ -19,7 +19,8 @@ use lib.Seq.{drop-drop}
 use borrow.Rule.Slice.PartMut.{put_mid}
 use Rattle.scaled.specs.declared.Sp.{Sp}
 use Rattle.scaled.specs.Signed.{Within}
-use Rattle.scaled.specs.Linear.{#, ◌⊕◌, within_by}
+use Rattle.scaled.specs.Linear.{#, ◌⊕◌}
+use Rattle.scaled.proofs.Linear.{within_by}
 use Rattle.font.specs.Font.{Font}
 use Rattle.formula.specs.declared.Opening.{Opening}
 use Rattle.formula.specs.declared.Opening.TheVariants.{Kern, Restyle}

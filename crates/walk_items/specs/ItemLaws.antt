@@ -10,7 +10,8 @@ use Rattle.std.proofs.Common.{sym, ap₂, ◌∙◌, append-nil, append_assoc, a
 use Rattle.std.proofs.Math.Path.{ap}
 use Rattle.scaled.specs.Length.{max_ℤ}
 use Rattle.scaled.specs.Signed.{Within}
-use Rattle.scaled.specs.Linear.{#, ◌⊕◌, greatest, eq_by, within_by}
+use Rattle.scaled.specs.Linear.{#, ◌⊕◌, greatest}
+use Rattle.scaled.proofs.Linear.{eq_by, within_by}
 use Rattle.boxes.specs.declared.Offset.{Offset as CodeOffset}
 use Rattle.boxes.specs.declared.Ruling.{Ruling}
 use Rattle.boxes.specs.declared.Ruling.TheVariants.{Unruled, Ruled}

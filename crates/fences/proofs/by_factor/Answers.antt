@@ -1,8 +1,9 @@
 -- `by_factor` multiplies what is small: the product fits, and is read back from bits as it is.
 -- Assumes nothing.
 use native.Mathlib.Omega.{arith}
-use Rattle.scaled.specs.Linear.{#, times, stored, fits_by, eq_by}
-use Rattle.scaled.specs.Made.{made}
+use Rattle.scaled.specs.Linear.{#, times, stored}
+use Rattle.scaled.proofs.Linear.{fits_by, eq_by}
+use Rattle.scaled.proofs.Made.{made}
 use Rattle.fences.proofs.by_factor.Goals as goal
 
 pub overflow_mul-result : goal.overflow_mul-result

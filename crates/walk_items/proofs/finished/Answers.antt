@@ -6,7 +6,8 @@ use Prim.Native.Nat.{ℕ, ◌+◌, ◌^◌}
 use native.Mathlib.Omega.{arith}
 use lib.IntN.{ℤ, ◌+ℤ◌}
 use Rattle.scaled.specs.Signed.{Within}
-use Rattle.scaled.specs.Linear.{#, ◌⊕◌, within_by}
+use Rattle.scaled.specs.Linear.{#, ◌⊕◌}
+use Rattle.scaled.proofs.Linear.{within_by}
 use Rattle.formula.specs.Format.{formula_limit}
 use Rattle.spacing.specs.Spacing.{space_before}
 use Rattle.boxes.specs.Values.{parameters_in, arranged_as}

@@ -3,7 +3,8 @@
 use mathlib.Core.Path.{sym, ◌∙◌}
 use native.Mathlib.Omega.{arith}
 use lib.IntN.{pos}
-use Rattle.scaled.specs.Linear.{#, word, ◌⊖◌, stored, fits_by, eq_by}
+use Rattle.scaled.specs.Linear.{#, word, ◌⊖◌, stored}
+use Rattle.scaled.proofs.Linear.{fits_by, eq_by}
 use Rattle.words.specs.Words.{word_range}
 use Rattle.words.specs.WordLaws.{signed_small, signed_great}
 use Rattle.words.proofs.signed.Goals as goal

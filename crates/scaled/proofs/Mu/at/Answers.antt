@@ -1,7 +1,7 @@
 -- `Mu::at` meets its contract, by `units_kept`: at most a quad's units are at most a quad, and so fit.
 -- Assumes nothing.
 use borrow.Author.Rules.{rules}
-use Rattle.scaled.specs.Made.{at_quad_lem}
+use Rattle.scaled.proofs.Made.{at_quad_lem}
 use Rattle.scaled.proofs.Stored.{units_kept}
 use Rattle.scaled.proofs.Mu.at.Goals as goal
 

@@ -1,8 +1,9 @@
 -- `Sp::half` meets its contract: a shift by one bit is the floor of a half.
 -- Assumes nothing.
 use native.Mathlib.Omega.{arith}
-use Rattle.scaled.specs.Linear.{#, floor, stored, sound}
-use Rattle.scaled.specs.Made.{made_parts}
+use Rattle.scaled.specs.Linear.{#, floor, stored}
+use Rattle.scaled.proofs.Linear.{sound}
+use Rattle.scaled.proofs.Made.{made_parts}
 use Rattle.scaled.proofs.Sp.half.Goals as goal
 
 pub returns : goal.returns

@@ -1,7 +1,7 @@
 -- `Sp::max` meets its contract: by the parts, the one that it picks is the greater.
 -- Assumes nothing.
 use native.Mathlib.Omega.{arith}
-use Rattle.scaled.specs.Made.{made_parts}
+use Rattle.scaled.proofs.Made.{made_parts}
 use Rattle.scaled.proofs.Sp.max.Goals as goal
 
 pub returns-then-less : goal.returns-then-less

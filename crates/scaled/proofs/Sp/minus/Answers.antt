@@ -1,6 +1,6 @@
 -- `Sp::minus` meets its contract, by `difference_kept`.
 -- Assumes nothing.
-use Rattle.scaled.specs.Made.{made}
+use Rattle.scaled.proofs.Made.{made}
 use Rattle.scaled.proofs.Stored.{difference_kept}
 use Rattle.scaled.proofs.Sp.minus.Goals as goal
 

@@ -3,7 +3,7 @@
 use native.Mathlib.Omega.{arith}
 use mir.Syntax.{w64}
 use mir.ValLaws.{to_z_pos}
-use Rattle.scaled.specs.Made.{made}
+use Rattle.scaled.proofs.Made.{made}
 use Rattle.scaled.proofs.Sp.of_word.Goals as goal
 
 pub returns : goal.returns

@@ -1,7 +1,7 @@
 -- `Sp::part` meets its contract, by `part_kept`: of what is not negative, toward zero is down.
 -- Assumes nothing.
 use borrow.Author.Rules.{rules}
-use Rattle.scaled.specs.Made.{made}
+use Rattle.scaled.proofs.Made.{made}
 use Rattle.scaled.proofs.Stored.{part_kept}
 use Rattle.scaled.proofs.Sp.part.Goals as goal
 

@@ -1,6 +1,6 @@
 -- `Sp::plus` meets its contract, by `sum_kept`.
 -- Assumes nothing.
-use Rattle.scaled.specs.Made.{made}
+use Rattle.scaled.proofs.Made.{made}
 use Rattle.scaled.proofs.Stored.{sum_kept}
 use Rattle.scaled.proofs.Sp.plus.Goals as goal
 

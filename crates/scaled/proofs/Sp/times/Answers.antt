@@ -1,6 +1,6 @@
 -- `Sp::times` meets its contract, by `multiple_kept`.
 -- Assumes nothing.
-use Rattle.scaled.specs.Made.{made}
+use Rattle.scaled.proofs.Made.{made}
 use Rattle.scaled.proofs.Stored.{multiple_kept}
 use Rattle.scaled.proofs.Sp.times.Goals as goal
 
