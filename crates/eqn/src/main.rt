@@ -4,10 +4,10 @@
 #![tactic(auto)]
 
 use eqn_calls::report_of;
-use files::{LONGEST_NAMES, NAME_SPACE, read_needed};
+use files::{LONGEST_NAMES, NAME_SPACE, read_full, read_needed};
 use formula::FORMULA_LIMIT;
-use libc::{STDERR_FILENO, STDIN_FILENO, STDOUT_FILENO};
 use results::Report;
+use std::io::Result;
 use texts::{print, write_refusal, write_too_long};
 
 // The longest text that the program takes.
@@ -19,42 +19,48 @@ const TEXT_SPACE: usize = LONGEST + 1;
 // As many bytes as a formula can have.
 const FORMULA_SPACE: usize = FORMULA_LIMIT;
 
-fn main() {
+fn main(rt: HostRuntime) -> Result<()> {
     let mut text = [0u8; TEXT_SPACE];
-    let got = io::read_full(STDIN_FILENO, &mut text);
+    let got = read_full(&mut rt.stdin(), &mut text);
     let mut names = [0u8; NAME_SPACE];
-    let named = read_needed(b"names.tab", &mut names);
+    let named = read_needed(&rt, b"names.tab", &mut names);
     if named > LONGEST_NAMES {
-        write_too_long(STDERR_FILENO, LONGEST_NAMES);
-        return;
+        return write_too_long(&rt.stderr(), LONGEST_NAMES);
     }
-    show(&names[..named], &text[..got]);
+    show(&rt, &rt.stderr(), &names[..named], &text[..got])
 }
 
-fn show<'a>(names: &'a [u8], text: &'a [u8]) {
+fn show<'a>(out: &impl Print, errors: &impl Print, names: &'a [u8], text: &'a [u8]) -> Result<()> {
     let mut formula = [0u8; FORMULA_SPACE];
     if text.len() > LONGEST {
-        refuse_long(names, text, &mut formula);
-        return;
+        return refuse_long(errors, names, text, &mut formula);
     }
     let report = report_of(eqn_calls::read(names, text, &mut formula));
-    show_report(report, &formula);
+    show_report(out, errors, report, &formula)
 }
 
 // A text over the program's limit. What is tested before the text is what refuses the empty one.
-fn refuse_long<'a>(names: &'a [u8], text: &'a [u8], formula: &mut [u8]) {
+fn refuse_long<'a>(
+    errors: &impl Print,
+    names: &'a [u8],
+    text: &'a [u8],
+    formula: &mut [u8],
+) -> Result<()> {
     let tested = report_of(eqn_calls::read(names, &text[..0], formula));
     if tested.number == 0 {
-        write_too_long(STDERR_FILENO, LONGEST);
-        return;
+        return write_too_long(errors, LONGEST);
     }
-    write_refusal(STDERR_FILENO, tested.number, tested.place);
+    write_refusal(errors, tested.number, tested.place)
 }
 
-fn show_report(report: Report, formula: &[u8]) {
+fn show_report(
+    out: &impl Print,
+    errors: &impl Print,
+    report: Report,
+    formula: &[u8],
+) -> Result<()> {
     if report.number == 0 {
-        print(STDOUT_FILENO, formula, report.bytes);
-        return;
+        return print(out, formula, report.bytes);
     }
-    write_refusal(STDERR_FILENO, report.number, report.place);
+    write_refusal(errors, report.number, report.place)
 }

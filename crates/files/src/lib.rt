@@ -1,8 +1,12 @@
-// The tables of a program's working folder, read from their files.
+// The tables of a program's working folder, read from their files, and reading an input to the front of a buffer.
 
 #![tactic(auto)]
 
 ghost use Rattle.io.specs.Counts.{IsPrefixLen};
+
+use std::fs;
+use std::io::{Error, ErrorKind, Read, Result};
+use std::rt::Files;
 
 // One byte more than the longest table, ours and a client's, so that a longer one is seen.
 pub const TABLE_SPACE: usize = 47_531;
@@ -16,44 +20,82 @@ pub const NAME_SPACE: usize = LONGEST_NAMES + 1;
 
 // Reads a table to the front of a buffer. One that is not there has no bytes: ours is then no good table, and a client's has no symbols.
 // One that cannot be read has a single byte, so that neither is good.
-pub fn read_table(name: &[u8], buffer: &mut [u8]) -> usize
+pub fn read_table(rt: &impl Files, name: &[u8], buffer: &mut [u8]) -> usize
     ensures { IsPrefixLen result buffer.new }
 {
-    let fd = os::open_read(name);
-    if fd < 0 {
-        if os::errno() == libc::ENOENT {
-            return 0;
+    match open_read(rt, name) {
+        Ok(file) => read_open(file, buffer),
+        Err(e) => {
+            if e.kind() == ErrorKind::NotFound {
+                return 0;
+            }
+            single(buffer)
         }
-        return io::count(1, buffer);
     }
-    read_open(fd, buffer)
 }
 
 // Reads a table that has to be there: where it is not, or cannot be read, it has a single byte, so that it is no good table.
-pub fn read_needed(name: &[u8], buffer: &mut [u8]) -> usize
+pub fn read_needed(rt: &impl Files, name: &[u8], buffer: &mut [u8]) -> usize
     ensures { IsPrefixLen result buffer.new }
 {
-    let fd = os::open_read(name);
-    if fd < 0 {
-        return io::count(1, buffer);
+    match open_read(rt, name) {
+        Ok(file) => read_open(file, buffer),
+        Err(_) => single(buffer),
     }
-    read_open(fd, buffer)
 }
 
-fn read_open(fd: i32, buffer: &mut [u8]) -> usize
+// Reads until the buffer is full, the input ends or a read fails, and gives how many bytes it put at the buffer's front.
+pub fn read_full(input: &mut impl Read, buffer: &mut [u8]) -> usize
     ensures { IsPrefixLen result buffer.new }
 {
-    let size = io::read_full(fd, buffer);
-    let fails = read_fails(fd);
-    libc::close(fd);
-    if fails {
-        return io::count(1, buffer);
+    let mut done = 0;
+    while done < buffer.len() {
+        let got = read_some(input, &mut buffer[done..]);
+        if got == 0 {
+            return done;
+        }
+        done += got;
+    }
+    done
+}
+
+// Opens a file of the working folder. A name that is no text is none of a file.
+fn open_read<R: Files>(rt: &R, name: &[u8]) -> Result<R::File> {
+    match str::from_utf8(name) {
+        Ok(path) => fs::open(rt, path),
+        Err(_) => Err(Error::from(ErrorKind::InvalidInput)),
+    }
+}
+
+fn read_open(mut file: impl Read + Drop, buffer: &mut [u8]) -> usize
+    ensures { IsPrefixLen result buffer.new }
+{
+    let size = read_full(&mut file, buffer);
+    if read_fails(&mut file) {
+        return single(buffer);
     }
     size
 }
 
 // Whether a read that stopped was stopped by a failure, as that of a folder is: the next one then fails too.
-fn read_fails(fd: i32) -> bool {
+fn read_fails(file: &mut impl Read) -> bool {
     let mut byte = [0u8; 1];
-    libc::read(fd, &mut byte) < 0
+    file.read(&mut byte).is_err()
+}
+
+// One read; one that fails gives no bytes.
+fn read_some(input: &mut impl Read, buffer: &mut [u8]) -> usize
+    ensures { IsPrefixLen result buffer.new }
+{
+    match input.read(buffer) {
+        Ok(got) => got,
+        Err(_) => 0,
+    }
+}
+
+// The length of a table of one byte, where the buffer has room for it.
+fn single(buffer: &[u8]) -> usize
+    ensures { IsPrefixLen result buffer.now }
+{
+    if buffer.is_empty() { 0 } else { 1 }
 }

@@ -16,58 +16,58 @@ use boxes::Size;
 use layout_answers::Answer;
 use layout_answers::report::report_of;
 use layout_answers::why::{WhyAnswer, why_report};
-use libc::STDOUT_FILENO;
 use nodes::BYTES_IN_NODE;
 use reasons::{Reason, ShiftReason};
+use std::io::Result;
 use texts::{LINE_SPACE, Number, of_count, of_length, print, put_bytes, put_number, refusal_text};
 
 // Prints an answer; the nodes of an acceptance are at the front of the buffer.
-pub fn write_answer(answer: Answer, nodes: &[u8]) {
+pub fn write_answer(out: &impl Print, answer: Answer, nodes: &[u8]) -> Result<()> {
     let mut line = [0u8; LINE_SPACE];
     let end = answer_text(answer, &mut line);
-    print(STDOUT_FILENO, &line, end);
+    print(out, &line, end)?;
     let report = report_of(answer);
-    write_nodes(nodes, report.count);
+    write_nodes(out, nodes, report.count)
 }
 
 // Prints what decided an item's shifts, a line for each that there is, or the refusal.
-pub fn write_reasons(answer: WhyAnswer) {
+pub fn write_reasons(out: &impl Print, answer: WhyAnswer) -> Result<()> {
     let mut line = [0u8; LINE_SPACE];
     let report = why_report(answer);
     if report.number != 0 {
         let end = refusal_text(report.number, report.place, &mut line);
-        print(STDOUT_FILENO, &line, end);
-        return;
+        return print(out, &line, end);
     }
     let up = report.up;
     let down = report.down;
     let first = shift_text(b"up ", up, &mut line);
-    print(STDOUT_FILENO, &line, first);
+    print(out, &line, first)?;
     let second = shift_text(b"down ", down, &mut line);
-    print(STDOUT_FILENO, &line, second);
+    print(out, &line, second)
 }
 
 // The first `count` nodes, as far as the buffer has them.
-fn write_nodes(nodes: &[u8], count: usize) {
+fn write_nodes(out: &impl Print, nodes: &[u8], count: usize) -> Result<()> {
     let mut left = count;
     let mut at: usize = 0;
     while BYTES_IN_NODE <= nodes.len() - at {
         if left == 0 {
-            return;
+            return Ok(());
         }
         let end = at + BYTES_IN_NODE;
-        write_node(&nodes[at..end]);
+        write_node(out, &nodes[at..end])?;
         at = end;
         left -= 1;
     }
+    Ok(())
 }
 
-fn write_node(node: &[u8])
+fn write_node(out: &impl Print, node: &[u8]) -> Result<()>
     requires { 18 ≤ length node.now }
 {
     let mut line = [0u8; LINE_SPACE];
     let end = node_text(node, &mut line);
-    print(STDOUT_FILENO, &line, end);
+    print(out, &line, end)
 }
 
 // Writes the first line of an answer at the front of the buffer, and gives its length.

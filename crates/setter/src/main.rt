@@ -8,11 +8,11 @@ ghost use Rattle.answers.specs.Lent.{lent_of, index_after, client_index_after};
 ghost use Rattle.layout_answers.specs.Values.{answered_as};
 ghost use Rattle.setter.specs.Thin.{thin_setting, thin_buffer};
 
-use files::{CLIENT_SPACE, TABLE_SPACE, read_table};
+use files::{CLIENT_SPACE, TABLE_SPACE, read_full, read_table};
 use font_index::INDEX_WORDS;
 use layout_answers::Answer;
 use layout_answers::report::report_of;
-use libc::STDIN_FILENO;
+use std::io::Result;
 
 // The longest formula that the program takes. The library takes longer ones.
 const LONGEST: usize = 4_096;
@@ -23,21 +23,20 @@ const INPUT_SPACE: usize = 4_098;
 // Room for a node for each byte of the longest formula, which is more than it can have.
 const NODE_SPACE: usize = 73_728;
 
-fn main() {
+fn main(rt: HostRuntime) -> Result<()> {
     let mut input = [0u8; INPUT_SPACE];
-    let got = io::read_full(STDIN_FILENO, &mut input);
+    let got = read_full(&mut rt.stdin(), &mut input);
     let mut table = [0u8; TABLE_SPACE];
-    let ours = read_table(b"font.tab", &mut table);
+    let ours = read_table(&rt, b"font.tab", &mut table);
     let mut client = [0u8; CLIENT_SPACE];
-    let theirs = read_table(b"client.tab", &mut client);
-    show(&table[..ours], &client[..theirs], &input[..got]);
+    let theirs = read_table(&rt, b"client.tab", &mut client);
+    show(&rt, &table[..ours], &client[..theirs], &input[..got])
 }
 
 // Without a style there is no style that is known.
-fn show<'a>(table: &'a [u8], client: &'a [u8], input: &[u8]) {
+fn show<'a>(out: &impl Print, table: &'a [u8], client: &'a [u8], input: &[u8]) -> Result<()> {
     if input.len() == 0 {
-        listing::write_answer(Answer::NoStyle, input);
-        return;
+        return listing::write_answer(out, Answer::NoStyle, input);
     }
     let mut nodes = [0u8; NODE_SPACE];
     let mut index = [0u64; INDEX_WORDS];
@@ -51,7 +50,7 @@ fn show<'a>(table: &'a [u8], client: &'a [u8], input: &[u8]) {
         &mut index,
         &mut client_index,
     );
-    listing::write_answer(answer, &nodes);
+    listing::write_answer(out, answer, &nodes)
 }
 
 // The answer of setting, where a formula over the program's limit is unreadable at its first byte. What is tested before a formula is read

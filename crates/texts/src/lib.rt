@@ -1,5 +1,5 @@
 // Text that a program writes, made piece by piece in a lent buffer: numbers in decimals, and the line of a refusal, which is defined in
-// specs/Refusals.antt. `write_refusal`, `write_too_long` and `print` hand a line to a file descriptor.
+// specs/Refusals.antt. `write_refusal`, `write_too_long` and `print` hand a line to what prints.
 
 #![tactic(auto)]
 
@@ -9,6 +9,7 @@ ghost use Rattle.texts.specs.Refusals.{refusal_text, too_long_text};
 ghost use Rattle.texts.specs.Written.{Written, Put, PutNear, number_text};
 
 use scaled::Sp;
+use std::io::Result;
 
 // Room for the longest line.
 pub const LINE_SPACE: usize = 128;
@@ -20,25 +21,26 @@ pub struct Number {
     pub size: u64,
 }
 
-// Writes the line of a refusal to a file.
-pub fn write_refusal(fd: i32, number: u8, place: usize) {
+// Prints the line of a refusal.
+pub fn write_refusal(out: &impl Print, number: u8, place: usize) -> Result<()> {
     let mut line = [0u8; LINE_SPACE];
     let end = refusal_text(number, place, &mut line);
-    print(fd, &line, end);
+    print(out, &line, end)
 }
 
-// Writes to a file the line of what a program cannot hold, which takes so many bytes.
-pub fn write_too_long(fd: i32, taken: usize) {
+// Prints the line of what a program cannot hold, which takes so many bytes.
+pub fn write_too_long(out: &impl Print, taken: usize) -> Result<()> {
     let mut line = [0u8; LINE_SPACE];
     let end = too_long_text(taken, &mut line);
-    print(fd, &line, end);
+    print(out, &line, end)
 }
 
-// Writes the front of a buffer to a file.
-pub fn print(fd: i32, line: &[u8], end: usize) {
+// Prints the front of a buffer.
+pub fn print(out: &impl Print, line: &[u8], end: usize) -> Result<()> {
     if end <= line.len() {
-        io::write_all(fd, &line[..end]);
+        out.write_all(&line[..end])?;
     }
+    Ok(())
 }
 
 // Writes the line of a refusal at the front of the buffer, and gives its length.

@@ -4,10 +4,10 @@
 #![tactic(auto)]
 
 use eqn_calls::report_of;
-use files::{LONGEST_NAMES, NAME_SPACE, read_needed};
+use files::{LONGEST_NAMES, NAME_SPACE, read_full, read_needed};
 use formula::FORMULA_LIMIT;
-use libc::{STDERR_FILENO, STDIN_FILENO, STDOUT_FILENO};
 use results::Report;
+use std::io::Result;
 use texts::{print, write_refusal, write_too_long};
 
 // One byte more than the longest formula, so that a longer one is seen.
@@ -19,32 +19,34 @@ const TEXT_SPACE: usize = 131_072;
 // The answer to a formula whose text has more bytes than that.
 const NO_ROOM: u8 = 13;
 
-fn main() {
+fn main(rt: HostRuntime) -> Result<()> {
     let mut formula = [0u8; FORMULA_SPACE];
-    let got = io::read_full(STDIN_FILENO, &mut formula);
+    let got = read_full(&mut rt.stdin(), &mut formula);
     let mut names = [0u8; NAME_SPACE];
-    let named = read_needed(b"names.tab", &mut names);
+    let named = read_needed(&rt, b"names.tab", &mut names);
     if named > LONGEST_NAMES {
-        write_too_long(STDERR_FILENO, LONGEST_NAMES);
-        return;
+        return write_too_long(&rt.stderr(), LONGEST_NAMES);
     }
-    show(&names[..named], &formula[..got]);
+    show(&rt, &rt.stderr(), &names[..named], &formula[..got])
 }
 
-fn show<'a>(names: &'a [u8], formula: &'a [u8]) {
+fn show<'a>(
+    out: &impl Print,
+    errors: &impl Print,
+    names: &'a [u8],
+    formula: &'a [u8],
+) -> Result<()> {
     let mut text = [0u8; TEXT_SPACE];
     let report = report_of(eqn_calls::write(names, formula, &mut text));
     if report.number == 0 {
-        print(STDOUT_FILENO, &text, report.bytes);
-        return;
+        return print(out, &text, report.bytes);
     }
-    refuse(report);
+    refuse(errors, report)
 }
 
-fn refuse(report: Report) {
+fn refuse(errors: &impl Print, report: Report) -> Result<()> {
     if report.number == NO_ROOM {
-        write_too_long(STDERR_FILENO, TEXT_SPACE);
-        return;
+        return write_too_long(errors, TEXT_SPACE);
     }
-    write_refusal(STDERR_FILENO, report.number, report.place);
+    write_refusal(errors, report.number, report.place)
 }

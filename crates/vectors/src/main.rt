@@ -11,8 +11,12 @@ mod typed;
 
 ghost use Rattle.std.specs.Prelude.{◌≤◌, length};
 
+use files::read_full;
 use font_index::INDEX_WORDS;
 use layout_why::why;
+use std::fs;
+use std::io::{Read, Result};
+use std::rt::Files;
 
 // A case that is longer is cut.
 const TABLE_SPACE: usize = 50_000;
@@ -25,64 +29,77 @@ const NODE_SPACE: usize = 131_072;
 
 const MOST_CASES: usize = 100_000;
 
-fn main() {
-    run_file(b"cases.bin");
-    run_file(b"reasons.bin");
-    pages::run_file();
-    typed::run_file();
+fn main(rt: HostRuntime) -> Result<()> {
+    run_file(&rt, "cases.bin")?;
+    run_file(&rt, "reasons.bin")?;
+    pages::run_file(&rt)?;
+    typed::run_file(&rt)
 }
 
-fn run_file(name: &[u8]) {
-    let fd = os::open_read(name);
-    if fd < 0 {
-        os::fail(name);
-        return;
-    }
+fn run_file(rt: &(impl Files + Print + Eprint), name: &str) -> Result<()> {
+    let mut file = match fs::open(rt, name) {
+        Ok(file) => file,
+        Err(e) => return eprintln!(rt; "{name}: {e}"),
+    };
     let mut table = [0u8; TABLE_SPACE];
     let mut client = [0u8; CLIENT_SPACE];
     let mut formula = [0u8; FORMULA_SPACE];
-    run(fd, &mut table, &mut client, &mut formula);
-    libc::close(fd);
+    run(rt, &mut file, &mut table, &mut client, &mut formula)
 }
 
 // Goes from case to case; the buffers hold the tables and the formula.
-fn run(fd: i32, table: &mut [u8], client: &mut [u8], formula: &mut [u8]) {
+fn run(
+    out: &impl Print,
+    file: &mut impl Read,
+    table: &mut [u8],
+    client: &mut [u8],
+    formula: &mut [u8],
+) -> Result<()> {
     let mut ours: usize = 0;
     let mut theirs: usize = 0;
     let mut left = MOST_CASES;
     while left > 0 {
         left -= 1;
-        let letter = read_byte(fd);
+        let letter = read_byte(file);
         if letter == b'T' {
-            ours = read_long(fd, table);
+            ours = read_long(file, table);
         } else if letter == b'C' {
-            theirs = read_long(fd, client);
-        } else if !run_case(fd, letter, &table[..ours], &client[..theirs], formula) {
-            return;
+            theirs = read_long(file, client);
+        } else if !run_case(
+            out,
+            file,
+            letter,
+            &table[..ours],
+            &client[..theirs],
+            formula,
+        )? {
+            return Ok(());
         }
     }
+    Ok(())
 }
 
 // Runs the case that a letter opens, and says whether it opens one.
 fn run_case<'a>(
-    fd: i32,
+    out: &impl Print,
+    file: &mut impl Read,
     letter: u8,
     table: &'a [u8],
     client: &'a [u8],
     formula: &mut [u8],
-) -> bool {
+) -> Result<bool> {
     if !is_case(letter) {
-        return false;
+        return Ok(false);
     }
-    let style = read_byte(fd);
-    let size = read_formula(fd, letter, formula);
+    let style = read_byte(file);
+    let size = read_formula(file, letter, formula);
     if letter == b'W' {
-        let place = read_word(fd) as usize;
-        show_reasons(style, table, client, &formula[..size], place);
+        let place = read_word(file) as usize;
+        show_reasons(out, style, table, client, &formula[..size], place)?;
     } else {
-        show(style, table, client, &formula[..size]);
+        show(out, style, table, client, &formula[..size])?;
     }
-    true
+    Ok(true)
 }
 
 fn is_case(letter: u8) -> bool {
@@ -90,55 +107,62 @@ fn is_case(letter: u8) -> bool {
 }
 
 // The next byte, or 0 where there is none.
-fn read_byte(fd: i32) -> u8 {
+fn read_byte(file: &mut impl Read) -> u8 {
     let mut byte = [0u8; 1];
-    io::read_full(fd, &mut byte);
+    read_full(file, &mut byte);
     byte[0]
 }
 
-fn read_formula(fd: i32, letter: u8, buffer: &mut [u8]) -> usize
+fn read_formula(file: &mut impl Read, letter: u8, buffer: &mut [u8]) -> usize
     ensures { result ≤ length buffer.new }
 {
     if letter == b'L' {
-        return read_long(fd, buffer);
+        return read_long(file, buffer);
     }
-    read_short(fd, buffer)
+    read_short(file, buffer)
 }
 
 // Reads bytes behind a length of two bytes, or of four, to the front of a buffer.
-fn read_short(fd: i32, buffer: &mut [u8]) -> usize
+fn read_short(file: &mut impl Read, buffer: &mut [u8]) -> usize
     ensures { result ≤ length buffer.new }
 {
-    let a = read_byte(fd);
-    let b = read_byte(fd);
-    read_front(fd, words::of_bytes(a, b, 0, 0), buffer)
+    let a = read_byte(file);
+    let b = read_byte(file);
+    read_front(file, words::of_bytes(a, b, 0, 0), buffer)
 }
 
-fn read_long(fd: i32, buffer: &mut [u8]) -> usize
+fn read_long(file: &mut impl Read, buffer: &mut [u8]) -> usize
     ensures { result ≤ length buffer.new }
 {
-    read_front(fd, read_word(fd), buffer)
+    let size = read_word(file);
+    read_front(file, size, buffer)
 }
 
-fn read_word(fd: i32) -> u32 {
-    let a = read_byte(fd);
-    let b = read_byte(fd);
-    let c = read_byte(fd);
-    let d = read_byte(fd);
+fn read_word(file: &mut impl Read) -> u32 {
+    let a = read_byte(file);
+    let b = read_byte(file);
+    let c = read_byte(file);
+    let d = read_byte(file);
     words::of_bytes(a, b, c, d)
 }
 
-fn read_front(fd: i32, size: u32, buffer: &mut [u8]) -> usize
+fn read_front(file: &mut impl Read, size: u32, buffer: &mut [u8]) -> usize
     ensures { result ≤ length buffer.new }
 {
     let end = size as usize;
     if end < buffer.len() {
-        return io::read_full(fd, &mut buffer[..end]);
+        return read_full(file, &mut buffer[..end]);
     }
-    io::read_full(fd, buffer)
+    read_full(file, buffer)
 }
 
-fn show<'a>(style: u8, table: &'a [u8], client: &'a [u8], formula: &[u8]) {
+fn show<'a>(
+    out: &impl Print,
+    style: u8,
+    table: &'a [u8],
+    client: &'a [u8],
+    formula: &[u8],
+) -> Result<()> {
     let mut nodes = [0u8; NODE_SPACE];
     let mut index = [0u64; INDEX_WORDS];
     let mut client_index = [0u64; INDEX_WORDS];
@@ -151,19 +175,29 @@ fn show<'a>(style: u8, table: &'a [u8], client: &'a [u8], formula: &[u8]) {
         &mut index,
         &mut client_index,
     );
-    listing::write_answer(answer, &nodes);
+    listing::write_answer(out, answer, &nodes)
 }
 
-fn show_reasons<'a>(style: u8, table: &'a [u8], client: &'a [u8], formula: &[u8], place: usize) {
+fn show_reasons<'a>(
+    out: &impl Print,
+    style: u8,
+    table: &'a [u8],
+    client: &'a [u8],
+    formula: &[u8],
+    place: usize,
+) -> Result<()> {
     let mut index = [0u64; INDEX_WORDS];
     let mut client_index = [0u64; INDEX_WORDS];
-    listing::write_reasons(why(
-        style,
-        table,
-        client,
-        formula,
-        place,
-        &mut index,
-        &mut client_index,
-    ));
+    listing::write_reasons(
+        out,
+        why(
+            style,
+            table,
+            client,
+            formula,
+            place,
+            &mut index,
+            &mut client_index,
+        ),
+    )
 }

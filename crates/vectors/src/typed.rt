@@ -7,7 +7,9 @@ ghost use Rattle.std.specs.Prelude.{◌≤◌};
 use crate::pages::write_front;
 use crate::{MOST_CASES, read_byte, read_long, read_word};
 use eqn_calls::{Answer, report_of};
-use libc::STDOUT_FILENO;
+use std::fs;
+use std::io::{Read, Result};
+use std::rt::Files;
 use texts::write_refusal;
 
 // A case that is longer is cut.
@@ -17,37 +19,42 @@ const CASE_SPACE: usize = 16_384;
 
 const RESULT_SPACE: usize = 16_384;
 
-pub fn run_file() {
-    let fd = os::open_read(b"typed.bin");
-    if fd < 0 {
-        os::fail(b"typed.bin");
-        return;
-    }
+pub fn run_file(rt: &(impl Files + Print + Eprint)) -> Result<()> {
+    let mut file = match fs::open(rt, "typed.bin") {
+        Ok(file) => file,
+        Err(e) => return eprintln!(rt; "typed.bin: {e}"),
+    };
     let mut names = [0u8; NAME_SPACE];
     let mut bytes = [0u8; CASE_SPACE];
     let mut result = [0u8; RESULT_SPACE];
-    run(fd, &mut names, &mut bytes, &mut result);
-    libc::close(fd);
+    run(rt, &mut file, &mut names, &mut bytes, &mut result)
 }
 
 // Goes from case to case; the buffers hold the name table, what is converted, and the result.
-fn run(fd: i32, names: &mut [u8], bytes: &mut [u8], res: &mut [u8]) {
+fn run(
+    out: &impl Print,
+    file: &mut impl Read,
+    names: &mut [u8],
+    bytes: &mut [u8],
+    res: &mut [u8],
+) -> Result<()> {
     let mut named: usize = 0;
     let mut left = MOST_CASES;
     while left > 0 {
         left -= 1;
-        let letter = read_byte(fd);
+        let letter = read_byte(file);
         if letter == b'Q' {
-            named = read_long(fd, names);
+            named = read_long(file, names);
         } else {
             if !is_typed(letter) {
-                return;
+                return Ok(());
             }
-            let size = read_long(fd, bytes);
-            let room = read_word(fd) as usize;
-            show(letter, &names[..named], &bytes[..size], room, res);
+            let size = read_long(file, bytes);
+            let room = read_word(file) as usize;
+            show(out, letter, &names[..named], &bytes[..size], room, res)?;
         }
     }
+    Ok(())
 }
 
 fn is_typed(letter: u8) -> bool {
@@ -55,24 +62,30 @@ fn is_typed(letter: u8) -> bool {
 }
 
 // The buffer has room for every result: more is as good as all of it.
-fn show<'a>(letter: u8, names: &'a [u8], bytes: &'a [u8], lent: usize, res: &mut [u8]) {
+fn show<'a>(
+    out: &impl Print,
+    letter: u8,
+    names: &'a [u8],
+    bytes: &'a [u8],
+    lent: usize,
+    res: &mut [u8],
+) -> Result<()> {
     let room = lesser(lent, res.len());
     if letter == b'E' {
         let answer = eqn_calls::read(names, bytes, &mut res[..room]);
-        write_answer(answer, res);
+        write_answer(out, answer, res)
     } else {
         let answer = eqn_calls::write(names, bytes, &mut res[..room]);
-        write_answer(answer, res);
+        write_answer(out, answer, res)
     }
 }
 
-fn write_answer(answer: Answer, res: &[u8]) {
+fn write_answer(out: &impl Print, answer: Answer, res: &[u8]) -> Result<()> {
     let report = report_of(answer);
     if report.number == 0 {
-        write_front(res, report.bytes);
-        return;
+        return write_front(out, res, report.bytes);
     }
-    write_refusal(STDOUT_FILENO, report.number, report.place);
+    write_refusal(out, report.number, report.place)
 }
 
 fn lesser(a: usize, b: usize) -> usize

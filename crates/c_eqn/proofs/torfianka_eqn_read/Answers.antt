@@ -1,43 +1,41 @@
 -- The answer, and the buffer, where there is room for the answer. Assumes nothing.
-use mathlib.Core.Path.{◌≡◌, ◌∙◌}
-use Prim.Native.Nat.{◌^◌, ◌<◌}
-use native.Mathlib.Omega.{arith}
-use borrow.Author.Rules.{rules}
-use lib.ListN.{length}
-use Rattle.results.specs.Results.{answer_by}
-use Rattle.results.specs.Values.{report_as}
-use Rattle.eqn_meaning.specs.Answers.{read_result, no_room}
+use Rattle.std.proofs.Common.{◌∙◌, length, arith, rules}
+use Rattle.eqn_meaning.specs.Answers.{read_result}
 use Rattle.eqn_meaning.specs.ResultLaws.{read_place}
 use Rattle.c_words.specs.WordsLaws.{enough, short, reported}
 use Rattle.c_eqn.proofs.Reported.{small}
 use Rattle.c_eqn.proofs.torfianka_eqn_read.Goals as goal
 
-pub returns-then-answer-lt-REPORT_SPACE : goal.returns-then-answer-lt-REPORT_SPACE
-returns-then-answer-lt-REPORT_SPACE c =
-    let w = c.args.answer.now in
-    let few = c.if-answer-lt-REPORT_SPACE.true in
-    let both = (short w _ _ few, (short w _ _ few, short w _ _ few)) in record { value = both.0; answer_after = both.1; formula_after = both.2 }
+pub returns-then-answer-lt-REPORT_SPACE-clause-value : goal.returns-then-answer-lt-REPORT_SPACE-clause-value
+returns-then-answer-lt-REPORT_SPACE-clause-value c = short c.args.answer.now _ _ c.if-answer-lt-REPORT_SPACE.true
+
+pub returns-then-answer-lt-REPORT_SPACE-clause-answer_after : goal.returns-then-answer-lt-REPORT_SPACE-clause-answer_after
+returns-then-answer-lt-REPORT_SPACE-clause-answer_after c = short c.args.answer.now _ _ c.if-answer-lt-REPORT_SPACE.true
+
+pub returns-then-answer-lt-REPORT_SPACE-clause-formula_after : goal.returns-then-answer-lt-REPORT_SPACE-clause-formula_after
+returns-then-answer-lt-REPORT_SPACE-clause-formula_after c = short c.args.answer.now _ _ c.if-answer-lt-REPORT_SPACE.true
 
 pub put_report-requires : goal.put_report-requires
 put_report-requires c =
-    let report-is : (let a = c.args in
-    report_as c.report_of.result ≡ answer_by no_room (length a.formula.now) (read_result a.names.now a.text.now)) = c.report_of.ensures ∙ c.read.ensures.result_value in
-    let room_small : length c.args.formula.now < 2 ^ 63 = omega arith in
     let a = c.args in
-    let table = a.names.now in
-    let bytes = a.text.now in
-    let room = length a.formula.now in
+    let result = read_result a.names.now a.text.now in
+    let is = c.report_of.ensures ∙ c.read.ensures.result_value in
     let fits =
-    small table bytes room (read_result table bytes) (read_place table bytes) c.report_of.result (report-is)
-    (omega arith) (omega arith) (room_small) in
+    small a.names.now a.text.now (length a.formula.now) result (read_place a.names.now a.text.now) c.report_of.result is
+    (omega arith) (omega arith) (omega arith) in
     (search rules, fits.0, fits.1)
 
-pub returns : goal.returns
-returns c =
-    let report-is : (let a = c.args in
-    report_as c.report_of.result ≡ answer_by no_room (length a.formula.now) (read_result a.names.now a.text.now)) = c.report_of.ensures ∙ c.read.ensures.result_value in
-    let enough_words = c.if-answer-lt-REPORT_SPACE.false in
-    let a = c.args in
-    let w = a.answer.now in
-    let r = reported c.report_of.result _ (report-is) w c.put_report.ensures in
-    let both = (r.0 ∙ enough w _ _ enough_words, (r.1 ∙ enough w _ _ enough_words, c.read.ensures.formula_after ∙ enough w _ _ enough_words)) in record { value = both.0; answer_after = both.1; formula_after = both.2 }
+pub returns-clause-value : goal.returns-clause-value
+returns-clause-value c =
+    let is = c.report_of.ensures ∙ c.read.ensures.result_value in
+    let r = reported c.report_of.result _ is c.args.answer.now c.put_report.ensures in
+    r.0 ∙ enough c.args.answer.now _ _ c.if-answer-lt-REPORT_SPACE.false
+
+pub returns-clause-answer_after : goal.returns-clause-answer_after
+returns-clause-answer_after c =
+    let is = c.report_of.ensures ∙ c.read.ensures.result_value in
+    let r = reported c.report_of.result _ is c.args.answer.now c.put_report.ensures in
+    r.1 ∙ enough c.args.answer.now _ _ c.if-answer-lt-REPORT_SPACE.false
+
+pub returns-clause-formula_after : goal.returns-clause-formula_after
+returns-clause-formula_after c = c.read.ensures.formula_after ∙ enough c.args.answer.now _ _ c.if-answer-lt-REPORT_SPACE.false

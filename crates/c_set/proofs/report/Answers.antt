@@ -1,33 +1,15 @@
 -- `report` meets its contract: five stores, by `five_stores`, of the parts that `report_of` gives. Assumes nothing.
-use mathlib.Core.Path.{◌≡◌, refl, sym, ap, subst, ◌∙◌}
-use native.Mathlib.Omega.{arith}
-use lib.ListN.{length-set}
+use Rattle.std.proofs.Common.{◌≡◌, refl, sym, ap, subst, ◌∙◌, rules}
 use Rattle.answers.specs.Answers.{Answered}
 use Rattle.answers.specs.Small.{Small}
 use Rattle.layout_answers.specs.declared.report.SetReport.{SetReport}
 use Rattle.layout_answers.specs.Reports.{set_report_as}
 use Rattle.c_set.specs.AnswerWords.{answer_words}
 use Rattle.c_words.specs.WordsLaws.{five_stores, kept, count_kept}
-use borrow.Author.Rules.{rules}
 use Rattle.c_set.proofs.report.Goals as goal
 
 report_small : (a : Answered) (p : SetReport) → set_report_as p ≡ a → Small a → Small (set_report_as p)
 report_small a p e h = subst Small (sym e) h
-
-pub count_word-place-requires : goal.count_word-place-requires
-count_word-place-requires c = (report_small _ c.report_of-report.result c.report_of-report.ensures c.requires.1).place
-
-pub count_word-count-requires : goal.count_word-count-requires
-count_word-count-requires c = (report_small _ c.report_of-report.result c.report_of-report.ensures c.requires.1).count
-
-pub bounds-words-1 : goal.bounds-words-1
-bounds-words-1 c = simp length-set (omega arith)
-
-pub bounds-words-2 : goal.bounds-words-2
-bounds-words-2 c = simp length-set (omega arith)
-
-pub bounds-words-3 : goal.bounds-words-3
-bounds-words-3 c = simp length-set (omega arith)
 
 pub returns : goal.returns
 unfolding answer_words

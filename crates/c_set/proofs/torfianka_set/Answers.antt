@@ -1,29 +1,42 @@
 -- The answer of setting, the buffer, and the words for both indexes, where there is room for the answer.
-use mathlib.Core.Path.{sym, subst, ◌∙◌}
+use Rattle.std.proofs.Common.{sym, subst, ◌∙◌, rules}
 use Rattle.answers.specs.Small.{Small, setting_small}
 use Rattle.c_words.specs.WordsLaws.{enough, short}
-use borrow.Author.Rules.{rules}
 use Rattle.c_set.proofs.torfianka_set.Goals as goal
 
-pub returns-then-answer-lt-ANSWER_SPACE : goal.returns-then-answer-lt-ANSWER_SPACE
-returns-then-answer-lt-ANSWER_SPACE c =
-    let w = c.args.answer.now in
-    let few = c.if-answer-lt-ANSWER_SPACE.true in
-    let both = (short w _ _ few, (short w _ _ few, (short w _ _ few, (short w _ _ few, short w _ _ few)))) in record { value = both.0; answer_after = both.1; nodes_after = both.2; index_after = both.3; client_index_after = both.4 }
+pub returns-then-answer-lt-ANSWER_SPACE-clause-value : goal.returns-then-answer-lt-ANSWER_SPACE-clause-value
+returns-then-answer-lt-ANSWER_SPACE-clause-value c = short c.args.answer.now _ _ c.if-answer-lt-ANSWER_SPACE.true
+
+pub returns-then-answer-lt-ANSWER_SPACE-clause-answer_after : goal.returns-then-answer-lt-ANSWER_SPACE-clause-answer_after
+returns-then-answer-lt-ANSWER_SPACE-clause-answer_after c = short c.args.answer.now _ _ c.if-answer-lt-ANSWER_SPACE.true
+
+pub returns-then-answer-lt-ANSWER_SPACE-clause-nodes_after : goal.returns-then-answer-lt-ANSWER_SPACE-clause-nodes_after
+returns-then-answer-lt-ANSWER_SPACE-clause-nodes_after c = short c.args.answer.now _ _ c.if-answer-lt-ANSWER_SPACE.true
+
+pub returns-then-answer-lt-ANSWER_SPACE-clause-index_after : goal.returns-then-answer-lt-ANSWER_SPACE-clause-index_after
+returns-then-answer-lt-ANSWER_SPACE-clause-index_after c = short c.args.answer.now _ _ c.if-answer-lt-ANSWER_SPACE.true
+
+pub returns-then-answer-lt-ANSWER_SPACE-clause-client_index_after : goal.returns-then-answer-lt-ANSWER_SPACE-clause-client_index_after
+returns-then-answer-lt-ANSWER_SPACE-clause-client_index_after c = short c.args.answer.now _ _ c.if-answer-lt-ANSWER_SPACE.true
 
 pub report-requires : goal.report-requires
 report-requires c = (search rules, subst Small (sym c.set.ensures.result_value) (setting_small _ _ _ _ _ _))
 
-pub returns : goal.returns
-returns c =
-    let w = c.args.answer.now in
-    let room = c.if-answer-lt-ANSWER_SPACE.false in
-    let s = c.set.ensures in
-    let r = rw s.result_value at c.report.ensures in
-    let both = (
-      r.0 ∙ enough w _ _ room,
-      (
-        r.1 ∙ enough w _ _ room,
-        (s.nodes_after.0 ∙ enough w _ _ room, (s.nodes_after.1.0 ∙ enough w _ _ room, s.nodes_after.1.1 ∙ enough w _ _ room)),
-      ),
-    ) in record { value = both.0; answer_after = both.1; nodes_after = both.2; index_after = both.3; client_index_after = both.4 }
+pub returns-clause-value : goal.returns-clause-value
+returns-clause-value c =
+    let r = rw c.set.ensures.result_value at c.report.ensures in
+    r.0 ∙ enough c.args.answer.now _ _ c.if-answer-lt-ANSWER_SPACE.false
+
+pub returns-clause-answer_after : goal.returns-clause-answer_after
+returns-clause-answer_after c =
+    let r = rw c.set.ensures.result_value at c.report.ensures in
+    r.1 ∙ enough c.args.answer.now _ _ c.if-answer-lt-ANSWER_SPACE.false
+
+pub returns-clause-nodes_after : goal.returns-clause-nodes_after
+returns-clause-nodes_after c = c.set.ensures.nodes_after ∙ enough c.args.answer.now _ _ c.if-answer-lt-ANSWER_SPACE.false
+
+pub returns-clause-index_after : goal.returns-clause-index_after
+returns-clause-index_after c = c.set.ensures.index_after ∙ enough c.args.answer.now _ _ c.if-answer-lt-ANSWER_SPACE.false
+
+pub returns-clause-client_index_after : goal.returns-clause-client_index_after
+returns-clause-client_index_after c = c.set.ensures.client_index_after ∙ enough c.args.answer.now _ _ c.if-answer-lt-ANSWER_SPACE.false

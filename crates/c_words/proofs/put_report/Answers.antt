@@ -1,7 +1,6 @@
 -- `put_report` meets its contract: two stores, by `two_stores`, of a place and of a size that a word holds. Assumes nothing.
-use mathlib.Core.Path.{refl, ◌∙◌}
-use mir.Syntax.{w64}
-use mir.ValLaws.{to_z_pos}
+use Rattle.std.proofs.Common.{refl, ◌∙◌, w64}
+use Rattle.std.proofs.lemmas.Int.{to_z_pos}
 use Rattle.c_words.specs.Words.{report_words}
 use Rattle.c_words.specs.WordsLaws.{two_stores}
 use Rattle.c_words.proofs.put_report.Goals as goal
@@ -12,5 +11,5 @@ returns c =
     let report = c.args.report in (
       refl,
       two_stores c.args.words.now _ _ c.requires.0
-          ∙ rw (to_z_pos w64 report.place c.requires.1, to_z_pos w64 report.bytes c.requires.2),
+          ∙ rw (to_z_pos w64 report.place c.requires.1, to_z_pos w64 report.bytes c.requires.2) refl,
     )

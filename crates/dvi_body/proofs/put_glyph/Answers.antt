@@ -10,16 +10,16 @@ pub put_place-requires : goal.put_place-requires
 put_place-requires c = simp length-set (omega arith)
 
 pub bounds-out-12 : goal.bounds-out-12
-bounds-out-12 c = omega (arith, simp length-set at c.put_place.auto.1.1.0)
+bounds-out-12 c = omega (arith, simp length-set at c.put_place.auto.out)
 
 pub bounds-out-13 : goal.bounds-out-13
-bounds-out-13 c = simp length-set (omega (arith, simp length-set at c.put_place.auto.1.1.0))
+bounds-out-13 c = simp length-set (omega (arith, simp length-set at c.put_place.auto.out))
 
 pub bounds-out-14 : goal.bounds-out-14
-bounds-out-14 c = simp length-set (omega (arith, simp length-set at c.put_place.auto.1.1.0))
+bounds-out-14 c = simp length-set (omega (arith, simp length-set at c.put_place.auto.out))
 
 pub shape_of-out : goal.shape_of-out
-shape_of-out c = simp length-set (c.put_place.auto.1.1.0 ∙ simp length-set)
+shape_of-out c = simp length-set (c.put_place.auto.out ∙ simp length-set)
 
 pub returns : goal.returns
 returns c =

@@ -13,13 +13,13 @@ pub put_number-requires : goal.put_number-requires
 put_number-requires c = simp length-set (omega arith)
 
 pub bounds-out-at-3 : goal.bounds-out-at-3
-bounds-out-at-3 c = omega (arith, simp length-set at c.put_number.auto.1.0)
+bounds-out-at-3 c = omega (arith, simp length-set at c.put_number.auto.out)
 
 pub put_number-requires-2 : goal.put_number-requires-2
-put_number-requires-2 c = simp length-set (omega (arith, simp length-set at c.put_number.auto.1.0))
+put_number-requires-2 c = simp length-set (omega (arith, simp length-set at c.put_number.auto.out))
 
 pub shape_of-out : goal.shape_of-out
-shape_of-out c = c.put_number-2.auto.1.0 ∙ simp length-set (c.put_number.auto.1.0 ∙ simp length-set)
+shape_of-out c = c.put_number-2.auto.out ∙ simp length-set (c.put_number.auto.out ∙ simp length-set)
 
 pub returns : goal.returns
 returns c =

@@ -7,18 +7,18 @@ use Rattle.dvi.specs.Stores.{rule_stores}
 use Rattle.dvi_body.proofs.put_rule.Goals as goal
 
 pub put_number-requires : goal.put_number-requires
-put_number-requires c = simp length-set (omega (arith, c.put_place.auto.1.1.0))
+put_number-requires c = simp length-set (omega (arith, c.put_place.auto.out))
 
 pub put_number-requires-2 : goal.put_number-requires-2
-put_number-requires-2 c = omega (arith, simp length-set at c.put_number.auto.1.0, c.put_place.auto.1.1.0)
+put_number-requires-2 c = omega (arith, simp length-set at c.put_number.auto.out, c.put_place.auto.out)
 
 pub bounds-out-20 : goal.bounds-out-20
 bounds-out-20 c =
-    omega (arith, c.put_number-2.auto.1.0, simp length-set at c.put_number.auto.1.0, c.put_place.auto.1.1.0)
+    omega (arith, c.put_number-2.auto.out, simp length-set at c.put_number.auto.out, c.put_place.auto.out)
 
 pub shape_of-out : goal.shape_of-out
 shape_of-out c =
-    simp length-set (c.put_number-2.auto.1.0 ∙ c.put_number.auto.1.0 ∙ simp length-set c.put_place.auto.1.1.0)
+    simp length-set (c.put_number-2.auto.out ∙ c.put_number.auto.out ∙ simp length-set c.put_place.auto.out)
 
 pub returns : goal.returns
 returns c =

@@ -6,10 +6,10 @@ use Rattle.dvi_body.proofs.size.Goals as goal
 
 pub returns-in-Glyph : goal.returns-in-Glyph
 returns-in-Glyph c =
-    let fields = c.enum_told-1.given.0 in
-    rw c.in-Glyph.is (sym (glyph_size fields.0.0 fields.1.0.0 fields.1.1.0 fields.1.1.1.0 fields.1.1.1.1.0))
+    let n = c.in-Glyph in
+    rw n.is (sym (glyph_size n.field-0.0 n.field-1.0 n.field-2 n.field-3 n.field-4))
 
 pub returns-in-Rule : goal.returns-in-Rule
 returns-in-Rule c =
-    let fields = c.enum_told-in-Rule-1.given.0 in
-    rw c.in-Rule.is (sym (rule_size_lem fields.0.0 fields.1.0.0 fields.1.1.0.0 fields.1.1.1.0.0))
+    let n = c.in-Rule in
+    rw n.is (sym (rule_size_lem n.field-0.0 n.field-1.0 n.field-2.0 n.field-3.0))

@@ -6,5 +6,6 @@ use Rattle.eqn_calls.proofs.formula_size.Goals as goal
 
 pub returns : goal.returns
 returns c =
+    λ d l.
     made_sized (row_items d.ns d.row) _ _ c.put_row.result
     (c.put_row.ensures.row_made d.ns l d.row (parse_sound _ _ d.parsed))

@@ -12,26 +12,26 @@ returns-in-BadAt c = record {
 
 pub returns-in-At : goal.returns-in-At
 returns-in-At c =
-    let good = good_told _ (sym c.enum_told.given.1 ∙ c.index.ensures.0) in
-    let unknown = rw c.in-At.is at (c.first_unknown-unknown.ensures good.0 (c.index.ensures.1 good.0 good.1)) in record {
+    let good = good_told _ (sym c.in_default.is ∙ c.index-checked.ensures.value) in
+    let unknown = rw c.in-At.is at (c.first_unknown-unknown.ensures good.0 (c.index-checked.ensures.listed good.0 good.1)) in record {
       tests_done = unknown_refuses _ _ good.1 unknown.1 unknown.2;
-      listed = c.index.ensures.1;
+      listed = c.index-checked.ensures.listed;
     }
 
 pub returns-in-StuckAt : goal.returns-in-StuckAt
 returns-in-StuckAt c =
-    let good = good_told _ (sym c.enum_told.given.1 ∙ c.index.ensures.0) in
-    let all_Known = rw c.in_default-unknown.is at (c.first_unknown-unknown.ensures good.0 (c.index.ensures.1 good.0 good.1)) in
+    let good = good_told _ (sym c.in_default.is ∙ c.index-checked.ensures.value) in
+    let all_known = rw c.in_default-unknown.is at (c.first_unknown-unknown.ensures good.0 (c.index-checked.ensures.listed good.0 good.1)) in
     let is = stuck_told _ _ (sym c.in-StuckAt.is ∙ c.test-tested.ensures) in record {
-      tests_done = stuck_refuses _ _ good.1 all_Known is.1 is.2;
-      listed = c.index.ensures.1;
+      tests_done = stuck_refuses _ _ good.1 all_known is.1 is.2;
+      listed = c.index-checked.ensures.listed;
     }
 
 pub returns : goal.returns
 returns c =
-    let good = good_told _ (sym c.enum_told.given.1 ∙ c.index.ensures.0) in
-    let all_Known = rw c.in_default-unknown.is at (c.first_unknown-unknown.ensures good.0 (c.index.ensures.1 good.0 good.1)) in
+    let good = good_told _ (sym c.in_default.is ∙ c.index-checked.ensures.value) in
+    let all_known = rw c.in_default-unknown.is at (c.first_unknown-unknown.ensures good.0 (c.index-checked.ensures.listed good.0 good.1)) in
     let is = whole_told _ _ (sym c.in_default-tested.is ∙ c.test-tested.ensures) in record {
-      tests_done = record { ns = good.0; names_are = good.1; known = all_Known; row = is.0; parsed = is.1 };
-      listed = c.index.ensures.1;
+      tests_done = record { ns = good.0; names_are = good.1; known = all_known; row = is.0; parsed = is.1 };
+      listed = c.index-checked.ensures.listed;
     }

@@ -5,7 +5,7 @@ use mathlib.Core.Path.{◌≡◌, refl, sym, ap, ◌∙◌}
 use mathlib.Core.Bool.{Bool, true, false, ◌&&◌, and-false, false≢true}
 use mathlib.Core.List.{List, [], ◌∷◌, ◌++◌, append-nil, append_assoc}
 use mathlib.Core.Logic.{⊎_elim}
-use Prim.Native.Nat.{ℕ, ◌≤◌, ◌<◌, ◌-◌}
+use Prim.Native.Nat.{ℕ, ◌≤◌, ◌<◌}
 use native.Mathlib.Nat.{sub_self}
 use native.Mathlib.Omega.{arith}
 use lib.ListN.{length, drop}
@@ -14,10 +14,11 @@ use Rattle.eqn_tokens.specs.Tokens.{Token, tokens_from, tokens_in}
 use Rattle.eqn_tokens.specs.declared.tokens.Token as code
 use Rattle.eqn_tokens.specs.Values.{kind_as, TokenAt}
 use Rattle.eqn_tokens.specs.PlacesLaws.{nil_cons, token_ordered, token_last, token_moves}
-use Rattle.eqn_grammar.specs.Splits.{level_after, begins_operand, ends_operand, ended_after, first_from, first_expression}
+use Rattle.eqn_grammar.specs.Splits.{level_after, begins_operand, ends_operand, ended_after, first_from}
 use Rattle.eqn_cuts.specs.Values.{kind_token, EndsToken, ExpressionEnds}
-use Rattle.eqn_cuts.specs.CutLaws.{between, Boundary, boundary_first, none_behind, alike, Passes, Stops, turn_boundary, turn, level_grows}
+use Rattle.eqn_cuts.specs.CutLaws.{between, boundary_first, none_behind, alike, Passes, Stops, turn_boundary, turn, level_grows}
 use Rattle.eqn_grammar.specs.SplitLaws.{in_front}
+use Rattle.eqn_cuts.proofs.expression_end.Invariants.{Going}
 use Rattle.eqn_cuts.proofs.expression_end.Goals as goal
 
 -- ---- one token
@@ -32,13 +33,6 @@ module _ (n : ℕ) (ended : Bool) (t : Token) (us : List Token) where
   first_goes front e = rw (e, first_from, append_assoc)
 
 -- ---- the loop
-record Going (s : List ℕ) (from at level : ℕ) (ended : Bool) : Type 0 where
-  boundary : Boundary s from at
-  low : level ≤ at
-  begun : ended ≡ true → from < at
-  tight : from < at → at < length s → EndsToken s at
-  so_far : first_expression (tokens_in (drop from s)) ≡ in_front (tokens_in (between s from at)) (first_from level ended (tokens_in (drop at s)))
-
 going_first : (s : List ℕ) {from : ℕ} → from ≤ length s → Going s from from 0 false
 unfolding tokens_from
 going_first s {from} l =

@@ -6,12 +6,12 @@ use mathlib.Core.Bool.{Bool, true, false, ◌&&◌, and-false, true≢false, fal
 use mathlib.Core.List.{List, [], ◌∷◌, ◌++◌, append-nil, append_assoc}
 use mathlib.Core.Logic.{inl, inr, ⊎_elim}
 use mathlib.Core.Option.{Option, none, some}
-use Prim.Native.Nat.{ℕ, zero, suc, ◌≤◌, ◌<◌, ◌-◌}
+use Prim.Native.Nat.{ℕ, zero, suc, ◌≤◌, ◌<◌}
 use native.Mathlib.Nat.{le_refl, sub-zero}
 use native.Mathlib.Omega.{arith}
 use borrow.Author.Tests.{eqb-true, ltb-true, ltb-false, lt-ltb, le-ltb}
 use lib.Dec.{eqb, ltb}
-use lib.ListN.{length, take, drop}
+use lib.ListN.{length, drop}
 use Rattle.laws.specs.Truths.{by_test, both_true}
 use Rattle.eqn_tokens.specs.Tokens.{Token, keyword_bytes, tokens_from, tokens_in}
 use Rattle.eqn_tokens.specs.declared.tokens.TokenKind.{TokenKind}
@@ -21,25 +21,14 @@ use Rattle.eqn_tokens.specs.Values.{kind_as, IsSpelled, TokenAt}
 use Rattle.eqn_tokens.specs.PlacesLaws.{token_separators, token_moves}
 use Rattle.eqn_grammar.specs.Splits.{level_after, keyword_number, is_this_keyword, with_front, last_from, last_outside}
 use Rattle.eqn_cuts.specs.Values.{kind_token, StandsAt, SplitAt}
-use Rattle.eqn_cuts.specs.CutLaws.{between, Boundary, boundary_first, none_behind, taken_tokens, start_place, alike, Passes, Stops, turn_boundary, turn, level_grows}
+use Rattle.eqn_cuts.specs.CutLaws.{between, boundary_first, none_behind, taken_tokens, start_place, alike, Passes, Stops, turn_boundary, turn, level_grows}
 use Rattle.eqn_tokens.specs.declared.tokens.Keyword.{Keyword}
 use Rattle.eqn_tokens.specs.declared.tokens.Keyword.TheVariants.{Sub, Sup, Over, From, To}
+use Rattle.eqn_cuts.proofs.last_outside.Invariants.{TwoSides, or_else, latest, sides_at, Passing}
 use Rattle.eqn_cuts.proofs.last_outside.Goals as goal
-
-abbrev TwoSides : Type 0
-TwoSides = List Token × List Token
+use Rattle.eqn_cuts.proofs.last_outside.Goals.{then-level-is_this_keyword, else-level-is_this_keyword}
 
 -- ---- one token
--- parts that are found, or else what has been found
-abbrev or_else : Bool → TwoSides → Option TwoSides → Option TwoSides
-or_else true p found = some p
-or_else false p found = found
-
--- what is found in all, by what is found in the rest behind some tokens
-abbrev latest : List Token → Option TwoSides → Option TwoSides → Option TwoSides
-latest front found (some p) = some (front ++ p.0, p.1)
-latest front found none = found
-
 latest_all : (r : Option TwoSides) → r ≡ latest [] none r
 latest_all none = refl
 latest_all (some p) = refl
@@ -82,18 +71,6 @@ keyword_there j Other e h = absurd (false≢true e)
 keyword_there j End e h = absurd (false≢true e)
 
 -- ---- the loop
--- the parts at a keyword that starts before the end of the text
-abbrev sides_at : List ℕ → ℕ → ℕ → Option TwoSides
-sides_at s start end = or_else (ltb start (length s)) (tokens_in (take start s), tokens_in (drop end s)) none
-
-record Passing (s : List ℕ) (j : Keyword) (at level start end : ℕ) : Type 0 where
-  boundary : Boundary s 0 at
-  low : level ≤ at
-  ordered : start ≤ end
-  within : end ≤ length s
-  stands : start < length s → StandsAt s j start end
-  so_far : last_outside j (tokens_in s) ≡ latest (tokens_in (between s 0 at)) (sides_at s start end) (last_from j level (tokens_in (drop at s)))
-
 passing_first : (s : List ℕ) (j : Keyword) → Passing s j 0 0 (length s) (length s)
 unfolding tokens_from
 passing_first s j =
@@ -186,8 +163,12 @@ loop-at-preserved c =
     let token = c.token_at-token.ensures in
     let inside = c.loop-at-test.true in
     rw c.level_after-level.ensures
-    (⊎_elim (λ w. rw (w.1, w.2) (passing_here inv token inside (rw c.is_this_keyword.ensures at w.0.taken)))
-    (λ w. rw (w.1, w.2) (passing_on inv token inside (rw c.is_this_keyword.ensures at w.0.left))) c.if-level-is_this_keyword.branch)
+    (elim c.if-level-is_this_keyword.branch [
+      | then-level-is_this_keyword w ↦
+          rw (w.start-is, w.end-is) (passing_here inv token inside (rw c.is_this_keyword.ensures at w.if-level-is_this_keyword.true))
+      | else-level-is_this_keyword w ↦
+          rw (w.start-is, w.end-is) (passing_on inv token inside (rw c.is_this_keyword.ensures at w.if-level-is_this_keyword.false))
+    ])
 
 pub returns : goal.returns
 returns c = passed_all c.loop-at.invariant c.loop-at-test.false

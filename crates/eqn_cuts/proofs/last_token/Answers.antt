@@ -2,36 +2,25 @@
 -- Assumes nothing.
 use mathlib.Core.Path.{◌≡◌, refl, sym, ap, ◌∙◌}
 use mathlib.Core.List.{List, [], ◌∷◌, ◌++◌, append-nil, drop_last}
-use mathlib.Core.Logic.{◌⊎◌, inl, inr, ⊎_elim}
-use Prim.Native.Nat.{ℕ, ◌≤◌, ◌<◌, ◌-◌}
+use mathlib.Core.Logic.{inl, inr, ⊎_elim}
+use Prim.Native.Nat.{ℕ, ◌<◌}
 use native.Mathlib.Nat.{sub-zero}
 use native.Mathlib.Omega.{arith}
-use types.Run.{miss}
 use lib.ListN.{length, take, drop, length-append}
 use Rattle.eqn_tokens.specs.declared.tokens.TokenKind.TheVariants.{End}
 use Rattle.eqn_tokens.specs.declared.tokens.Token as code
 use Rattle.eqn_tokens.specs.Values.{TokenAt}
 use Rattle.eqn_tokens.specs.PlacesLaws.{nil_cons, token_separators, token_moves}
-use Rattle.eqn_tokens.specs.Tokens.{Token, tokens_from, tokens_in, place_in}
+use Rattle.eqn_tokens.specs.Tokens.{Token, tokens_from, tokens_in}
 use Rattle.eqn_cuts.specs.Values.{LastStarts}
-use Rattle.eqn_cuts.specs.CutLaws.{between, Boundary, boundary_first, boundary_tokens, none_behind, taken_tokens, start_place, turn_boundary, turn}
+use Rattle.eqn_cuts.specs.CutLaws.{between, boundary_first, boundary_tokens, none_behind, taken_tokens, start_place, turn_boundary, turn}
+use Rattle.eqn_cuts.proofs.last_token.Invariants.{LastBefore}
 use Rattle.eqn_cuts.proofs.last_token.Goals as goal
 
-drop_last : (ts : List Token) (t : Token) → drop_last (ts ++ (t ∷ [])) ≡ ts
-drop_last [] t = refl
-drop_last (u ∷ []) t = refl
-drop_last (u ∷ v ∷ ts) t = ap (λ (us : List Token). u ∷ us) (drop_last (v ∷ ts) t)
-
--- there is no token before a place, and then none was found; or the last one found starts at its own place
-abbrev LastFound : List ℕ → ℕ → ℕ → Type 0
-LastFound s at last =
-    ((tokens_in (between s 0 at) ≡ []) × (last ≡ 0)) ⊎ ((tokens_in (between s 0 at) ≡ [] → ⊥) × (last ≡ place_in (length (tokens_in (take last s))) s))
-
-record LastBefore (s : List ℕ) (at last : ℕ) : Type 0 where
-  boundary : Boundary s 0 at
-  within : last ≤ length s
-  before : drop_last (tokens_in (between s 0 at)) ≡ tokens_in (take last s)
-  found : LastFound s at last
+drop_last_one : (ts : List Token) (t : Token) → drop_last (ts ++ (t ∷ [])) ≡ ts
+drop_last_one [] t = refl
+drop_last_one (u ∷ []) t = refl
+drop_last_one (u ∷ v ∷ ts) t = ap (λ (us : List Token). u ∷ us) (drop_last_one (v ∷ ts) t)
 
 last_first : (s : List ℕ) → LastBefore s 0 0
 unfolding tokens_from
@@ -46,7 +35,7 @@ last_next {s} {at} {last} {t} b f l no_end =
       before =
           ⊎_elim
           (λ p.
-          ap drop_last p.front ∙ drop_last (tokens_in (between s 0 at)) _
+          ap drop_last p.front ∙ drop_last_one (tokens_in (between s 0 at)) _
           ∙ ap tokens_in (ap (λ (n : ℕ). take n s) (sub-zero at))
           ∙ sym (taken_tokens (token_separators f)))
           (λ p. absurd (no_end p.is))
@@ -64,7 +53,7 @@ last_ended {s} {at} {last} b e =
     let all : tokens_in s ≡ tokens_in (between s 0 at) = boundary_tokens b.boundary ∙ rw (e, append-nil) in
     record {
       within = b.within;
-      before = λ t ts is. sym b.before ∙ ap drop_last (sym all ∙ is) ∙ drop_last ts t;
+      before = λ t ts is. sym b.before ∙ ap drop_last (sym all ∙ is) ∙ drop_last_one ts t;
       first = λ t ts is. ⊎_elim (λ n. absurd (nil_cons (sym n.0 ∙ sym all ∙ is))) (λ y. y.1) b.found;
       none_is = λ is. ⊎_elim (λ n. n.1) (λ y. absurd (y.0 (sym all ∙ is))) b.found;
     }
@@ -78,7 +67,7 @@ loop-at-smaller c = omega (arith, token_moves c.token_at-token.ensures c.loop-at
 pub loop-at-preserved : goal.loop-at-preserved
 loop-at-preserved c =
     last_next c.loop-at.invariant c.token_at-token.ensures c.loop-at-test.true
-    (λ is. miss (0 ∷ 1 ∷ 2 ∷ 3 ∷ 4 ∷ []) 5 tt (rw is at c.in_default.in_default-own.keys2))
+    c.in_default.not-End
 
 pub returns-in-loop-at : goal.returns-in-loop-at
 returns-in-loop-at c = last_ended c.loop-at.invariant (rw c.in-End.is at c.token_at-token.ensures.tokens)

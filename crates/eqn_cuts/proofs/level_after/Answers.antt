@@ -1,31 +1,25 @@
 -- `level_after` meets its contract: braces alone change the level (`others`).
 -- Assumes nothing.
 use mathlib.Core.Path.{◌≡◌, refl, ◌∙◌}
-use mathlib.Core.List.{List, [], ◌∷◌}
 use Prim.Native.Nat.{ℕ, zero, suc, ◌-◌}
 use native.Mathlib.Nat.{sub-zero, suc-sub-suc}
 use native.Mathlib.Numerals.{add-one}
-use denote.Enum.Declared.{tag_of}
-use types.Run.{OneOf, miss}
 use Rattle.eqn_tokens.specs.declared.tokens.TokenKind.{TokenKind}
 use Rattle.eqn_tokens.specs.declared.tokens.TokenKind.TheVariants.{Word, Keyword as Joining, Open, Close, Other, End}
-use Rattle.eqn_tokens.specs.contracts.tokens.TokenKind.{the_type}
 use Rattle.eqn_grammar.specs.Splits.{level_after, one_less}
 use Rattle.eqn_cuts.specs.Values.{kind_token}
 use Rattle.eqn_cuts.proofs.level_after.Goals as goal
 
 -- no brace, as the code's test tells it
-abbrev numbers : List ℕ
-numbers = 0 ∷ 1 ∷ 4 ∷ 5 ∷ []
-
-abbrev NoBrace : TokenKind → Type 0
-NoBrace kind = OneOf numbers (tag_of the_type kind)
+record NoBrace (kind : TokenKind) : Type 0 where
+  not_open : kind ≡ Open → ⊥
+  not_close : kind ≡ Close → ⊥
 
 others : (level : ℕ) (kind : TokenKind) → NoBrace kind → level ≡ level_after level (kind_token kind)
 others level Word no-brace = refl
 others level (Joining k) no-brace = refl
-others level Open no-brace = absurd (miss numbers 2 tt no-brace)
-others level Close no-brace = absurd (miss numbers 3 tt no-brace)
+others level Open no-brace = absurd (no-brace.not_open refl)
+others level Close no-brace = absurd (no-brace.not_close refl)
 others level Other no-brace = refl
 others level End no-brace = refl
 
@@ -42,4 +36,4 @@ returns-else-level-eq0 c =
     rw c.in-Close.is (one_less_lem level)
 
 pub returns-in_default : goal.returns-in_default
-returns-in_default c = let args = c.args in others args.level args.kind c.in_default.in_default-own.keys3
+returns-in_default c = let args = c.args in others args.level args.kind (record { not_open = c.in_default.not-Open; not_close = c.in_default.not-Close })

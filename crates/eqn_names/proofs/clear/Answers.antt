@@ -1,22 +1,17 @@
 -- `clear` meets its contract: the places that the loop has passed have the end.
 -- Assumes nothing.
-use mathlib.Core.Path.{◌≡◌, ap, ◌∙◌}
-use mathlib.Core.Bool.{true, false}
-use Prim.Native.Nat.{ℕ, ◌+◌, ◌-◌, ◌≤◌, ◌<◌}
+use mathlib.Core.Path.{ap, ◌∙◌}
+use Prim.Native.Nat.{ℕ, ◌+◌, ◌<◌}
 use native.Mathlib.Omega.{arith}
 use borrow.Author.Tests.{eqb-true, eqb-false}
 use lib.Dec.{eqb}
 use mathlib.Core.List.{List}
-use lib.ListN.{length, get_or, set, length-set}
+use lib.ListN.{get_or, set, length-set}
 use lib.Seq.{get_or-set_same, get_or-set_other}
 use Rattle.laws.specs.Truths.{by_test}
 use Rattle.eqn_names.specs.Firsts.{places}
+use Rattle.eqn_names.proofs.clear.Invariants.{Cleared}
 use Rattle.eqn_names.proofs.clear.Goals as goal
-
-record Cleared (f : List ℕ) (end h : ℕ) : Type 0 where
-  long : length f ≡ places
-  within : h ≤ places
-  done : (k : ℕ) → k < h → get_or f k 0 ≡ end
 
 cleared_next : {f : List ℕ} {end h : ℕ} → Cleared f end h → h < places → Cleared (set f h end) end (h + 1)
 cleared_next {f} {end} {h} c l =

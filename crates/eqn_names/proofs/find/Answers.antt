@@ -6,6 +6,7 @@ use Rattle.eqn_names.proofs.find.Goals as goal
 
 pub returns : goal.returns
 returns c =
+    λ ns l.
     let args = c.args in
     let w = args.word.now in
     let from : From args.names.now ns w (get_or args.firsts.now c.hash-h.result 0) = rw c.hash-h.ensures.0 (l.firsts w) in

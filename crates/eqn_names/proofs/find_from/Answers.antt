@@ -3,7 +3,7 @@
 use mathlib.Core.Path.{◌≡◌, refl, sym, ap, ◌∙◌}
 use mathlib.Core.List.{List}
 use mathlib.Core.Option.{some}
-use Prim.Native.Nat.{ℕ, ◌-◌}
+use Prim.Native.Nat.{ℕ}
 use Rattle.eqn_tokens.specs.Bytes.{same}
 use Rattle.eqn_tokens.specs.BytesLaws.{same_is}
 use Rattle.eqn_names.specs.Names.{named}
@@ -28,7 +28,7 @@ returns-then-are_same c =
     let own = compared ∙ c.if-are_same.true in
     λ ns r.
     sym
-    (passed_found _ _ c.loop-at.inv (there) (λ ms. named_first _ ms word own) ns r
+    (passed_found _ _ c.loop-at.invariant (there) (λ ms. named_first _ ms word own) ns r
     ∙ ap (λ (w : List ℕ). some (name_as w c.in-Record.symbol)) (same_is _ word own))
 
 pub loop-at-preserved : goal.loop-at-preserved
@@ -38,7 +38,7 @@ loop-at-preserved c =
     same (name_at args.names.now c.loop-at.at c.in-Record.n c.in-Record.symbol).bytes args.word.now
     ≡ c.are_same.result) = let args = c.args in
     ap (λ (w : List ℕ). same w args.word.now) (sym (name_bytes args.names.now c.loop-at.at c.in-Record.n)) ∙ sym c.are_same.ensures in
-    passed_next _ _ c.loop-at.inv (there)
+    passed_next _ _ c.loop-at.invariant (there)
     (λ ms. named_next _ ms c.args.word.now (compared ∙ c.if-are_same.false))
 
 pub returns : goal.returns

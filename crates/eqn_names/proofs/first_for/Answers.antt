@@ -2,7 +2,7 @@
 -- Assumes nothing.
 use mathlib.Core.Path.{◌≡◌, refl, sym, ap, ap₂, ◌∙◌}
 use mathlib.Core.Option.{Option}
-use Prim.Native.Nat.{ℕ, ◌-◌}
+use Prim.Native.Nat.{ℕ}
 use native.Mathlib.Omega.{arith}
 use Rattle.eqn_names.specs.Names.{Name, first_for, first_place, asked_as}
 use Rattle.eqn_names.specs.NamesLaws.{is_for, first_here, first_next, place_here, place_next}
@@ -14,15 +14,6 @@ returns-in_default c =
     let absent = steps_not c.args.names.now c.loop-at.at c.next_record-front.ensures c.in_default.is in
     λ ns r. absurd (passed_stopped _ _ c.loop-at.invariant c.loop-at-test.true absent ns (ns, r, refl))
 
--- whether it is for the symbol
-fitting : (c : tie.After-fits2 invariant-loop decreases-loop) →
-    let told = c.before in
-    let loop = loop-of told in
-    let args = loop.before.before.args in
-    let given = told.before.front.given.0 in
-    is_for args.family args.code (asked_as args.class) (name_at args.names.now loop.loop.at given.0 given.1.0) ≡ c.fits2.result
-fitting c = sym c.fits2.ensures
-
 -- what is found there, and its place
 both : {o p : Option Name} {i k : ℕ} → o ≡ p → i ≡ k → ◌≡◌ {A = Option Name × ℕ} (o, i) (p, k)
 both e f = ap₂ (λ (o : Option Name) (i : ℕ). (o, i)) e f
@@ -32,20 +23,20 @@ returns-then-fits c =
     let there : Steps c.args.names.now c.loop-at.at c.in-Record.n c.in-Record.symbol = steps c.loop-at-test.true c.next_record-front.ensures c.in-Record.is in
     let args = c.args in
     let stood = there in
-    let given = c.front-1.given.0 in
-    let fits = fitting c.before.before ∙ c.if-fits.true in
+    let fitting : is_for args.family args.code (asked_as args.class) (name_at args.names.now c.loop-at.at c.in-Record.n c.in-Record.symbol) ≡ c.fits.result = sym c.fits.ensures in
+    let fits = fitting ∙ c.if-fits.true in
     let asked = asked_as args.class in
     let at = c.loop-at.at in
-    let m = name_at args.names.now at given.0 given.1.0 in
+    let m = name_at args.names.now at c.in-Record.n c.in-Record.symbol in
     λ ns r.
     let found =
-    passed_found _ _ c.loop-at.inv stood
+    passed_found _ _ c.loop-at.invariant stood
     (λ ms. both (first_here args.family args.code asked m ms fits) (place_here args.family args.code asked at m ms fits)) ns (ns, r, refl) in (
       m,
       ap (λ (p : Option Name × ℕ). p.0) found,
       omega arith,
       omega (arith, stood.room),
-      sym (name_bytes args.names.now at given.0),
+      sym (name_bytes args.names.now at c.in-Record.n),
       omega (arith, ap (λ (p : Option Name × ℕ). p.1) found),
     )
 
@@ -53,12 +44,12 @@ pub loop-at-preserved : goal.loop-at-preserved
 loop-at-preserved c =
     let there : Steps c.args.names.now c.loop-at.at c.in-Record.n c.in-Record.symbol = steps c.loop-at-test.true c.next_record-front.ensures c.in-Record.is in
     let args = c.args in
-    let given = c.front-1.given.0 in
-    let fails = fitting c.before.before ∙ c.if-fits.false in
+    let fitting : is_for args.family args.code (asked_as args.class) (name_at args.names.now c.loop-at.at c.in-Record.n c.in-Record.symbol) ≡ c.fits.result = sym c.fits.ensures in
+    let fails = fitting ∙ c.if-fits.false in
     let asked = asked_as args.class in
     let at = c.loop-at.at in
-    let m = name_at args.names.now at given.0 given.1.0 in
-    passed_next _ _ c.loop-at.inv (there)
+    let m = name_at args.names.now at c.in-Record.n c.in-Record.symbol in
+    passed_next _ _ c.loop-at.invariant (there)
     (λ ms. both (first_next args.family args.code asked m ms fails) (place_next args.family args.code asked at m ms fails))
 
 pub returns : goal.returns

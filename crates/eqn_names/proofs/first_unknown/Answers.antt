@@ -4,16 +4,16 @@ use mathlib.Core.Path.{◌≡◌, sym, ap, ◌∙◌}
 use mathlib.Core.Bool.{not}
 use mathlib.Core.List.{List}
 use mathlib.Core.Option.{Option}
-use Prim.Native.Nat.{◌-◌}
+use native.Mathlib.Omega.{arith}
 use Rattle.eqn_names.specs.declared.WordSymbol.{WordSymbol}
 use Rattle.eqn_names.specs.Names.{Name, is_there}
 use Rattle.eqn_names.specs.Firsts.{Listed}
 use Rattle.eqn_names.specs.Unknown.{is_unknown}
 use Rattle.eqn_tokens.specs.Values.{kind_as}
 use Rattle.eqn_names.specs.Values.{found_as}
-use Rattle.eqn_tokens.specs.PlacesLaws.{bytes_of, word_proper}
+use Rattle.eqn_tokens.specs.PlacesLaws.{bytes_of, word_proper, token_moves}
 use Rattle.eqn_names.proofs.KindLaws.{plain}
-use Rattle.eqn_names.proofs.UnknownLaws.{looked_next, looked_found}
+use Rattle.eqn_names.proofs.UnknownLaws.{looked_next, looked_found, looked_all}
 use Rattle.eqn_names.proofs.first_unknown.Goals as goal
 
 pub returns-in_default-found : goal.returns-in_default-found
@@ -45,5 +45,11 @@ loop-at-preserved c = (
   c.token_at-token.ensures.within,
   λ ns r.
       looked_next ns _ (c.loop-at.invariant.1 ns r) c.token_at-token.ensures
-      ((plain c.token_at-token.result.kind c.in_default.in_default-own.keys2).known ns _),
+      ((plain c.token_at-token.result.kind c.in_default.not-Word).known ns _),
 )
+
+pub loop-at-smaller : goal.loop-at-smaller
+loop-at-smaller c = omega (arith, token_moves c.token_at-token.ensures (omega arith))
+
+pub returns : goal.returns
+returns c = λ ns r. looked_all ns _ (c.loop-at.invariant.1 ns r) c.loop-at-test.false

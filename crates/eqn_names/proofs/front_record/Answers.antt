@@ -38,16 +38,13 @@ returns-then-s-n c =
     sym (front_absent s (λ f. omega (arith, f.room, length-drop 1 s)))
 
 -- the last test, of the bytes behind the first
-abbrev tested : tie.After-are-word-bytes → Bool
-tested c = c.before.before.is-symbol.result && c.are-word-bytes.result
-
 abbrev told : List ℕ → ℕ → Bool
 told r n = (leb (get_or r n 0) greatest_family && leb (get_or r (n + 2) 0) greatest_class) && all_word_bytes (take n r)
 
 pub returns-then-is_symbol-are_word_bytes : goal.returns-then-is_symbol-are_word_bytes
 returns-then-is_symbol-are_word_bytes c =
     let last-test : (let s = c.args.s.now in
-    tested c.before ≡ told (drop 1 s) (get_or s 0 0)) = let s = c.args.s.now in
+    (c.is_symbol.result && c.are_word_bytes.result) ≡ told (drop 1 s) (get_or s 0 0)) = let s = c.args.s.now in
     let n = get_or s 0 0 in
     let long : n + 1 - 1 ≡ n = omega arith in
     let symbol : c.is_symbol.result ≡ (leb (get_or (drop 1 s) n 0) greatest_family && leb (get_or (drop 1 s) (n + 2) 0) greatest_class) =
@@ -76,7 +73,7 @@ returns-then-is_symbol-are_word_bytes c =
 pub returns : goal.returns
 returns c =
     let last-test : (let s = c.args.s.now in
-    tested c.before ≡ told (drop 1 s) (get_or s 0 0)) = let s = c.args.s.now in
+    (c.is_symbol.result && c.are_word_bytes.result) ≡ told (drop 1 s) (get_or s 0 0)) = let s = c.args.s.now in
     let n = get_or s 0 0 in
     let long : n + 1 - 1 ≡ n = omega arith in
     let symbol : c.is_symbol.result ≡ (leb (get_or (drop 1 s) n 0) greatest_family && leb (get_or (drop 1 s) (n + 2) 0) greatest_class) =

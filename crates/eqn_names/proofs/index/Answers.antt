@@ -5,7 +5,6 @@ use mathlib.Core.Bool.{not, ◌&&◌}
 use mathlib.Core.List.{List, [], ◌∷◌, ◌++◌}
 use Prim.Native.Nat.{ℕ, ◌+◌, ◌-◌, ◌≤◌}
 use native.Mathlib.Omega.{arith}
-use borrow.Author.Tests.{not-true, not-false}
 use lib.ListN.{length, take, drop, get_or}
 use lib.Seq.{length-take-le}
 use Rattle.eqn_names.specs.Names.{Name, record_bytes, is_keyword, named, is_there, is_new}
@@ -28,48 +27,51 @@ returns-in_default c =
     let both = told_bad s
     (tested_bad s c.loop-at.invariant.1 c.loop-at-test.true (front_told c.loop-at.at s c.front_record-front.ensures c.in_default.is)) in record { value = both.0; listed = both.1 }
 
-abbrev names_of : tie.After-known-told invariant-loop decreases-loop → List ℕ
-names_of c = (loop-of c).before.before.before.before.args.names.now
+pub overflow_add-end : goal.overflow_add-end
+overflow_add-end c =
+    let there : Stands c.args.names.now c.loop-at.at c.in-Record.n c.in-Record.field-1 = stands c.loop-at-test.true c.front_record-front.ensures c.in-Record.is in
+    omega (arith, there.room)
 
--- its record
-abbrev name_of : tie.After-known-told invariant-loop decreases-loop → Name
-name_of c = name_at (names_of c) (loop-of c).loop.at c.before.front.given.0.0 c.before.front.given.0.1.0
+pub slice_bounds-hash-end : goal.slice_bounds-hash-end
+slice_bounds-hash-end c =
+    let there : Stands c.args.names.now c.loop-at.at c.in-Record.n c.in-Record.field-1 = stands c.loop-at-test.true c.front_record-front.ensures c.in-Record.is in
+    omega (arith, there.room)
 
 -- the bytes before the record are lent
 pub slice_bounds-is_new-end : goal.slice_bounds-is_new-end
 slice_bounds-is_new-end c =
-    sym (length-take-le c.loop-at.at (names_of c.before.before.before.before) c.loop-at.invariant.1.within)
+    sym (length-take-le c.loop-at.at c.args.names.now c.loop-at.invariant.1.within)
 
 pub returns-then-not-is_new : goal.returns-then-not-is_new
 returns-then-not-is_new c =
-    let there : Stands (names_of c.before) c.loop-at.at c.in-Record.n c.in-Record.field-1 = stands c.loop-at-test.true c.front_record-front.ensures c.in-Record.is in
-    let asked : is_new c.loop-at.invariant.0 (name_of c.before.before.before.before.before.before.before) ≡ c.is_new.result = let loop = c.loop-at in
-    let s = names_of c.before.before.before.before.before.before.before in
+    let there : Stands c.args.names.now c.loop-at.at c.in-Record.n c.in-Record.field-1 = stands c.loop-at-test.true c.front_record-front.ensures c.in-Record.is in
+    let asked : is_new c.loop-at.invariant.0 (name_at c.args.names.now c.loop-at.at c.in-Record.n c.in-Record.field-1) ≡ c.is_new.result = let loop = c.loop-at in
+    let s = c.args.names.now in
     let w = take (loop.at + 1 + c.in-Record.n - (loop.at + 1)) (drop (loop.at + 1) s) in
-    let before = loop.inv.0 in
-    let from : From (take loop.at s) before w (get_or loop.firsts c.hash-h.result 0) = rw c.hash-h.ensures.0 (loop.inv.2.from w) in
+    let before = loop.invariant.0 in
+    let from : From (take loop.at s) before w (get_or loop.firsts c.hash-h.result 0) = rw c.hash-h.ensures.0 (loop.invariant.2.from w) in
     ap (λ (v : List ℕ). not (is_keyword v) && not (is_there (named before v))) (sym (name_bytes s loop.at c.in-Record.n))
     ∙ sym (c.is_new.ensures before from) in
-    let both = told_bad (names_of c.before.before.before.before.before.before.before.before) (tested_old _ c.loop-at.invariant.1 (there) (asked ∙ not-true _ c.if-not-is_new.true-raw)) in record { value = both.0; listed = both.1 }
+    let both = told_bad c.args.names.now (tested_old _ c.loop-at.invariant.1 (there) (asked ∙ c.if-not-is_new.true)) in record { value = both.0; listed = both.1 }
 
 pub loop-at-preserved : goal.loop-at-preserved
 loop-at-preserved c =
-    let there : Stands (names_of c.before) c.loop-at.at c.in-Record.n c.in-Record.field-1 = stands c.loop-at-test.true c.front_record-front.ensures c.in-Record.is in
-    let asked : is_new c.loop-at.invariant.0 (name_of c.before.before.before.before.before.before.before) ≡ c.is_new.result = let loop = c.loop-at in
-    let s = names_of c.before.before.before.before.before.before.before in
+    let there : Stands c.args.names.now c.loop-at.at c.in-Record.n c.in-Record.field-1 = stands c.loop-at-test.true c.front_record-front.ensures c.in-Record.is in
+    let asked : is_new c.loop-at.invariant.0 (name_at c.args.names.now c.loop-at.at c.in-Record.n c.in-Record.field-1) ≡ c.is_new.result = let loop = c.loop-at in
+    let s = c.args.names.now in
     let w = take (loop.at + 1 + c.in-Record.n - (loop.at + 1)) (drop (loop.at + 1) s) in
-    let before = loop.inv.0 in
-    let from : From (take loop.at s) before w (get_or loop.firsts c.hash-h.result 0) = rw c.hash-h.ensures.0 (loop.inv.2.from w) in
+    let before = loop.invariant.0 in
+    let from : From (take loop.at s) before w (get_or loop.firsts c.hash-h.result 0) = rw c.hash-h.ensures.0 (loop.invariant.2.from w) in
     ap (λ (v : List ℕ). not (is_keyword v) && not (is_there (named before v))) (sym (name_bytes s loop.at c.in-Record.n))
     ∙ sym (c.is_new.ensures before from) in
-    let hashed : c.hash-h.result ≡ hash_of (name_of c.before.before.before).bytes = c.hash-h.ensures.0 ∙ ap (λ (w : List ℕ). hash_of w) (name_bytes (names_of c.before.before.before) c.loop-at.at c.in-Record.n) in
+    let hashed : c.hash-h.result ≡ hash_of (name_at c.args.names.now c.loop-at.at c.in-Record.n c.in-Record.field-1).bytes = c.hash-h.ensures.0 ∙ ap (λ (w : List ℕ). hash_of w) (name_bytes c.args.names.now c.loop-at.at c.in-Record.n) in
     let loop = c.loop-at in
     let stood = there in
-    let new = asked ∙ not-false _ c.if-not-is_new.false-raw in
-    let room : loop.at + record_bytes (name_of c.before.before.before.before.before.before.before.before.before.before) ≤ length (names_of c.before.before.before.before.before.before.before.before.before.before) = omega (arith, stood.room, stood.next) in
-    let kept-is : c.keep.new.0 ≡ kept loop.firsts (hash_of (name_of c.before.before.before.before.before.before.before.before.before.before).bytes) loop.at =
+    let new = asked ∙ c.if-not-is_new.false in
+    let room : loop.at + record_bytes (name_at c.args.names.now c.loop-at.at c.in-Record.n c.in-Record.field-1) ≤ length c.args.names.now = omega (arith, stood.room, stood.next) in
+    let kept-is : c.keep.new.firsts ≡ kept loop.firsts (hash_of (name_at c.args.names.now c.loop-at.at c.in-Record.n c.in-Record.field-1).bytes) loop.at =
     c.keep.ensures ∙ ap (λ (h : ℕ). kept loop.firsts h loop.at) (hashed) in
-    (loop.inv.0 ++ (name_of c.before.before.before.before.before.before.before.before.before.before ∷ []), tested_next _ loop.inv.1 stood new, rw kept-is (rw stood.next at (indexed_next loop.inv.2 stood.there room)))
+    (loop.invariant.0 ++ ((name_at c.args.names.now c.loop-at.at c.in-Record.n c.in-Record.field-1) ∷ []), tested_next _ loop.invariant.1 stood new, rw kept-is (rw stood.next at (indexed_next loop.invariant.2 stood.there room)))
 
 pub returns : goal.returns
 returns c =

@@ -17,7 +17,7 @@ pub returns-in_default : goal.returns-in_default
 returns-in_default c =
     let w = c.args.name.now in
     let no_word : is_word (keyword_of w) ≡ false =
-    ap is_word (sym c.word_kind.ensures) ∙ (plain c.word_kind.result c.in_default.in_default-own.keys2).no_word w in
+    ap is_word (sym c.word_kind.ensures) ∙ (plain c.word_kind.result c.in_default.not-Word).no_word w in
     λ ns r. rw no_word
 
 pub returns-in-Named : goal.returns-in-Named

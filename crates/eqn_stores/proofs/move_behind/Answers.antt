@@ -7,12 +7,7 @@ use native.Mathlib.Omega.{arith}
 use lib.ListN.{length}
 use borrow.Author.Rules.{rules}
 use Rattle.eqn_stores.specs.SetsLaws.{moved_length, move_start, move_out, move_one}
-use Rattle.eqn_stores.proofs.move_behind.Reads as reads
-use Rattle.eqn_stores.proofs.move_behind.Lts as lts
 use Rattle.eqn_stores.proofs.move_behind.Goals as goal
-
-length_of : (c : lts.At-loop reads.Pre reads.Post invariant-loop decreases-loop) → length c.loop.out ≡ length c.before.args.out.now
-length_of c = let a = c.before.args in ap length c.loop.invariant.1 ∙ moved_length a.out.now a.start 2 a.n c.loop.left
 
 pub loop-left-init : goal.loop-left-init
 loop-left-init c = let a = c.args in (search rules, sym (move_start a.out.now a.start 2 a.n))
@@ -22,17 +17,16 @@ loop-left-preserved-then-from-out c =
     let a = c.args in
     let left = c.loop-left.left in
     let is = c.loop-left.invariant.1 in
-    (search rules, rw is (move_one a.out.now a.start 2 a.n left (left - 1) (omega arith) (omega arith) (omega (arith, length_of c.before.before.before.before)) (omega arith)))
+    let long : length c.loop-left.out ≡ length a.out.now = ap length is ∙ moved_length a.out.now a.start 2 a.n left in
+    (search rules, rw is (move_one a.out.now a.start 2 a.n left (left - 1) (omega arith) (omega arith) (omega arith) (omega arith)))
 
 pub loop-left-preserved : goal.loop-left-preserved
 loop-left-preserved c =
     let a = c.args in
     let left = c.loop-left.left in
     let is = c.loop-left.invariant.1 in
-    (search rules, is ∙ move_out a.out.now a.start 2 a.n left (left - 1) (omega arith) (omega (arith, length_of c.before.before.before)))
-
-pub shape_of-out : goal.shape_of-out
-shape_of-out c = length_of c.before.before
+    let long : length c.loop-left.out ≡ length a.out.now = ap length is ∙ moved_length a.out.now a.start 2 a.n left in
+    (search rules, is ∙ move_out a.out.now a.start 2 a.n left (left - 1) (omega arith) (omega arith))
 
 pub returns : goal.returns
 returns c =

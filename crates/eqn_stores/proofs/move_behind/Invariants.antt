@@ -1,5 +1,5 @@
 use mathlib.Core.Path.{◌≡◌}
-use Prim.Native.Nat.{◌-◌, ◌≤◌}
+use Prim.Native.Nat.{◌≤◌}
 use Rattle.eqn_stores.specs.SetsLaws.{moved}
 use Rattle.eqn_stores.proofs.move_behind.Given as goal
 

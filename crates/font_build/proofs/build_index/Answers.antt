@@ -14,11 +14,11 @@ sum-requires c =
     let s = c.args.s.now in
     let sound = c.requires.0 in
     let marked = c.mark_all.ensures.0 in
-    let small = running_small c.mark_all.new.1.0 (client_records s) (all_within (client_records s) sound.good) marked in
+    let small = running_small c.mark_all.new.index (client_records s) (all_within (client_records s) sound.good) marked in
     (marked.long, omega (arith, small, recorded s, few s sound))
 
 pub returns : goal.returns
 returns c =
     let s = c.args.s.now in
-    built c.mark_all.new.1.0 (client_records s) (all_within (client_records s) c.requires.0.good) c.mark_all.ensures.0 c.sum.new.0 c.sum.ensures
+    built c.mark_all.new.index (client_records s) (all_within (client_records s) c.requires.0.good) c.mark_all.ensures.0 c.sum.new.index c.sum.ensures
     ∙ ap (λ (l : List ℕ). index_of (client_records s) ++ l) (c.mark_all.ensures.1 ∙ c.clear.ensures.1)

@@ -1,5 +1,4 @@
 -- `clear` writes 0 over the words, one after the other (`Cleared`). Assumes nothing.
-use Prim.Native.Nat.{◌-◌}
 use native.Mathlib.Omega.{arith}
 use Rattle.font_build.proofs.BuildLaws.{cleared_none, cleared_more, marked_none}
 use Rattle.font_build.proofs.clear.Goals as goal

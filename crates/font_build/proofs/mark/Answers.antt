@@ -14,16 +14,15 @@ bounds-index-count c =
     let a = c.args in
     omega (arith, length-set a.index.now (c.group_at-group.result + a.code / 64) (bit_or (get_or a.index.now (c.group_at-group.result + a.code / 64) 0) (1 * 2 ^ (a.code % 64) % 2 ^ 64)), c.group_at-group.ensures, c.requires)
 
-pub bounds-index-count : goal.bounds-index-count
-bounds-index-count c = within c.before
-
 pub overflow_add-index : goal.overflow_add-index
 overflow_add-index c =
     let a = c.args in
     omega (arith, count_kept a.index.now a.size a.family a.code c.group_at-group.result (bit_or (get_or a.index.now (c.group_at-group.result + a.code / 64) 0) (1 * 2 ^ (a.code % 64) % 2 ^ 64)) (search rules), ap (λ (g : ℕ). get_or a.index.now (g + 4) 0) c.group_at-group.ensures, c.requires)
 
 pub bounds-index-count-2 : goal.bounds-index-count-2
-bounds-index-count-2 c = within c.before
+bounds-index-count-2 c =
+    let a = c.args in
+    omega (arith, length-set a.index.now (c.group_at-group.result + a.code / 64) (bit_or (get_or a.index.now (c.group_at-group.result + a.code / 64) 0) (1 * 2 ^ (a.code % 64) % 2 ^ 64)), c.group_at-group.ensures, c.requires)
 
 pub returns : goal.returns
 returns c =

@@ -37,8 +37,8 @@ pub bounds-s-at : goal.bounds-s-at
 bounds-s-at c =
     let room : (let s = c.args.s.now in
     (character_bytes * (c.loop-i.i - 1) + character_bytes ≤ length s) × (length s ≤ 65_536)) = let turn = c.loop-i in (
-      read_within c.args.s.now c.requires.0 c.shared_slice_known-1.given _ _ turn.i c.loop-i-test.true turn.invariant,
-      read_small c.args.s.now c.requires.0 c.shared_slice_known-1.given _ _ turn.i c.loop-i-test.true turn.invariant,
+      read_within c.args.s.now c.requires.0 c.type_inv.s _ _ turn.i c.loop-i-test.true turn.invariant,
+      read_small c.args.s.now c.requires.0 c.type_inv.s _ _ turn.i c.loop-i-test.true turn.invariant,
     ) in
     omega (arith, room)
 
@@ -46,8 +46,8 @@ pub overflow_add-family : goal.overflow_add-family
 overflow_add-family c =
     let room : (let s = c.args.s.now in
     (character_bytes * (c.loop-i.i - 1) + character_bytes ≤ length s) × (length s ≤ 65_536)) = let turn = c.loop-i in (
-      read_within c.args.s.now c.requires.0 c.shared_slice_known-1.given _ _ turn.i c.loop-i-test.true turn.invariant,
-      read_small c.args.s.now c.requires.0 c.shared_slice_known-1.given _ _ turn.i c.loop-i-test.true turn.invariant,
+      read_within c.args.s.now c.requires.0 c.type_inv.s _ _ turn.i c.loop-i-test.true turn.invariant,
+      read_small c.args.s.now c.requires.0 c.type_inv.s _ _ turn.i c.loop-i-test.true turn.invariant,
     ) in
     omega (arith, room)
 
@@ -55,8 +55,8 @@ pub bounds-s-at-in-loop-i : goal.bounds-s-at-in-loop-i
 bounds-s-at-in-loop-i c =
     let room : (let s = c.args.s.now in
     (character_bytes * (c.loop-i.i - 1) + character_bytes ≤ length s) × (length s ≤ 65_536)) = let turn = c.loop-i in (
-      read_within c.args.s.now c.requires.0 c.shared_slice_known-1.given _ _ turn.i c.loop-i-test.true turn.invariant,
-      read_small c.args.s.now c.requires.0 c.shared_slice_known-1.given _ _ turn.i c.loop-i-test.true turn.invariant,
+      read_within c.args.s.now c.requires.0 c.type_inv.s _ _ turn.i c.loop-i-test.true turn.invariant,
+      read_small c.args.s.now c.requires.0 c.type_inv.s _ _ turn.i c.loop-i-test.true turn.invariant,
     ) in
     omega (arith, room)
 
@@ -64,8 +64,8 @@ pub overflow_add-code : goal.overflow_add-code
 overflow_add-code c =
     let room : (let s = c.args.s.now in
     (character_bytes * (c.loop-i.i - 1) + character_bytes ≤ length s) × (length s ≤ 65_536)) = let turn = c.loop-i in (
-      read_within c.args.s.now c.requires.0 c.shared_slice_known-1.given _ _ turn.i c.loop-i-test.true turn.invariant,
-      read_small c.args.s.now c.requires.0 c.shared_slice_known-1.given _ _ turn.i c.loop-i-test.true turn.invariant,
+      read_within c.args.s.now c.requires.0 c.type_inv.s _ _ turn.i c.loop-i-test.true turn.invariant,
+      read_small c.args.s.now c.requires.0 c.type_inv.s _ _ turn.i c.loop-i-test.true turn.invariant,
     ) in
     omega (arith, room)
 
@@ -73,25 +73,25 @@ pub bounds-s-at-in-loop-i-2 : goal.bounds-s-at-in-loop-i-2
 bounds-s-at-in-loop-i-2 c =
     let room : (let s = c.args.s.now in
     (character_bytes * (c.loop-i.i - 1) + character_bytes ≤ length s) × (length s ≤ 65_536)) = let turn = c.loop-i in (
-      read_within c.args.s.now c.requires.0 c.shared_slice_known-1.given _ _ turn.i c.loop-i-test.true turn.invariant,
-      read_small c.args.s.now c.requires.0 c.shared_slice_known-1.given _ _ turn.i c.loop-i-test.true turn.invariant,
+      read_within c.args.s.now c.requires.0 c.type_inv.s _ _ turn.i c.loop-i-test.true turn.invariant,
+      read_small c.args.s.now c.requires.0 c.type_inv.s _ _ turn.i c.loop-i-test.true turn.invariant,
     ) in
     omega (arith, room)
 
 pub mark-requires : goal.mark-requires
 mark-requires c =
     let l = c.loop-i in
-    let fits = mark_fits c.args.s.now c.requires.0 c.shared_slice_known-1.given _ _ l.i c.loop-i-test.true l.invariant in
+    let fits = mark_fits c.args.s.now c.requires.0 c.type_inv.s _ _ l.i c.loop-i-test.true l.invariant in
     (l.invariant.marked.long, fits.0, fits.1, fits.2)
 
 pub loop-i-smaller : goal.loop-i-smaller
-loop-i-smaller c = omega (arith, c.loop-i-test.taken)
+loop-i-smaller c = omega (arith, c.loop-i-test.true)
 
 pub loop-i-preserved : goal.loop-i-preserved
 loop-i-preserved c =
     let l = c.loop-i in
     rw c.mark.ensures
-    (marked_from c.args.s.now c.requires.0 c.shared_slice_known-1.given _ _ l.i c.loop-i-test.taken l.inv)
+    (marked_from c.args.s.now c.requires.0 c.type_inv.s _ _ l.i c.loop-i-test.true l.invariant)
 
 pub shape_of-index : goal.shape_of-index
 shape_of-index c =

@@ -1,4 +1,3 @@
-use Prim.Native.Nat.{◌-◌}
 use Rattle.font.specs.Records.{client_records}
 use Rattle.font_build.proofs.BuildLaws.{MarkedFrom}
 use Rattle.font_build.proofs.mark_all.Given as goal

@@ -1,6 +1,5 @@
 -- `sum` goes through the counts with their sum so far (`Summing`). Assumes nothing.
 use mathlib.Core.Path.{◌≡◌}
-use Prim.Native.Nat.{◌-◌}
 use native.Mathlib.Omega.{arith}
 use Rattle.font_build.specs.Building.{group_count}
 use Rattle.font_build.proofs.BuildLaws.{summing_none, summing_more, total_small}
@@ -27,7 +26,8 @@ pub offset_bounds-index-at-in-loop-group : goal.offset_bounds-index-at-in-loop-g
 offset_bounds-index-at-in-loop-group c = omega (arith, c.loop-group-test.true)
 
 pub bounds-index-at-in-loop-group : goal.bounds-index-at-in-loop-group
-bounds-index-at-in-loop-group c = slice-read-count c.before
+bounds-index-at-in-loop-group c =
+    omega (arith, c.loop-group-test.true, c.loop-group.invariant.so.same_length, c.requires.0)
 
 pub overflow_add-before : goal.overflow_add-before
 overflow_add-before c =

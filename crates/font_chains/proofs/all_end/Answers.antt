@@ -2,7 +2,7 @@
 -- Assumes nothing.
 use mathlib.Core.Path.{refl, sym, ap, ◌∙◌}
 use mathlib.Core.Bool.{Bool, ◌&&◌}
-use Prim.Native.Nat.{◌+◌, ◌*◌, ◌-◌, ◌<◌, ◌≤◌}
+use Prim.Native.Nat.{◌+◌, ◌*◌, ◌<◌, ◌≤◌}
 use native.Mathlib.Nat.{sub-zero}
 use native.Mathlib.Omega.{arith}
 use lib.ListN.{length, drop}
@@ -31,7 +31,7 @@ ends-good-requires c =
     let inside : i < count s = omega (arith, c.loop-i-test.true) in
     let is = part_of (character_bytes * i) character_bytes s ∙ sym (record_at s i inside) in (
       c.requires.0,
-      omega (arith, c.ends-arg-1.given.2),
+      omega arith,
       omega (arith, few s c.requires.1),
       rw is (c.requires.2.each i (omega (arith, recorded s))),
     )

@@ -3,7 +3,6 @@ use mathlib.Core.Path.{◌≡◌, sym, ap, ◌∙◌}
 use mathlib.Core.Bool.{true}
 use mathlib.Core.List.{List}
 use Prim.Native.Nat.{ℕ}
-use borrow.Author.Tests.{not-true, not-false}
 use Rattle.font_records.specs.Rules.{sound_characters}
 use Rattle.font.specs.Records.{header_bytes, character_bytes, pieces, parameter_records, character_records, character_count, every, good_parameters, good_length, good_records}
 use Rattle.font.specs.Table.{good_table}
@@ -27,7 +26,7 @@ returns-then-n-gt-MOST_CHARACTERS c = sym (good-table _ ∙ stop _ _ (length_gre
 pub returns-then-not-are_parameters : goal.returns-then-not-are_parameters
 returns-then-not-are_parameters c =
     let sized : good_length c.args.table.now ≡ true = length_good _ c.if-table-n.false c.if-n-gt-MOST_CHARACTERS.false in
-    let parameters = sym c.are_parameters.ensures ∙ not-true _ c.if-not-are_parameters.true-raw in
+    let parameters = sym c.are_parameters.ensures ∙ c.if-not-are_parameters.true in
     sym (good-table _ ∙ pass _ _ (sized) ∙ stop _ _ parameters)
 
 pub returns-then-not-are_characters : goal.returns-then-not-are_characters
@@ -36,30 +35,31 @@ returns-then-not-are_characters c =
     let characters-tested : c.are_characters.result ≡ sound_characters (character_records c.args.table.now) = let t = c.args.table.now in
     c.are_characters.ensures ∙ ap (λ (s : List ℕ). sound_characters (pieces character_bytes (character_count t) s)) (rest_of header_bytes t) in
     let sized : good_length c.args.table.now ≡ true = length_good _ c.if-table-n.false c.if-n-gt-MOST_CHARACTERS.false in
-    let parameters_good : every good_parameters (parameter_records c.args.table.now) ≡ true = sym c.are_parameters.ensures ∙ not-false _ c.if-not-are_parameters.false-raw in
-    let characters = sym (characters-tested) ∙ not-true _ c.if-not-are_characters.true-raw in
+    let parameters_good : every good_parameters (parameter_records c.args.table.now) ≡ true = sym c.are_parameters.ensures ∙ c.if-not-are_parameters.false in
+    let characters = sym (characters-tested) ∙ c.if-not-are_characters.true in
     sym (good-table _ ∙ pass _ _ (sized) ∙ pass _ _ (parameters_good) ∙ stop _ _ characters)
 
 pub all_end-requires : goal.all_end-requires
+unfolding character_records character_count
 all_end-requires c =
     let characters-tested : c.are_characters.result ≡ sound_characters (character_records c.args.table.now) = let t = c.args.table.now in
     c.are_characters.ensures ∙ ap (λ (s : List ℕ). sound_characters (pieces character_bytes (character_count t) s)) (rest_of header_bytes t) in
     let sized : good_length c.args.table.now ≡ true = length_good _ c.if-table-n.false c.if-n-gt-MOST_CHARACTERS.false in
-    let parameters_good : every good_parameters (parameter_records c.args.table.now) ≡ true = sym c.are_parameters.ensures ∙ not-false _ c.if-not-are_parameters.false-raw in
-    let records_good : good_records c.args.table.now ≡ true = let characters = sym (characters-tested) ∙ not-false _ c.if-not-are_characters.false-raw in
+    let parameters_good : every good_parameters (parameter_records c.args.table.now) ≡ true = sym c.are_parameters.ensures ∙ c.if-not-are_parameters.false in
+    let records_good : good_records c.args.table.now ≡ true = let characters = sym (characters-tested) ∙ c.if-not-are_characters.false in
     good_bytes _ ∙ pass _ _ (sized) ∙ pass _ _ (parameters_good) ∙ characters in
     let t = c.args.table.now in
     let good = records_good in
     (sound_alone t good, sound_part t good, alone_followed t good c.type_inv.table)
 
 pub returns : goal.returns
-unfolding good_table
+unfolding good_table character_records character_count
 returns c =
     let characters-tested : c.are_characters.result ≡ sound_characters (character_records c.args.table.now) = let t = c.args.table.now in
     c.are_characters.ensures ∙ ap (λ (s : List ℕ). sound_characters (pieces character_bytes (character_count t) s)) (rest_of header_bytes t) in
     let sized : good_length c.args.table.now ≡ true = length_good _ c.if-table-n.false c.if-n-gt-MOST_CHARACTERS.false in
-    let parameters_good : every good_parameters (parameter_records c.args.table.now) ≡ true = sym c.are_parameters.ensures ∙ not-false _ c.if-not-are_parameters.false-raw in
-    let records_good : good_records c.args.table.now ≡ true = let characters = sym (characters-tested) ∙ not-false _ c.if-not-are_characters.false-raw in
+    let parameters_good : every good_parameters (parameter_records c.args.table.now) ≡ true = sym c.are_parameters.ensures ∙ c.if-not-are_parameters.false in
+    let records_good : good_records c.args.table.now ≡ true = let characters = sym (characters-tested) ∙ c.if-not-are_characters.false in
     good_bytes _ ∙ pass _ _ (sized) ∙ pass _ _ (parameters_good) ∙ characters in
     let t = c.args.table.now in
     let good = records_good in

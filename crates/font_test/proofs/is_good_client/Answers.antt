@@ -6,7 +6,6 @@ use mathlib.Core.Bool.{true}
 use mathlib.Core.List.{List, [], ◌∷◌}
 use Prim.Native.Nat.{ℕ}
 use native.Mathlib.Omega.{arith}
-use borrow.Author.Tests.{not-true, not-false}
 use lib.ListN.{length}
 use Rattle.font.specs.Records.{client_records, client_count, every, good_client_length, good_client_records}
 use Rattle.font.specs.Font.{font_with}
@@ -39,14 +38,15 @@ unfolding client_records client_count
 returns-then-not-are_characters c =
     let characters-tested : c.are_characters.result ≡ sound_characters (client_records c.args.client.now) = c.are_characters.ensures in
     let sized : good_client_length c.args.client.now ≡ true = client_sized _ c.if-client-n.false (omega (arith, c.if-n-gt-MOST_CLIENT_CHARACTERS.false)) in
-    let characters = sym (characters-tested) ∙ not-true _ c.if-not-are_characters.true-raw in
+    let characters = sym (characters-tested) ∙ c.if-not-are_characters.true in
     sym (good-client _ _ ∙ pass _ _ (sized) ∙ stop _ _ characters)
 
 pub all_end-requires : goal.all_end-requires
+unfolding client_records client_count
 all_end-requires c =
     let sized : good_client_length c.args.client.now ≡ true = client_sized _ c.if-client-n.false (omega (arith, c.if-n-gt-MOST_CLIENT_CHARACTERS.false)) in
     let characters-tested : c.are_characters.result ≡ sound_characters (client_records c.args.client.now) = c.are_characters.ensures in
-    let characters-good : sound_characters (client_records c.args.client.now) ≡ true = sym (characters-tested) ∙ not-false _ c.if-not-are_characters.false-raw in
+    let characters-good : sound_characters (client_records c.args.client.now) ≡ true = sym (characters-tested) ∙ c.if-not-are_characters.false in
     let client_good : good_client_records c.args.client.now ≡ true = good_client_records_lem _ ∙ pass _ _ (sized) ∙ characters-good in
     let sound : (let a = c.args in
     SoundTables a.table.now a.client.now) = record { ours = good_records_lem c.args.table.now c.requires; client = client_good } in
@@ -54,40 +54,43 @@ all_end-requires c =
     (sound, sound_client a.client.now (client_good), client_followed a.table.now a.client.now (sound) c.type_inv.client)
 
 pub returns-then-not-all_end : goal.returns-then-not-all_end
+unfolding client_records client_count
 returns-then-not-all_end c =
     let sized : good_client_length c.args.client.now ≡ true = client_sized _ c.if-client-n.false (omega (arith, c.if-n-gt-MOST_CLIENT_CHARACTERS.false)) in
     let characters-tested : c.are_characters.result ≡ sound_characters (client_records c.args.client.now) = c.are_characters.ensures in
-    let characters-good : sound_characters (client_records c.args.client.now) ≡ true = sym (characters-tested) ∙ not-false _ c.if-not-are_characters.false-raw in
-    let client = sym c.all_end.ensures ∙ not-true _ c.if-not-all_end.true-raw in
+    let characters-good : sound_characters (client_records c.args.client.now) ≡ true = sym (characters-tested) ∙ c.if-not-are_characters.false in
+    let client = sym c.all_end.ensures ∙ c.if-not-all_end.true in
     sym (good-client _ _ ∙ pass _ _ (sized) ∙ pass _ _ (characters-good) ∙ stop _ _ client)
 
 pub slice_bounds-all_end-count : goal.slice_bounds-all_end-count
 slice_bounds-all_end-count c = good_header c.args.table.now c.requires
 
 pub slice_bounds-all_end-start : goal.slice_bounds-all_end-start
-slice_bounds-all_end-start c = omega (arith, sub-all-end c.before)
+slice_bounds-all_end-start c = omega (arith, good_header c.args.table.now c.requires)
 
 pub all_end-requires-2 : goal.all_end-requires-2
+unfolding client_records client_count
 all_end-requires-2 c =
     let sized : good_client_length c.args.client.now ≡ true = client_sized _ c.if-client-n.false (omega (arith, c.if-n-gt-MOST_CLIENT_CHARACTERS.false)) in
     let characters-tested : c.are_characters.result ≡ sound_characters (client_records c.args.client.now) = c.are_characters.ensures in
-    let characters-good : sound_characters (client_records c.args.client.now) ≡ true = sym (characters-tested) ∙ not-false _ c.if-not-are_characters.false-raw in
+    let characters-good : sound_characters (client_records c.args.client.now) ≡ true = sym (characters-tested) ∙ c.if-not-are_characters.false in
     let client_good : good_client_records c.args.client.now ≡ true = good_client_records_lem _ ∙ pass _ _ (sized) ∙ characters-good in
     let sound : (let a = c.args in
     SoundTables a.table.now a.client.now) = record { ours = good_records_lem c.args.table.now c.requires; client = client_good } in
     let client-ends : (let a = c.args in
-    every (seen_ends (font_with a.table.now a.client.now)) (client_records a.client.now) ≡ true) = sym c.all_end.ensures ∙ not-false _ c.if-not-all_end.false-raw in
+    every (seen_ends (font_with a.table.now a.client.now)) (client_records a.client.now) ≡ true) = sym c.all_end.ensures ∙ c.if-not-all_end.false in
     let a = c.args in
     let t = a.table.now in
     (sound, sound_part t (sound).ours, ours_followed t a.client.now (sound) c.type_inv.table (client-ends))
 
 pub returns : goal.returns
+unfolding client_records client_count
 returns c =
     let sized : good_client_length c.args.client.now ≡ true = client_sized _ c.if-client-n.false (omega (arith, c.if-n-gt-MOST_CLIENT_CHARACTERS.false)) in
     let characters-tested : c.are_characters.result ≡ sound_characters (client_records c.args.client.now) = c.are_characters.ensures in
-    let characters-good : sound_characters (client_records c.args.client.now) ≡ true = sym (characters-tested) ∙ not-false _ c.if-not-are_characters.false-raw in
+    let characters-good : sound_characters (client_records c.args.client.now) ≡ true = sym (characters-tested) ∙ c.if-not-are_characters.false in
     let client-ends : (let a = c.args in
-    every (seen_ends (font_with a.table.now a.client.now)) (client_records a.client.now) ≡ true) = sym c.all_end.ensures ∙ not-false _ c.if-not-all_end.false-raw in
+    every (seen_ends (font_with a.table.now a.client.now)) (client_records a.client.now) ≡ true) = sym c.all_end.ensures ∙ c.if-not-all_end.false in
     let a = c.args in
     let t = a.table.now in
     c.all_end-2.ensures

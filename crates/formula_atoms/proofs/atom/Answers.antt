@@ -1,9 +1,10 @@
 -- `atom` meets its contract: the two numbers stand in their lists or past them, and `is_op` and `is_display_only`
 -- decide the rest.
 -- Assumes nothing.
-use mathlib.Core.Path.{◌≡◌, refl, sym, ◌∙◌}
+use mathlib.Core.Path.{◌≡◌, refl, sym}
 use mathlib.Core.Option.{Option, none, some}
 use lib.ListN.{get_elem?}
+use Rattle.std.proofs.Common.{rules}
 use Rattle.formula.specs.declared.Class.{Class}
 use Rattle.formula.specs.declared.Opening.TheVariants.{NoItem}
 use Rattle.formula.specs.Heads.{classes, limit_kinds, atom_of}
@@ -25,25 +26,12 @@ returns-then-limits-gt-GREATEST_LIMITS c = simp (past limit_kinds _ c.if-limits-
 
 pub returns-then-is_op : goal.returns-then-is_op
 unfolding atom_of
-returns-then-is_op c =
-    simp (c.class_of-c.ensures, c.limits_of-l.ensures, sym c.is_op.ensures ∙ c.if-is_op.true)
+returns-then-is_op c = search rules
 
 pub returns-then-is_display_only : goal.returns-then-is_display_only
 unfolding atom_of
-returns-then-is_display_only c =
-    simp (
-      c.class_of-c.ensures,
-      c.limits_of-l.ensures,
-      sym c.is_op.ensures ∙ c.if-is_op.false,
-      sym c.is_display_only.ensures ∙ c.if-is_display_only.true,
-    )
+returns-then-is_display_only c = search rules
 
 pub returns : goal.returns
 unfolding atom_of
-returns c =
-    simp (
-      c.class_of-c.ensures,
-      c.limits_of-l.ensures,
-      sym c.is_op.ensures ∙ c.if-is_op.false,
-      sym c.is_display_only.ensures ∙ c.if-is_display_only.false,
-    )
+returns c = search rules

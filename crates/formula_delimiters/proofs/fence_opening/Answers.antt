@@ -3,8 +3,11 @@
 use mathlib.Core.Path.{sym, ap₂, ◌∙◌}
 use native.Mathlib.Omega.{arith}
 use Rattle.formula.specs.Heads.{fence_of}
-use Rattle.formula_delimiters.proofs.DelimiterLaws.{fence_said}
+use Rattle.formula_delimiters.proofs.DelimiterLaws.{fence_none, fence_said}
 use Rattle.formula_delimiters.proofs.fence_opening.Goals as goal
+
+pub returns-then-s-lt8 : goal.returns-then-s-lt8
+returns-then-s-lt8 c = sym (fence_none _ c.if-s-lt8.true)
 
 pub returns : goal.returns
 returns c =

@@ -4,7 +4,7 @@
 use mathlib.Core.Path.{◌≡◌, refl, sym, ap, ◌∙◌}
 use mathlib.Core.Bool.{Bool, true, false, ◌&&◌}
 use mathlib.Core.List.{List, [], ◌∷◌, map}
-use Prim.Native.Nat.{ℕ, zero, suc, ◌-◌, ◌≤◌, ◌<◌}
+use Prim.Native.Nat.{ℕ, zero, suc, ◌≤◌, ◌<◌}
 use native.Mathlib.Numerals.{add-one}
 use native.Mathlib.Omega.{arith}
 use lib.Dec.{eqb}
@@ -52,3 +52,6 @@ loop-i-preserved c =
     let is = sym c.both.ensures ∙ c.if-both.false in
     let behind = row_by false rows _ AT _ _ c.loop-i-test.true is in
     (omega arith, rw add-one (sym behind ∙ c.loop-i.invariant.1))
+
+pub returns : goal.returns
+returns c = sym (no_row rows _ _ _ c.loop-i-test.false) ∙ c.loop-i.invariant.1

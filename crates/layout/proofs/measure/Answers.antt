@@ -6,9 +6,17 @@ pub returns-in-Boxed : goal.returns-in-Boxed
 returns-in-Boxed c =
     let f = c.find-finding.ensures in
     let found = rw c.in-Boxed.is at f.finding_of in
-    let both = (measured_is _ _ _ _ _ _ _ _ found.0 _ _ found.1, f.index_after) in record { result_value = both.0; index_after = both.1; client_index_after = both.2 }
+    record {
+      result_value = measured_is _ _ _ _ _ _ _ _ found.0 _ _ found.1;
+      index_after = f.index_after;
+      client_index_after = f.client_index_after;
+    }
 
 pub returns-in-Refused : goal.returns-in-Refused
 returns-in-Refused c =
     let f = c.find-finding.ensures in
-    let both = (measured_refused _ _ _ _ _ _ (rw c.in-Refused.is at f.finding_of), f.index_after) in record { result_value = both.0; index_after = both.1; client_index_after = both.2 }
+    record {
+      result_value = measured_refused _ _ _ _ _ _ (rw c.in-Refused.is at f.finding_of);
+      index_after = f.index_after;
+      client_index_after = f.client_index_after;
+    }

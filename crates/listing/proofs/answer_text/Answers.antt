@@ -1,9 +1,9 @@
--- `answer_text` meets its contract, by the answer's number. Assumes nothing.
-use mathlib.Core.Path.{ap, ◌∙◌}
+-- By the answer's number.
+use Rattle.std.proofs.Common.{ap, ◌∙◌}
 use Rattle.layout_answers.specs.Reports.{set_report_as}
 use Rattle.listing.specs.Texts.{answer_text}
-use Rattle.listing.proofs.TextLaws.{accepted_line, refused_line}
 use Rattle.texts.specs.PutLaws.{written_as}
+use Rattle.listing.proofs.TextLaws.{accepted_line, refused_line}
 use Rattle.listing.proofs.answer_text.Goals as goal
 
 pub returns-then-report-eq0 : goal.returns-then-report-eq0

@@ -1,5 +1,5 @@
--- `node_text` meets its contract, by the node's first byte. Assumes nothing.
-use mathlib.Core.Path.{sym, ap}
+-- By the node's first byte.
+use Rattle.std.proofs.Common.{sym, ap}
 use Rattle.nodes.specs.Stored.{glyph_in_lem, rule_in_lem}
 use Rattle.listing.specs.Texts.{node_text}
 use Rattle.texts.specs.PutLaws.{written_as}
@@ -7,10 +7,7 @@ use Rattle.listing.proofs.node_text.Goals as goal
 
 pub returns-then-node-eq71 : goal.returns-then-node-eq71
 returns-then-node-eq71 c =
-    let node = c.args.node.now in
-    written_as (ap node_text (sym (glyph_in_lem node c.if-node-eq71.true))) c.glyph_text.ensures
+    written_as (ap node_text (sym (glyph_in_lem c.args.node.now c.if-node-eq71.true))) c.glyph_text.ensures
 
 pub returns : goal.returns
-returns c =
-    let node = c.args.node.now in
-    written_as (ap node_text (sym (rule_in_lem node c.if-node-eq71.false))) c.rule_text.ensures
+returns c = written_as (ap node_text (sym (rule_in_lem c.args.node.now c.if-node-eq71.false))) c.rule_text.ensures

@@ -1,4 +1,4 @@
--- `rule_text` meets its contract: mark and place, two words, and the end of the line. Assumes nothing.
+-- Mark and place, two words, and the end of the line.
 use Rattle.texts.specs.Refusals.{space}
 use Rattle.listing.specs.Texts.{node_text}
 use Rattle.texts.specs.PutLaws.{line_more, line_ended}

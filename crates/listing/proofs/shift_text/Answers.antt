@@ -1,8 +1,5 @@
--- `shift_text` meets its contract: a mark, the reason's name, the shift and the end of the line, if there is a shift.
--- Assumes nothing.
-use mathlib.Core.Path.{refl, sym, ◌∙◌}
-use mathlib.Core.List.{[]}
-use native.Mathlib.Omega.{arith}
+-- A mark, the reason's name, the shift and the end of the line, if there is a shift.
+use Rattle.std.proofs.Common.{[], refl, sym, ◌∙◌, arith}
 use Rattle.texts.specs.PutLaws.{put_then, written_as, line_more, line_ended}
 use Rattle.listing.proofs.TextLaws.{shift_shown, shift_absent}
 use Rattle.listing.proofs.shift_text.Goals as goal
@@ -11,8 +8,7 @@ pub returns-then-is_there : goal.returns-then-is_there
 returns-then-is_there c =
     written_as (shift_shown _ _ (sym c.is_there.ensures ∙ c.if-is_there.true))
     (line_ended
-    (line_more [] c.of_length.result (put_then c.put_bytes-a.ensures c.put_reason-b.ensures.put) c.of_length.ensures
-    c.put_number-c.ensures)
+    (line_more [] c.of_length.result (put_then c.put_bytes-a.ensures c.put_reason-b.ensures.put) c.of_length.ensures c.put_number-c.ensures)
     c.put_bytes.ensures)
 
 pub returns : goal.returns

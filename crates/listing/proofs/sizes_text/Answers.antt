@@ -1,22 +1,7 @@
--- `sizes_text` meets its contract: four marks with their numbers, and the end of the line. Assumes nothing.
-use mathlib.Core.Path.{◌∙◌}
-use native.Mathlib.Omega.{arith}
+-- Four marks with their numbers, and the end of the line.
 use Rattle.listing.specs.Texts.{width_mark, height_mark, depth_mark, count_mark}
 use Rattle.texts.specs.PutLaws.{number_put, line_more, line_ended}
 use Rattle.listing.proofs.sizes_text.Goals as goal
-
-pub put_bytes-requires : goal.put_bytes-requires
-put_bytes-requires c =
-    let kept = c.put_number-d.auto.1.1.0 ∙ c.put_number-c.auto.1.1.0 ∙ c.put_number-b.auto.1.1.0 ∙ c.put_number-a.auto.1.1.0 in
-    omega (
-      arith,
-      kept,
-      c.put_number-a.ensures.near,
-      c.put_number-b.ensures.near,
-      c.put_number-c.ensures.near,
-      c.put_number-d.ensures.near,
-      c.requires,
-    )
 
 pub returns : goal.returns
 returns c =

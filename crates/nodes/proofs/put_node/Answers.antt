@@ -17,10 +17,10 @@ pub store_pair-requires : goal.store_pair-requires
 store_pair-requires c = simp length-set (omega arith)
 
 pub store_pair-requires-2 : goal.store_pair-requires-2
-store_pair-requires-2 c = omega (arith, simp length-set at c.store_pair.auto.0)
+store_pair-requires-2 c = omega (arith, simp length-set at c.store_pair.auto.b)
 
 pub shape_of-buf : goal.shape_of-buf
-shape_of-buf c = c.store_pair-2.auto.0 ∙ c.store_pair.auto.0 ∙ simp length-set
+shape_of-buf c = c.store_pair-2.auto.b ∙ c.store_pair.auto.b ∙ simp length-set
 
 pub returns : goal.returns
 returns c =

@@ -10,7 +10,7 @@ assembled-requires c =
       pre.0,
       pre.2,
       pre.3,
-      omega (arith, c.plus.ensures.parts, pre.1),
+      omega (arith, c.plus-w.ensures.parts, pre.1),
       omega (arith, c.max-top.ensures.parts, c.plus.ensures.parts, pre.1, pre.4),
       omega (arith, c.max-bottom.ensures.parts, c.minus.ensures.parts, pre.1, pre.4),
     )
@@ -18,6 +18,6 @@ assembled-requires c =
 pub returns : goal.returns
 unfolding reach
 returns c = (
-  rw (c.max-bottom.ensures.is, c.minus.ensures.is, c.max-top.ensures.is, c.plus.ensures.is, c.plus.ensures.is) at c.assembled.ensures.0,
+  rw (c.max-bottom.ensures.is, c.minus.ensures.is, c.max-top.ensures.is, c.plus.ensures.is, c.plus-w.ensures.is) at c.assembled.ensures.0,
   c.assembled.ensures.1,
 )

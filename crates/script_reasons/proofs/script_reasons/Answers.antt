@@ -1,7 +1,7 @@
 -- `script_reasons` meets its contract: each arm is a clause of the definition.
 -- Assumes nothing.
 use mathlib.Core.Path.{refl}
-use Rattle.script_reasons.specs.Reasons.{chosen, script_reasons}
+use Rattle.script_reasons.specs.Reasons.{script_reasons}
 use Rattle.script_reasons.proofs.script_reasons.Goals as goal
 
 pub subscript_candidates-requires : goal.subscript_candidates-requires

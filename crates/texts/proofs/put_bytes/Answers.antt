@@ -1,16 +1,8 @@
--- `put_bytes` meets its contract. The loop's invariant: i bytes are copied, and the rest of the buffer is as it was. A turn is `put_turn`.
--- Assumes nothing.
-use mathlib.Core.Path.{◌≡◌, refl, ap, ◌∙◌}
-use mathlib.Core.List.{List, ◌++◌}
-use Prim.Native.Nat.{ℕ, ◌+◌, ◌-◌}
-use native.Mathlib.Omega.{arith}
-use lib.ListN.{length, get_or, take, drop, set, length-set}
-use lib.Seq.{take_all}
-use Rattle.texts.specs.PutLaws.{put_none, put_turn}
+-- A turn of the loop is `put_turn`; when it ends, the whole text is copied.
+use Rattle.std.proofs.Common.{◌≡◌, List, ℕ, ◌++◌, ◌+◌, length, get_or, take, drop, set, ap, ◌∙◌, arith, length-set}
+use Rattle.std.proofs.Math.Seq.{take_all}
+use Rattle.texts.specs.PutLaws.{put_turn}
 use Rattle.texts.proofs.put_bytes.Goals as goal
-
-pub loop-i-init : goal.loop-i-init
-loop-i-init c = (omega arith, refl, put_none c.args.out.now c.args.at)
 
 pub loop-i-preserved : goal.loop-i-preserved
 loop-i-preserved c =

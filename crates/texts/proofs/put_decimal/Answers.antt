@@ -1,29 +1,17 @@
--- `put_decimal` meets its contract: what `io::decimal` wrote is the defined text (`DecimalLaws`). Assumes nothing.
-use mathlib.Core.Path.{◌≡◌, subst, ◌∙◌}
-use Prim.Native.Nat.{ℕ, ◌+◌, ◌≤◌}
-use lib.ListN.{length, take}
-use native.Mathlib.Omega.{arith}
-use Rattle.texts.proofs.DecimalLaws.{within, decimal_is}
+-- What `io::decimal` wrote is the defined text, by `decimal_is`.
+use Rattle.std.proofs.Common.{◌≡◌, ◌≤◌, length, take, ◌∙◌, arith, rules}
 use Rattle.texts.specs.PutLaws.{put_as}
-use borrow.Author.Rules.{rules}
+use Rattle.texts.proofs.DecimalLaws.{within, decimal_is}
 use Rattle.texts.proofs.put_decimal.Goals as goal
-
-pub put_bytes-requires : goal.put_bytes-requires
-put_bytes-requires c =
-    let d = c.decimal-k in
-    let a = c.args in
-    let k : d.result ≤ 20 = within d.result a.n (search rules) d.ensures.len.0 in
-    let l : d.result ≡ length (take d.result d.new.1.0) = d.ensures.in_bounds.1 in
-    subst (λ (m : ℕ). a.at + m ≤ length a.out.now) l (omega arith)
 
 pub returns : goal.returns
 returns c =
     let d = c.decimal-k in
     let a = c.args in
     let w = c.put_bytes.ensures in
-    let k : d.result ≤ 20 = within d.result a.n (search rules) d.ensures.len.0 in
-    let l : d.result ≡ length (take d.result d.new.1.0) = d.ensures.in_bounds.1 in
+    let k : d.result ≤ 20 = within d.result a.n c.ranges.n.fits d.ensures.len in
+    let l : d.result ≡ length (take d.result d.new.out) = d.ensures.in_bounds.1 in
     record {
-      put = put_as (d.ensures.len.1 ∙ decimal_is d.result a.n (search rules) d.ensures.len.0) w;
+      put = put_as (d.ensures.digits ∙ decimal_is d.result a.n c.ranges.n.fits d.ensures.len) w;
       near = omega (arith, w.size);
     }

@@ -1,8 +1,5 @@
--- `put_number` meets its contract: the mark, the minus and the digits are put one behind the other. Assumes nothing.
-use mathlib.Core.Path.{sym, ap, ◌∙◌}
-use mathlib.Core.Bool.{Bool}
-use mathlib.Core.List.{[], ◌∷◌, ◌++◌, append_assoc}
-use native.Mathlib.Omega.{arith}
+-- The mark, the minus and the digits are put one behind the other.
+use Rattle.std.proofs.Common.{Bool, [], ◌∷◌, ◌++◌, sym, ap, ◌∙◌, append_assoc, arith}
 use Rattle.texts.specs.Decimals.{decimal_of, minus}
 use Rattle.texts.specs.Written.{signed_text}
 use Rattle.texts.specs.PutLaws.{put_then, put_as}

@@ -1,4 +1,4 @@
--- `refusal_text` meets its contract: two marks with their numbers, and the end of the line. Assumes nothing.
+-- Two marks with their numbers, and the end of the line.
 use Rattle.texts.specs.Refusals.{refused_mark, at_mark}
 use Rattle.texts.specs.PutLaws.{number_put, line_more, line_ended}
 use Rattle.texts.proofs.refusal_text.Goals as goal

@@ -1,4 +1,4 @@
--- `too_long_text` meets its contract: a mark with its number, and the rest of the line. Assumes nothing.
+-- A mark with its number, and the rest of the line.
 use Rattle.texts.specs.Refusals.{too_long_mark}
 use Rattle.texts.specs.PutLaws.{number_put, line_ended}
 use Rattle.texts.proofs.too_long_text.Goals as goal

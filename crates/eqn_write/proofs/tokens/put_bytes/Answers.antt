@@ -2,13 +2,13 @@
 -- them come to.
 -- Assumes nothing.
 use mathlib.Core.Path.{◌≡◌, refl, sym, ap, ◌∙◌}
-use mathlib.Core.Logic.{⊎_elim}
 use Prim.Native.Nat.{ℕ, ◌+◌, ◌-◌}
 use native.Mathlib.Omega.{arith}
 use lib.ListN.{length, get_or, set, length-set, drop_of_length-le}
 use lib.Seq.{sets}
 use Rattle.eqn_write.proofs.StoreLaws.{set_past, sets_here}
 use Rattle.eqn_write.proofs.tokens.put_bytes.Goals as goal
+use Rattle.eqn_write.proofs.tokens.put_bytes.Goals.{then-at-i, else-at-i}
 
 pub loop-i-init : goal.loop-i-init
 loop-i-init c = (omega arith, refl, ap (λ (i : ℕ). sets c.args.out.now i c.args.bytes.now) (omega arith))
@@ -21,7 +21,7 @@ loop-i-preserved c =
     let out = c.loop-i.out in
     let byte = get_or args.bytes.now i 0 in
     let is : c.if-at-i.out ≡ set out (args.at + i) byte =
-    ⊎_elim (λ w. w.2) (λ w. w.1 ∙ sym (set_past out (args.at + i) byte w.0.left)) c.if-at-i.branch in (
+    elim c.if-at-i.branch [ then-at-i w ↦ w.out-is | else-at-i w ↦ w.out-is ∙ sym (set_past out (args.at + i) byte (omega arith)) ] in (
       omega arith,
       ap length is ∙ length-set out (args.at + i) byte ∙ inv.1,
       rw is (sym (sets_here out args.at i args.bytes.now c.loop-i-test.true) ∙ inv.2),

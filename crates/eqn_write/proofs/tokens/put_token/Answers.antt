@@ -1,7 +1,6 @@
 -- `put_token` meets its contract, by whether the token is the first of its text; the space behind others has room or is passed over.
 -- Assumes nothing.
 use mathlib.Core.Path.{◌≡◌, refl, sym, ap, ap₂, ◌∙◌}
-use mathlib.Core.Logic.{⊎_elim}
 use mathlib.Core.List.{List, ◌∷◌}
 use Prim.Native.Nat.{ℕ, zero, suc}
 use native.Mathlib.Numerals.{add-one}
@@ -11,6 +10,7 @@ use lib.Seq.{sets}
 use Rattle.eqn_write.specs.Values.{token_text}
 use Rattle.eqn_write.proofs.StoreLaws.{set_past}
 use Rattle.eqn_write.proofs.tokens.put_token.Goals as goal
+use Rattle.eqn_write.proofs.tokens.put_token.Goals.{then-at-out, else-at-out}
 
 -- the first token of a text
 first_text : (at : ℕ) (w : List ℕ) → at ≡ 0 → token_text at w ≡ w
@@ -29,20 +29,14 @@ returns-then-at-eq0 c =
     }
 
 pub shape_of-out : goal.shape_of-out
-shape_of-out c =
-    let spaced-out : (let args = c.args in
-    c.if-at-out.out ≡ set args.out.now args.at 32) = let args = c.args in
-    ⊎_elim (λ w. w.1) (λ w. w.1 ∙ sym (set_past args.out.now args.at 32 w.0.left)) c.if-at-out.branch in
-    let args = c.args in
-    c.put_bytes-2.auto.0 ∙ ap length (spaced-out) ∙ length-set args.out.now args.at 32
+shape_of-out c = c.put_bytes-2.auto.out ∙ c.if-at-out.auto.out
 
 pub returns : goal.returns
 returns c =
-    let spaced-out : (let args = c.args in
-    c.if-at-out.out ≡ set args.out.now args.at 32) = let args = c.args in
-    ⊎_elim (λ w. w.1) (λ w. w.1 ∙ sym (set_past args.out.now args.at 32 w.0.left)) c.if-at-out.branch in
     let args = c.args in
+    let spaced_out : c.if-at-out.out ≡ set args.out.now args.at 32 =
+    elim c.if-at-out.branch [ then-at-out w ↦ w.out-is | else-at-out w ↦ w.out-is ∙ sym (set_past args.out.now args.at 32 (omega arith)) ] in
     let behind = behind_text args.at args.token.now c.if-at-eq0.false in record {
       value = rw behind (omega arith);
-      out_after = rw behind (c.put_bytes-2.ensures ∙ ap₂ (λ (l : List ℕ) (i : ℕ). sets l i args.token.now) (spaced-out) (add-one args.at));
+      out_after = rw behind (c.put_bytes-2.ensures ∙ ap₂ (λ (l : List ℕ) (i : ℕ). sets l i args.token.now) spaced_out (add-one args.at));
     }
