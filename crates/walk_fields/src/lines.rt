@@ -35,10 +35,10 @@ pub fn list_fits(line: Line) -> bool
     if !run.fits() {
         return false;
     }
-    size_fits_lem(line.size)
+    size_fits(line.size)
 }
 
-fn size_fits_lem(size: Size) -> bool
+fn size_fits(size: Size) -> bool
     ensures { result ≡ size_fits (size_as size) }
 {
     if !within(size.width) {

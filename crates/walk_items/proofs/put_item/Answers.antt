@@ -60,11 +60,11 @@ move_field-requires c =
 
 pub shape_of-buf : goal.shape_of-buf
 shape_of-buf c =
-    c.move_field.auto.1.1.1.1.0
-    ∙ c.move_field-second.auto.1.1.1.1.0
-    ∙ c.put_own-owned.auto.1.1.1.0
-    ∙ c.move_field-first.auto.1.1.1.1.0
-    ∙ c.put_own-ahead.auto.1.1.1.0
+    c.move_field.auto.buf
+    ∙ c.move_field-second.auto.buf
+    ∙ c.put_own-owned.auto.buf
+    ∙ c.move_field-first.auto.buf
+    ∙ c.put_own-ahead.auto.buf
 
 pub returns : goal.returns
 returns c =

@@ -20,7 +20,7 @@ put_ruling-requires c =
     record { few = omega (arith, one_sign c.args.own.sign); rules = g.near.ruling; x_small = g.x_small }
 
 pub shape_of-buf : goal.shape_of-buf
-shape_of-buf c = c.put_ruling.auto.1.1.1.0 ∙ c.put_sign-signed.auto.1.1.1.0
+shape_of-buf c = c.put_ruling.auto.buf ∙ c.put_sign-signed.auto.buf
 
 pub returns : goal.returns
 returns c =

@@ -5,7 +5,6 @@ use mathlib.Core.Bool.{or-false}
 use mathlib.Core.List.{[], ◌∷◌}
 use native.Mathlib.Omega.{arith}
 use lib.IntN.{pos, ◌+ℤ◌}
-use borrow.Author.Rules.{rules}
 use Rattle.boxes.specs.Boxes.{ruled}
 use Rattle.boxes.specs.Values.{rule_as}
 use Rattle.nodes.specs.Nodes.{Node, rule, moved, moved_node}

@@ -1,11 +1,10 @@
 -- `list_fits` meets its contract: it makes the tests of its definition, one after the other.
 -- Assumes nothing.
-use mathlib.Core.Path.{sym, ◌∙◌}
-use borrow.Author.Tests.{not-true, not-false}
+use Rattle.std.proofs.Common.{sym, ◌∙◌}
 use Rattle.walk_fields.proofs.lines.list_fits.Goals as goal
 
 pub returns-then-not-fits : goal.returns-then-not-fits
-returns-then-not-fits c = rw (sym c.fits2.ensures ∙ not-true _ c.if-not-fits.true-raw)
+returns-then-not-fits c = rw (sym c.fits.ensures ∙ c.if-not-fits.true)
 
 pub returns : goal.returns
-returns c = rw (sym c.fits2.ensures ∙ not-false _ c.if-not-fits.false-raw) c.size_fits_lem.ensures
+returns c = rw (sym c.fits.ensures ∙ c.if-not-fits.false) c.size_fits.ensures

@@ -22,7 +22,7 @@ returns-in-End c =
     nothing_asks (tree_of c.args.inside.now) _ _ c.look_over-sight.ensures.class_is (ap neighbour_as c.in-End.is)
 
 pub returns : goal.returns
-returns c =
+returns c F line here =
     let a = c.args in
     ap (λ (n : Neighbour). set_items F n line (tree_of a.inside.now))
     (c.next_class.ensures ∙ ap (λ (s : Style). next_class s (neighbour_as a.beyond) (tree_of a.s.now)) c.look_over-sight.ensures.style_is)

@@ -1,5 +1,4 @@
-use Prim.Native.Nat.{◌-◌}
-use lib.ListN.{length}
+use Rattle.std.proofs.Common.{◌-◌, length}
 use Rattle.spacing.specs.Values.{neighbour_as}
 use Rattle.walk_looks.specs.PlaceLaws.{Passing}
 use Rattle.walk_looks.proofs.places.next_class.Given as goal

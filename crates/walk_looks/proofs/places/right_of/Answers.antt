@@ -4,6 +4,7 @@ use mathlib.Core.Path.{◌≡◌, refl, ap}
 use mathlib.Core.List.{[], ◌∷◌}
 use denote.Enum.Declared.{tag_of}
 use types.Run.{OneOf, miss}
+use borrow.Enum.Refused.{opened}
 use Rattle.formula.specs.declared.Class.{Class}
 use Rattle.formula.specs.declared.Class.TheVariants.{Ord, Op, Bin, Rel, Open, Close, Punct, Inner}
 use Rattle.formula.specs.contracts.Class.{the_type}
@@ -27,7 +28,7 @@ others_alike Punct other left right right' = refl
 others_alike Inner other left right right' = refl
 
 pub returns-in-Bin : goal.returns-in-Bin
-returns-in-Bin c = ap (changed_class left _) c.next_class.ensures
+returns-in-Bin c left = ap (changed_class left _) c.next_class.ensures
 
 pub returns : goal.returns
-returns c = rw (← c.class_of-class.ensures) (others_alike c.class_of-class.result c.in_default.in_default-own.keys2 left _ _)
+returns c left = rw (← c.class_of-class.ensures) (others_alike c.class_of-class.result (opened c.in_default.in_default-own.keys2) left _ _)
