@@ -13,7 +13,7 @@ use Prim.Native.Nat.{ℕ, ◌+◌, ◌-◌, ◌≤◌}
 use native.Mathlib.Omega.{arith}
 use lib.ListN.{length, take, drop}
 use lib.Seq.{sets, take-length}
-use Rattle.eqn_tokens.specs.Tokens.{opening, tokens_in}
+use Rattle.eqn_tokens.specs.Tokens.{tokens_in}
 use Rattle.eqn_tokens.specs.BytesLaws.{rest_lent}
 use Rattle.eqn_names.specs.Names.{Name}
 use Rattle.eqn_names.specs.Firsts.{Listed}

@@ -6,20 +6,17 @@
 --     reached_done      the list's end
 -- Assumes nothing.
 use mathlib.Core.Path.{◌≡◌, refl, sym, ap, subst, ◌∙◌}
-use mathlib.Core.List.{List, [], ◌∷◌}
+use mathlib.Core.List.{List}
 use mathlib.Core.Option.{Option}
 use Prim.Native.Nat.{ℕ, ◌+◌, ◌*◌, ◌≤◌, ◌<◌}
 use native.Mathlib.Omega.{arith}
 use lib.ListN.{length, drop, length-drop}
 use lib.Seq.{drop-drop}
-use denote.Enum.Declared.{tag_of}
-use types.Run.{OneOf, miss}
 use Rattle.eqn_tokens.specs.Tokens.{Token}
 use Rattle.eqn_names.specs.Names.{Name, Records}
 use Rattle.formula.specs.declared.Kind.{Kind}
 use Rattle.formula.specs.declared.Opening.{Opening}
 use Rattle.formula.specs.declared.Opening.TheVariants.{Fields}
-use Rattle.formula.specs.contracts.Opening.{the_type}
 use Rattle.formula.specs.Heads.{opening_of}
 use Rattle.formula.specs.Places.{Readable, end}
 use Rattle.formula.specs.PlacesLaws.{noad_at_lem}

@@ -5,15 +5,11 @@
 -- At each call whose result is matched one fact says what is known there (`over_opened`, `over_begun`, `fields_begun`, ..), and each goal
 -- follows by one law of `PrimaryLaws`, `ItemLaws` or `RowLaws`. The loop's invariant: of what is left of a row, the whole follows (`RowLeft`).
 -- Assumes nothing.
-use mathlib.Core.Path.{◌≡◌, sym, ◌∙◌}
-use mathlib.Core.List.{[], ◌∷◌}
-use Prim.Native.Nat.{◌-◌}
+use mathlib.Core.Path.{sym, ◌∙◌}
 use native.Mathlib.Omega.{arith}
 use lib.ListN.{drop}
 use borrow.Author.Rules.{rules}
-use types.Run.{miss}
 use Rattle.eqn_tokens.specs.Tokens.{tokens_in}
-use Rattle.eqn_tokens.specs.declared.tokens.TokenKind.TheVariants.{Word}
 use Rattle.eqn_tokens.specs.PlacesLaws.{token_ordered}
 use Rattle.eqn_cuts.specs.CutLaws.{none_behind}
 use Rattle.eqn_read.proofs.WroteLaws.{reached, goes}
