@@ -1,5 +1,5 @@
-// The calls for C that read and write typed text (include/torfianka.h). What they give is defined in specs/Words.antt of crate c_words. They are a
-// static library of their own, as each group of calls is.
+// The calls for C that read and write typed text (include/torfianka.h), which crate c_eqn_c exports. What they give is defined in
+// specs/Words.antt of crate c_words.
 
 #![tactic(auto)]
 
@@ -12,8 +12,7 @@ use c_words::{NO_ANSWER, REPORT_SPACE, put_report};
 use eqn_calls::report_of;
 
 // Reads typed text into the bytes of a formula.
-#[unsafe(no_mangle)]
-pub extern "C" fn torfianka_eqn_read<'a>(
+pub fn torfianka_eqn_read<'a>(
     names: &'a [u8],
     text: &'a [u8],
     formula: &mut [u8],
@@ -30,8 +29,7 @@ pub extern "C" fn torfianka_eqn_read<'a>(
 }
 
 // Writes the bytes of a formula as typed text.
-#[unsafe(no_mangle)]
-pub extern "C" fn torfianka_eqn_write<'a>(
+pub fn torfianka_eqn_write<'a>(
     names: &'a [u8],
     formula: &'a [u8],
     text: &mut [u8],

@@ -1,5 +1,5 @@
-// The calls for C that measure and set, and through C for Rust (include/torfianka.h). What they give is defined in specs/AnswerWords.antt and
-// in specs/Words.antt of crate c_words.
+// The calls for C that measure and set, and through C for Rust (include/torfianka.h), which crate c_set_c exports. What they give is defined in
+// specs/AnswerWords.antt and in specs/Words.antt of crate c_words.
 
 #![tactic(auto)]
 
@@ -16,8 +16,7 @@ use layout_answers::Answer;
 use layout_answers::report::report_of;
 
 // Measures a formula.
-#[unsafe(no_mangle)]
-pub extern "C" fn torfianka_measure<'a>(
+pub fn torfianka_measure<'a>(
     style: u8,
     table: &'a [u8],
     client: &'a [u8],
@@ -41,8 +40,7 @@ pub extern "C" fn torfianka_measure<'a>(
 }
 
 // Sets a formula into the front of the node buffer.
-#[unsafe(no_mangle)]
-pub extern "C" fn torfianka_set<'a>(
+pub fn torfianka_set<'a>(
     style: u8,
     table: &'a [u8],
     client: &'a [u8],

@@ -1,6 +1,4 @@
-// The call for C that asks why (include/torfianka.h); what it gives is defined in specs/ReasonWords.antt. It is a static library of its own,
-// compiled apart from setting: in one object the functions that both use are called instead of being made part of their one caller,
-// and setting is slower for it.
+// The call for C that asks why (include/torfianka.h), which crate c_why_c exports; what it gives is defined in specs/ReasonWords.antt.
 
 #![tactic(auto)]
 
@@ -18,8 +16,7 @@ use layout_why::why;
 use reasons::Reason;
 
 // What decided the shifts of the item that starts at a place.
-#[unsafe(no_mangle)]
-pub extern "C" fn torfianka_why<'a>(
+pub fn torfianka_why<'a>(
     style: u8,
     table: &'a [u8],
     client: &'a [u8],

@@ -251,7 +251,8 @@ module _ {s : List ℕ} {base : ℕ} {A : List Stage} {stage : Stage} {depth dee
             stage_is = refl;
             kept = (
               rw (← a.depth_is) (get_or-set_same A (slot_of base depth) (behind_primary stage) Unseen room ∙ stored),
-              rw stored (kept_set base depth A value st.around (omega (arith, a.depth_is)) room a.kept),
+              subst (λ (v : Stage). Kept base (set A (slot_of base depth) v) st.around) (sym stored)
+                  (kept_set base depth A value st.around (omega (arith, a.depth_is)) room a.kept),
             );
           },
         ))

@@ -4,26 +4,23 @@
 -- Assumes nothing.
 use mathlib.Core.Path.{◌≡◌, refl}
 use mathlib.Core.Bool.{false}
-use mathlib.Core.List.{List, [], ◌∷◌}
+use mathlib.Core.List.{List}
 use Prim.Native.Nat.{ℕ}
-use denote.Enum.Declared.{tag_of}
-use types.Run.{OneOf, miss}
 use Rattle.eqn_tokens.specs.declared.tokens.TokenKind.{TokenKind}
 use Rattle.eqn_tokens.specs.declared.tokens.TokenKind.TheVariants.{Word, Keyword as Joining, Open, Close, Other, End}
-use Rattle.eqn_tokens.specs.contracts.tokens.TokenKind.{the_type}
 use Rattle.eqn_names.specs.Names.{Name, is_word}
 use Rattle.eqn_names.specs.Unknown.{is_unknown}
 use Rattle.eqn_tokens.specs.Values.{kind_as}
 
 abbrev pub NoWord : TokenKind → Type 0
-NoWord k = OneOf (1 ∷ 2 ∷ 3 ∷ 4 ∷ 5 ∷ []) (tag_of the_type k)
+NoWord k = k ≡ Word → ⊥
 
 pub record Plain (k : TokenKind) : Type 0 where
   pub no_word : (w : List ℕ) → is_word (kind_as k w) ≡ false
   pub known : (ns : List Name) (w : List ℕ) → is_unknown ns (kind_as k w) ≡ false
 
 pub plain : (k : TokenKind) → NoWord k → Plain k
-plain Word t = absurd (miss (1 ∷ 2 ∷ 3 ∷ 4 ∷ 5 ∷ []) 0 tt t)
+plain Word t = absurd (t refl)
 plain (Joining k) t = record { no_word = λ w. refl; known = λ ns w. refl }
 plain Open t = record { no_word = λ w. refl; known = λ ns w. refl }
 plain Close t = record { no_word = λ w. refl; known = λ ns w. refl }

@@ -23,6 +23,7 @@ use Rattle.eqn_names.specs.Names.{Name, Asked, any_class, of_class, has_class, f
 use Rattle.eqn_names.specs.NamesLaws.{first_is}
 use Rattle.eqn_grammar.specs.Grammar as grammar
 use Rattle.eqn_grammar.specs.Grammar.{Row, Limited, NoPrimary, no_primary, some_primary, Primary, row_tokens, limited_tokens, limit_tokens, overs_tokens, scripted_tokens, script_tokens, primary_tokens}
+use Rattle.eqn_grammar.specs.Parsing.{bare}
 use Rattle.eqn_meaning.specs.Meaning.{class_of, is_absent, atom_of, limits_of, row_items, limited_item, limit_field, overs_operand, scripted_operand, script_field, primary_nucleus}
 use Rattle.eqn_meaning.specs.MeaningLaws.{primary_there}
 use Rattle.eqn_meaning.specs.Writing.{Derived, nothing, operand, textless, as_word, as_group, group_for, with_script, with_operand, single, limit, atom_derived, limits_on, limits_derived, fraction_derived, atom_form, form_of, derived_by, beside_of, row_of, expression_of, operand_of}
@@ -143,7 +144,7 @@ module _ (ns : List Name) where
         let asked = of_class (class_number class) in
         with_operand_lem i _ (X asked) (first asked) (λ p nucleus.
         with_script_lem i _ Y second (λ q super.
-        with_script_lem i _ Z third (λ b under.
+        with_script_lem i (λ b. some (grammar.limited (grammar.single (grammar.scripted p b q)) grammar.no_overs grammar.no_overs)) Z third (λ b under.
         record {
           item = cc (nucleus.class ∙ class_again class);
           tokens = all_append (all_append nucleus.tokens (all_append (under.tokens Sub) (super.tokens Sup))) all_nil;
@@ -162,7 +163,7 @@ module _ (ns : List Name) where
     fraction_meant two =
         let i = noad (Fraction Default) x y z in
         with_operand_lem i _ (X any_class) (first any_class) (λ p above.
-        with_operand_lem i _ Y second (λ q below.
+        with_operand_lem i (λ q. some (grammar.limited (grammar.fraction (single p) (bare q)) grammar.no_overs grammar.no_overs)) Y second (λ q below.
         record {
           item = cc;
           tokens = all_append (all_append (single_tokens p above.tokens) (all_cons tt (single_tokens q below.tokens))) all_nil;

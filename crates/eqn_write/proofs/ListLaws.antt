@@ -32,10 +32,7 @@ use Rattle.eqn_write.proofs.FieldsLaws.{ends_at}
 use Rattle.eqn_write.proofs.ItemLaws.{row_text, row_first, row_other, row_none}
 
 abbrev pub NoFields : Opening → Type 0
-NoFields o = OneOf (0 ∷ 2 ∷ 3 ∷ 4 ∷ []) (tag_of the_type o)
-
-without_fields : (o : Opening) (kind : Kind) → NoFields o → o ≡ Fields kind → ⊥
-without_fields o kind other e = miss (0 ∷ 2 ∷ 3 ∷ 4 ∷ []) 1 tt (subst NoFields e other)
+NoFields o = (kind : Kind) → o ≡ Fields kind → ⊥
 
 module _ (table s : List ℕ) (at : ℕ) (before : List ℕ) where
   pub record Reached (place e : ℕ) (out : List ℕ) : Type 0 where
@@ -63,7 +60,7 @@ module _ (table s : List ℕ) (at : ℕ) (before : List ℕ) where
 
       pub reached_other : {o : Opening} → o ≡ opening_of (drop place s) → NoFields o → ListPut table s at before out Textless
       reached_other {o} is other ns rs =
-          let no_text = row_other (drop place s) p.rest left ns (λ kind opens. without_fields o kind other (is ∙ opens)) in
+          let no_text = row_other (drop place s) p.rest left ns (λ kind opens. other kind (is ∙ opens)) in
           p.whole ns rs out Textless (record { none_are = no_text; as_long = refl })
 
       module _ {kind : Kind} (opens : opening_of (drop place s) ≡ Fields kind) where

@@ -11,7 +11,7 @@ use lib.Seq.{get_or-drop}
 use Rattle.formula.specs.declared.Delimiter.{Delimiter}
 use Rattle.formula.specs.declared.Opening.{Opening}
 use Rattle.formula.specs.declared.Opening.TheVariants.{NoItem}
-use Rattle.formula.specs.Heads.{behind_delimiter, fence_of, fence_opening}
+use Rattle.formula.specs.Heads.{delimiter, behind_delimiter, fence_of, fence_opening}
 use Rattle.formula.specs.Slices.{delimiter_at}
 use Rattle.formula.specs.FirstBytes.{four, short_four}
 
@@ -30,7 +30,7 @@ fence_none [] h = refl
 fence_none (a ∷ []) h = refl
 fence_none (a ∷ b ∷ []) h = refl
 fence_none (a ∷ b ∷ c ∷ []) h = refl
-fence_none (a ∷ b ∷ c ∷ d ∷ s) h = behind_none _ s (omega arith)
+fence_none (a ∷ b ∷ c ∷ d ∷ s) h = behind_none (λ right q. fence_of (delimiter a b c d) right) s (omega arith)
 
 pub fence_said : (s : List ℕ) → 8 ≤ length s → fence_opening s ≡ fence_of (delimiter_at s 0) (delimiter_at s 4)
 unfolding fence_opening

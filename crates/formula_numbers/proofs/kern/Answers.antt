@@ -1,0 +1,43 @@
+-- `kern` meets its contract: what the two tests say of the parts of the number.
+-- Assumes nothing.
+use mathlib.Core.Path.{◌≡◌, sym}
+use Prim.Native.Nat.{suc, ◌+◌, ◌≤◌, ◌<◌}
+use native.Mathlib.Omega.{arith}
+use lib.IntN.{ℤ, pos, negsuc}
+use borrow.Author.Tests.{le-leb, lt-leb}
+use Rattle.scaled.specs.Signed.{above, below}
+use Rattle.formula.specs.declared.Opening.TheVariants.{NoItem, Kern}
+use Rattle.formula.specs.Heads.{greatest_kern, kern_within}
+use Rattle.formula_numbers.proofs.kern.Goals as goal
+
+-- in its range, and past it on either side
+kern_in : (n : ℤ) → above n ≤ below n + greatest_kern → below n ≤ above n + greatest_kern →
+    kern_within n ≡ Kern (record { 0 = n })
+unfolding kern_within
+kern_in (pos m) h k = simp (kern_within, le-leb m greatest_kern (omega arith))
+kern_in (negsuc m) h k = simp (kern_within, le-leb (suc m) greatest_kern (omega arith))
+
+kern_over : (n : ℤ) → below n + greatest_kern < above n → kern_within n ≡ NoItem
+unfolding kern_within
+kern_over (pos m) h = simp (kern_within, lt-leb m greatest_kern (omega arith))
+kern_over (negsuc m) h = absurd (omega arith)
+
+kern_under : (n : ℤ) → above n + greatest_kern < below n → kern_within n ≡ NoItem
+unfolding kern_within
+kern_under (pos m) h = absurd (omega arith)
+kern_under (negsuc m) h = simp (kern_within, lt-leb (suc m) greatest_kern (omega arith))
+
+pub returns-then-less : goal.returns-then-less
+returns-then-less c = sym (kern_under c.args.n.0 (omega (arith, c.less.ensures.yes c.if-less.true)))
+
+pub returns-then-less-2 : goal.returns-then-less-2
+returns-then-less-2 c =
+    let n = c.args.n.0 in
+    sym (kern_over n (omega (arith, c.less-2.ensures.yes c.if-less-2.true)))
+
+pub returns : goal.returns
+returns c =
+    let n = c.args.n.0 in
+    let not-under = c.less.ensures.no c.if-less.false in
+    let not-over = c.less-2.ensures.no c.if-less-2.false in
+    sym (kern_in n (omega arith) (omega arith))
