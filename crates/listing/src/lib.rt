@@ -21,7 +21,7 @@ use reasons::{Reason, ShiftReason};
 use std::io::Result;
 use texts::{LINE_SPACE, Number, of_count, of_length, print, put_bytes, put_number, refusal_text};
 
-// Prints an answer; the nodes of an acceptance are at the front of the buffer.
+// Prints an answer; the nodes of an acceptance are at the front of the buffer. An error ends it: what was printed before stays.
 pub fn write_answer(out: &impl Print, answer: Answer, nodes: &[u8]) -> Result<()> {
     let mut line = [0u8; LINE_SPACE];
     let end = answer_text(answer, &mut line);
@@ -30,7 +30,7 @@ pub fn write_answer(out: &impl Print, answer: Answer, nodes: &[u8]) -> Result<()
     write_nodes(out, nodes, report.count)
 }
 
-// Prints what decided an item's shifts, a line for each that there is, or the refusal.
+// Prints what decided an item's shifts, a line for each that there is, or the refusal. An error ends it: what was printed before stays.
 pub fn write_reasons(out: &impl Print, answer: WhyAnswer) -> Result<()> {
     let mut line = [0u8; LINE_SPACE];
     let report = why_report(answer);

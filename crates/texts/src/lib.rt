@@ -21,21 +21,21 @@ pub struct Number {
     pub size: u64,
 }
 
-// Prints the line of a refusal.
+// Prints the line of a refusal. After an error, some of its bytes may have been written.
 pub fn write_refusal(out: &impl Print, number: u8, place: usize) -> Result<()> {
     let mut line = [0u8; LINE_SPACE];
     let end = refusal_text(number, place, &mut line);
     print(out, &line, end)
 }
 
-// Prints the line of what a program cannot hold, which takes so many bytes.
+// Prints the line of what a program cannot hold, which takes so many bytes. After an error, some of its bytes may have been written.
 pub fn write_too_long(out: &impl Print, taken: usize) -> Result<()> {
     let mut line = [0u8; LINE_SPACE];
     let end = too_long_text(taken, &mut line);
     print(out, &line, end)
 }
 
-// Prints the front of a buffer.
+// Prints the front of a buffer. After an error, some of its bytes may have been written.
 pub fn print(out: &impl Print, line: &[u8], end: usize) -> Result<()> {
     if end <= line.len() {
         out.write_all(&line[..end])?;

@@ -1,5 +1,5 @@
 -- What `io::decimal` wrote is the defined text, by `decimal_is`.
-use Rattle.std.proofs.Common.{◌≡◌, ◌≤◌, length, take, ◌∙◌, arith, rules}
+use Rattle.std.proofs.Common.{◌≡◌, ◌≤◌, length, take, ◌∙◌, arith}
 use Rattle.texts.specs.PutLaws.{put_as}
 use Rattle.texts.proofs.DecimalLaws.{within, decimal_is}
 use Rattle.texts.proofs.put_decimal.Goals as goal

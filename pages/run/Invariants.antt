@@ -1,9 +1,0 @@
--- The loop goes from case to case, so many at most; the lengths of both buffers stay.
-use Rattle.std.proofs.Common.{◌≡◌, length}
-use Rattle.vectors.proofs.pages.run.Given as goal
-
-abbrev pub invariant-loop-left : goal.invariant-loop-left
-invariant-loop-left g l = (length l.bytes ≡ length l.initial.bytes) × (length l.res ≡ length l.initial.res)
-
-abbrev pub decreases-loop-left : goal.decreases-loop-left
-decreases-loop-left g l = l.left
