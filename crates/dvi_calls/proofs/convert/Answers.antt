@@ -9,7 +9,7 @@ use Rattle.dvi_calls.proofs.convert.Goals as goal
 pub returns-then-out-size : goal.returns-then-out-size
 returns-then-out-size c =
     let args = c.args in
-    let sized = rw c.decreases.given.1 at c.measure-measured.ensures in
+    let sized = rw c.in-Bytes.is at c.measure-measured.ensures in
     let out = args.out.now in record {
       result_value = sym (answer_full args.from args.s.now sized.reads _ (omega (arith, sized.size_is)));
       out_after = sym (buffer_full args.from args.s.now sized.reads out (omega (arith, sized.size_is)));
@@ -17,12 +17,12 @@ returns-then-out-size c =
 
 pub transcribe-requires : goal.transcribe-requires
 transcribe-requires c =
-    record { size = _; sized = rw c.decreases.given.1 at c.measure-measured.ensures; room = c.if-out-size.false }
+    record { size = _; sized = rw c.in-Bytes.is at c.measure-measured.ensures; room = c.if-out-size.false }
 
 pub returns-else-out-size : goal.returns-else-out-size
 returns-else-out-size c =
     let args = c.args in
-    let sized = rw c.decreases.given.1 at c.measure-measured.ensures in record {
+    let sized = rw c.in-Bytes.is at c.measure-measured.ensures in record {
       result_value = ap accepted sized.size_is ∙ sym (answer_made args.from args.s.now sized.reads _ (omega (arith, sized.size_is)));
       out_after = c.transcribe.ensures;
     }

@@ -2,7 +2,6 @@
 -- bytes are nodes exactly where the loop comes to their end.
 -- Assumes nothing.
 use mathlib.Core.Path.{refl, ap, ◌∙◌}
-use Prim.Native.Nat.{◌-◌}
 use native.Mathlib.Omega.{arith}
 use lib.ListN.{length}
 use Rattle.dvi.specs.declared.forms.Form.{Form}
@@ -44,11 +43,18 @@ loop-at-preserved c =
     passed_next c.loop-at.invariant _ there c.size-at.ensures c.size-size.ensures
 
 pub overflow_add-size : goal.overflow_add-size
-overflow_add-size c = omega (arith, (turn c.before).inside, (turn c.before).small)
+overflow_add-size c =
+    let args = c.args in
+    let there = front_there args.from c.loop-at.at args.s.now c.front-front.ensures c.in-Starts.is in
+    let turn = passed_next c.loop-at.invariant _ there c.size-at.ensures c.size-size.ensures in
+    omega (arith, turn.inside, turn.small)
 
 pub loop-at-smaller : goal.loop-at-smaller
 loop-at-smaller c =
-    omega (arith, (turn c.before).inside, c.size-at.ensures, size_least c.args.from (node_as c.in-Starts.node))
+    let args = c.args in
+    let there = front_there args.from c.loop-at.at args.s.now c.front-front.ensures c.in-Starts.is in
+    let turn = passed_next c.loop-at.invariant _ there c.size-at.ensures c.size-size.ensures in
+    omega (arith, turn.inside, c.size-at.ensures, size_least c.args.from (node_as c.in-Starts.node))
 
 pub returns : goal.returns
 returns c =

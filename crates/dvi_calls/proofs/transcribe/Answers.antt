@@ -2,7 +2,6 @@
 -- into the part of the buffer that is lent from the end of the last one on.
 -- Assumes nothing.
 use mathlib.Core.Path.{refl}
-use Prim.Native.Nat.{◌-◌}
 use native.Mathlib.Omega.{arith}
 use Rattle.dvi.specs.FrontLaws.{size_least}
 use Rattle.dvi_nodes.specs.Values.{node_as}
@@ -57,11 +56,15 @@ loop-at-preserved c =
 
 pub overflow_add-end : goal.overflow_add-end
 overflow_add-end c =
-    omega (arith, copied_room (turn c.before) c.other-to.ensures c.requires, (turn c.before).same)
+    let there = front_there c.args.from c.loop-at.at c.args.s.now c.front-front.ensures c.in-Starts.is in
+    let turn = copied_next c.loop-at.invariant _ c.other-to.ensures c.requires there c.size-at.ensures c.size-end.ensures c.put.ensures in
+    omega (arith, copied_room turn c.other-to.ensures c.requires, turn.same)
 
 pub loop-at-smaller : goal.loop-at-smaller
 loop-at-smaller c =
-    omega (arith, (turn c.before).passed.inside, c.size-at.ensures, size_least c.args.from (node_as c.in-Starts.node))
+    let there = front_there c.args.from c.loop-at.at c.args.s.now c.front-front.ensures c.in-Starts.is in
+    let turn = copied_next c.loop-at.invariant _ c.other-to.ensures c.requires there c.size-at.ensures c.size-end.ensures c.put.ensures in
+    omega (arith, turn.passed.inside, c.size-at.ensures, size_least c.args.from (node_as c.in-Starts.node))
 
 pub shape_of-out : goal.shape_of-out
 shape_of-out c = c.loop-at.invariant.same
