@@ -2,5 +2,4 @@
 pub mod Fractions
 pub mod Reasons
 pub mod Stages
-pub mod ReasonsLaws
 pub mod ClearanceLaws

@@ -1,5 +1,4 @@
--- What decided the shifts of scripts: the reasons, the stages that a shift goes through, and that the reasons are true of them.
+-- What decided the shifts of scripts: the reasons, and the stages that a shift goes through.
 -- Assumes nothing.
 pub mod Reasons
 pub mod Stages
-pub mod ReasonsLaws

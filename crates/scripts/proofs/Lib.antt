@@ -1,2 +1,3 @@
--- The worked examples. Assumes nothing.
+-- The worked examples; what scripts keep clear. Assumes nothing.
 mod Examples
+pub mod ClearanceLaws

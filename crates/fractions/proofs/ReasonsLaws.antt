@@ -20,7 +20,8 @@ use Rattle.reasons.specs.declared.Reason.{Reason}
 use Rattle.reasons.specs.declared.Reason.TheVariants.{None, Drop, Sigma, XHeight, Gap, Psi, Clearance}
 use Rattle.reasons.specs.Reasons.{shift_by, corrected}
 use Rattle.reasons.specs.Stages.{stage, order, Changed, True, AllTrue}
-use Rattle.reasons.specs.ReasonsLaws.{corrected_shift, corrected_kept, by_its_test, true_by_stages}
+use Rattle.reasons.proofs.ReasonsLaws.{corrected_shift, corrected_kept, true_by_stages}
+use Rattle.reasons.specs.ReasonsLaws.{by_its_test}
 use Rattle.fractions.specs.Fractions.{bar_thickness, has_bar, fraction_shifts, least_clearance, clearance, parted, shifts_without_bar, least_from_bar, cleared, shifts_with_bar, final_shifts, fraction}
 use Rattle.fractions.specs.Reasons.{fraction_reasons}
 use Rattle.fractions.specs.Stages.{quantities, part_stages, half_lack, up_cleared, down_cleared, fraction_stages}

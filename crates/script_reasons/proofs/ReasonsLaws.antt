@@ -25,7 +25,8 @@ use Rattle.reasons.specs.declared.Reason.{Reason}
 use Rattle.reasons.specs.declared.Reason.TheVariants.{None, Drop, Sigma, XHeight, Gap, Psi, Clearance}
 use Rattle.reasons.specs.Reasons.{Reasons, corrected}
 use Rattle.reasons.specs.Stages.{ShiftStages, stage, order, Changed, True, AllTrue}
-use Rattle.reasons.specs.ReasonsLaws.{corrected_shift, corrected_kept, by_its_test, true_by_stages}
+use Rattle.reasons.specs.ReasonsLaws.{by_its_test}
+use Rattle.reasons.proofs.ReasonsLaws.{corrected_shift, corrected_kept, true_by_stages}
 use Rattle.scripts.specs.Scripts.{Candidates, greatest, kept_free, subscript_candidates, superscript_candidates, pair_candidates, gap, four_rules, gap_down, ψ_of, lifted, spread, pair_shifts, scripted}
 use Rattle.script_reasons.specs.Reasons.{first_greatest, chosen, widened, first_shifts, pair_reasons, script_reasons}
 use Rattle.script_reasons.specs.Stages.{quantities, alone_stages, up_after_ψ, down_at_gap, down_after_ψ, pair_up_stages, script_stages}

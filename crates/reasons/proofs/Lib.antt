@@ -1,0 +1,2 @@
+-- That the reason of a shift is true. Assumes nothing.
+pub mod ReasonsLaws

@@ -1,0 +1,2 @@
+-- That the reasons of scripts are true. Assumes nothing.
+pub mod ReasonsLaws
