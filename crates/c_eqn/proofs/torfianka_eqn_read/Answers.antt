@@ -7,7 +7,7 @@ use lib.ListN.{length}
 use Rattle.results.specs.Results.{answer_by}
 use Rattle.results.specs.Values.{report_as}
 use Rattle.eqn_meaning.specs.Answers.{read_result, no_room}
-use Rattle.eqn_meaning.specs.ResultLaws.{read_place}
+use Rattle.eqn_meaning.proofs.ResultLaws.{read_place}
 use Rattle.c_words.specs.WordsLaws.{enough, short, reported}
 use Rattle.c_eqn.proofs.Reported.{small}
 use Rattle.c_eqn.proofs.torfianka_eqn_read.Goals as goal
