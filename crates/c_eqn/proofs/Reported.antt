@@ -11,7 +11,7 @@ use Rattle.results.specs.Results.{Result, refused, Answered, answer_by}
 use Rattle.results.specs.ResultsLaws.{answer_bytes, answer_place}
 use Rattle.results.specs.Values.{report_as}
 use Rattle.eqn_meaning.specs.Answers.{no_room}
-use Rattle.eqn_meaning.specs.ResultLaws.{Within}
+use Rattle.eqn_meaning.proofs.ResultLaws.{Within}
 
 module _ (table text : List ℕ) (room : ℕ) (result : Result) (places : (n p : ℕ) → result ≡ refused n p → Within table text p) (report : Report)
     (is : report_as report ≡ answer_by no_room room result) where

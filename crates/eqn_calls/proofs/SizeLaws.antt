@@ -20,7 +20,7 @@ use Rattle.eqn_tokens.specs.Tokens.{Token}
 use Rattle.eqn_grammar.specs.Grammar.{Row, row_tokens}
 use Rattle.eqn_meaning.specs.Meaning.{items_within, fits_formula}
 use Rattle.eqn_meaning.specs.Writing.{text_of}
-use Rattle.eqn_meaning.specs.ResultLaws.{fits_within_limits, large_past_limits}
+use Rattle.eqn_meaning.proofs.ResultLaws.{fits_within_limits, large_past_limits}
 use Rattle.eqn_stores.specs.declared.Made.{Made}
 use Rattle.eqn_stores.specs.declared.Made.TheVariants as made
 use Rattle.eqn_read.specs.Values.{Wrote}

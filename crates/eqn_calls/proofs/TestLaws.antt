@@ -19,7 +19,7 @@ use Rattle.eqn_grammar.specs.Grammar.{Row}
 use Rattle.eqn_grammar.specs.Parsing.{Parsed, whole, stuck, parse}
 use Rattle.results.specs.Results.{refused}
 use Rattle.eqn_meaning.specs.Answers.{read_result, write_result, unknown_word, outside_grammar, bad_names}
-use Rattle.eqn_meaning.specs.ResultLaws.{table_refused, unknown_refused, stuck_refused}
+use Rattle.eqn_meaning.proofs.ResultLaws.{table_refused, unknown_refused, stuck_refused}
 use Rattle.eqn_calls.specs.declared.Answer.TheVariants.{UnknownWord, OutsideGrammar, BadNames}
 use Rattle.eqn_calls.specs.Values.{Refuses}
 

@@ -1,4 +1,5 @@
--- What the proofs of several functions use. Assumes nothing.
+-- What the proofs of several functions use; in StageLaws the laws of the stages. Assumes nothing.
+pub mod StageLaws
 mod Slots
 mod Rest
 mod Walking

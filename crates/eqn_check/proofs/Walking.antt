@@ -32,7 +32,7 @@ use Rattle.eqn_check.specs.declared.stages.Stage.TheVariants.{Unseen}
 use Rattle.eqn_check.specs.declared.stages.Step.{Step}
 use Rattle.eqn_check.specs.declared.stages.Step.TheVariants.{Stuck, Whole, On, In, Out}
 use Rattle.eqn_check.specs.Stages.{stage_of, seen_as, behind_primary, is_wanting, step_of}
-use Rattle.eqn_check.specs.StageLaws.{step_seen, is_none, stage_taking, primary_seen, stage_joining, keyword_steps, stage_ended}
+use Rattle.eqn_check.proofs.StageLaws.{step_seen, is_none, stage_taking, primary_seen, stage_joining, keyword_steps, stage_ended}
 use Rattle.eqn_check.specs.Windows.{levels, slot_of, is_seen, fresh_of, right_answer, fault_level, NotBefore, Passed}
 use Rattle.eqn_check.proofs.Slots.{slot_small, Kept, kept_set}
 use Rattle.eqn_check.proofs.Rest.{tested_from, Reads, reads_begun, reads_next, reads_stuck, reads_end}

@@ -2,5 +2,4 @@
 -- Assumes nothing.
 pub mod Values
 pub mod Stages
-pub mod StageLaws
 pub mod Windows

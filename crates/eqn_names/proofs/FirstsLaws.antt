@@ -20,7 +20,7 @@ use Rattle.laws.specs.Truths.{by_test}
 use Rattle.eqn_tokens.specs.BytesLaws.{here, same_not}
 use Rattle.eqn_names.specs.Names.{Name, front_name, record_bytes, named, Records, ended}
 use Rattle.eqn_names.specs.Firsts.{places, mix, hash_from, hash_of, From, Listed, kept}
-use Rattle.eqn_names.specs.NamesLaws.{named_next, named_append, named_more}
+use Rattle.eqn_names.proofs.NamesLaws.{named_next, named_append, named_more}
 use Rattle.eqn_names.specs.RecordsLaws.{records_append, records_one, records_none}
 
 -- ---- hashes

@@ -1,4 +1,5 @@
--- What the proofs of several functions use. Assumes nothing.
+-- What the proofs of several functions use; in NamesLaws the laws of the name table. Assumes nothing.
+pub mod NamesLaws
 mod KindLaws
 mod WalkLaws
 mod TableLaws

@@ -17,7 +17,7 @@ use Rattle.eqn_names.specs.declared.Checked.TheVariants.{Good, BadAt}
 use Rattle.eqn_names.specs.Names.{Name, front_name, record_bytes, is_new, names, table_step, table_by, table_of, Records, ended}
 use Rattle.eqn_names.specs.Values.{table_told}
 use Rattle.eqn_names.specs.RecordsLaws.{records_more}
-use Rattle.eqn_names.specs.NamesLaws.{table_bad, table_old, table_next}
+use Rattle.eqn_names.proofs.NamesLaws.{table_bad, table_old, table_next}
 use Rattle.eqn_names.proofs.WalkLaws.{name_at, Stands}
 
 module _ (s : List ℕ) where

@@ -14,7 +14,7 @@ use Rattle.std.proofs.Math.Option.{Option, none, some}
 use Rattle.std.proofs.Common.{arith}
 use Rattle.eqn_tokens.specs.Tokens.{Token, word, keyword, opening, closing, other}
 use Rattle.eqn_names.specs.Names.{Name, named, is_there}
-use Rattle.eqn_names.specs.NamesLaws.{Tabled}
+use Rattle.eqn_names.proofs.NamesLaws.{Tabled}
 use Rattle.eqn_names.specs.Unknown.{is_unknown, one_more, first_unknown}
 
 pub data All (P : Token → Type 0) : List Token → Type 0 where

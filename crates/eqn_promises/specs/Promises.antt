@@ -11,12 +11,12 @@
 -- ---- the grammar
 
 -- tokens have at most one derivation
-pub use Rattle.eqn_grammar.specs.ParsingLaws.{only_derivation}
+pub use Rattle.eqn_grammar.proofs.ParsingLaws.{only_derivation}
 -- `parse` comes to the derivation of the tokens that one derives, and what it comes to derives them
-pub use Rattle.eqn_grammar.specs.ParsingLaws.{parse_complete, parse_sound}
+pub use Rattle.eqn_grammar.proofs.ParsingLaws.{parse_complete, parse_sound}
 -- where `parse` gets stuck the tokens before begin some text of the grammar, and with the next one they begin none; at the end they make
 -- no text; and it gets stuck nowhere else
-pub use Rattle.eqn_grammar.specs.ParsingLaws.{stuck_viable, stuck_there, stuck_end, stuck_is}
+pub use Rattle.eqn_grammar.proofs.ParsingLaws.{stuck_viable, stuck_there, stuck_end, stuck_is}
 -- ---- answers
 
 -- what comes out is always a formula: bytes that read, within the limits, as the tree that the text means
@@ -47,7 +47,7 @@ pub use Rattle.eqn_promises.specs.Room.{read_room, write_room}
 -- ---- places
 
 -- a refusal's place lies within the name table, the text or the formula
-pub use Rattle.eqn_meaning.specs.ResultLaws.{read_place, write_place}
+pub use Rattle.eqn_meaning.proofs.ResultLaws.{read_place, write_place}
 -- ---- examples
 
 -- the request's own, byte for byte

@@ -20,11 +20,11 @@ use Rattle.eqn_names.specs.Names.{Name, Table, names, bad_at, table_of}
 use Rattle.eqn_names.specs.Unknown.{first_unknown}
 use Rattle.eqn_grammar.specs.Grammar.{Row, row_tokens, Viable}
 use Rattle.eqn_grammar.specs.Parsing.{Parsed, whole, stuck, parse}
-use Rattle.eqn_grammar.specs.ParsingLaws.{parse_complete, parse_sound, stuck_viable, stuck_within, stuck_there, stuck_end, stuck_is}
+use Rattle.eqn_grammar.proofs.ParsingLaws.{parse_complete, parse_sound, stuck_viable, stuck_within, stuck_there, stuck_end, stuck_is}
 use Rattle.results.specs.Results.{Result, made, refused}
 use Rattle.eqn_meaning.specs.Meaning.{row_items, fits_formula}
 use Rattle.eqn_meaning.specs.Answers.{unknown_word, outside_grammar, too_large, bad_names, if_fits, if_whole, if_known, with_names, read_result}
-use Rattle.eqn_meaning.specs.ResultLaws.{stuck_refused, large_refused}
+use Rattle.eqn_meaning.proofs.ResultLaws.{stuck_refused, large_refused}
 use Rattle.eqn_promises.specs.Plain.{row_plain}
 use Rattle.eqn_promises.specs.ReadsBack.{made_reads, formula_fits}
 use Rattle.eqn_promises.specs.OnlySo.{made_read}

@@ -20,10 +20,10 @@ use Rattle.formula_spelling.specs.SpellingLaws.{spelled}
 use Rattle.formula.specs.FormatLaws.{reads_so}
 use Rattle.eqn_tokens.specs.Tokens.{tokens_in}
 use Rattle.eqn_names.specs.Names.{Name, names, table_of}
-use Rattle.eqn_names.specs.NamesLaws.{table_records, table_names}
+use Rattle.eqn_names.proofs.NamesLaws.{table_records, table_names}
 use Rattle.eqn_names.specs.Unknown.{first_unknown}
 use Rattle.eqn_grammar.specs.Grammar.{row_tokens}
-use Rattle.eqn_grammar.specs.ParsingLaws.{parse_complete, parse_sound}
+use Rattle.eqn_grammar.proofs.ParsingLaws.{parse_complete, parse_sound}
 use Rattle.eqn_meaning.specs.Meaning.{row_items}
 use Rattle.eqn_meaning.specs.Writing.{text_of}
 use Rattle.results.specs.Results.{made, refused}

@@ -24,10 +24,10 @@ use Rattle.eqn_tokens.specs.Tokens.{Token, word, keyword, opening, closing, othe
 use Rattle.eqn_tokens.specs.declared.tokens.Keyword.{Keyword}
 use Rattle.eqn_tokens.specs.declared.tokens.Keyword.TheVariants.{Sub, Sup, Over, From, To}
 use Rattle.eqn_names.specs.Names.{Name}
-use Rattle.eqn_names.specs.NamesLaws.{named_is}
+use Rattle.eqn_names.proofs.NamesLaws.{named_is}
 use Rattle.eqn_grammar.specs.Grammar as grammar
 use Rattle.eqn_grammar.specs.Grammar.{row_tokens, limited_tokens, limit_tokens, overs_tokens, scripted_tokens, script_tokens, primary_tokens}
-use Rattle.eqn_grammar.specs.ParsingLaws.{parse_sound}
+use Rattle.eqn_grammar.proofs.ParsingLaws.{parse_sound}
 use Rattle.results.specs.Results.{made}
 use Rattle.eqn_meaning.specs.Meaning.{Operand, Nucleus, in_list, is_absent, atom, atom_of, fraction_item, fraction_of, limits_of, row_items, limited_item, limit_field, overs_operand, scripted_operand, script_field, primary_nucleus}
 use Rattle.eqn_meaning.specs.Writing.{spaced, text_of}

@@ -9,7 +9,7 @@ use Rattle.std.proofs.Common.{ap, ◌∙◌}
 use Rattle.eqn_tokens.specs.Tokens.{Token, word, keyword, opening, closing, other, token_bytes, tokens_from, tokens_in}
 use Rattle.eqn_tokens.specs.TokensLaws.{begins_word, tokens_separator}
 use Rattle.eqn_names.specs.Names.{Name}
-use Rattle.eqn_names.specs.NamesLaws.{named_is}
+use Rattle.eqn_names.proofs.NamesLaws.{named_is}
 use Rattle.eqn_promises.specs.WrittenLaws.{CanStand, token_then_lem, tabled_stands}
 use Rattle.eqn_meaning.specs.Writing.{spaced, text_of}
 use Rattle.eqn_promises.specs.Known.{All, all_nil, all_cons, GoodNames, Written}

@@ -12,7 +12,7 @@ use Rattle.formula.specs.Tree.{Items, Item, Field, nil, cons, empty, symbol, lis
 use Rattle.formula.specs.Heads.{class_number}
 use Rattle.eqn_tokens.specs.Tokens.{keyword, closing}
 use Rattle.eqn_names.specs.Names.{Name, Asked, any_class, of_class, has_class, first_for}
-use Rattle.eqn_names.specs.NamesLaws.{named_is, first_none}
+use Rattle.eqn_names.proofs.NamesLaws.{named_is, first_none}
 use Rattle.eqn_grammar.specs.Grammar as grammar
 use Rattle.eqn_grammar.specs.Grammar.{Row, Limited, NoOvers, Overs, NoPrimary, no_primary, some_primary, Primary, row_tokens, limited_tokens, limit_tokens, overs_tokens, scripted_tokens, script_tokens, primary_tokens}
 use Rattle.eqn_meaning.specs.Meaning.{Operand, Nucleus, is_absent, atom, atom_of, fraction_item, fraction_of, limits_of, word_nucleus, row_items, limited_item, limit_field, overs_operand, scripted_operand, script_field, primary_nucleus}

@@ -20,7 +20,7 @@ use Rattle.formula.specs.Tree.{Items, Item, Field, nil, cons, noad, kern, restyl
 use Rattle.formula.specs.Heads.{class_number}
 use Rattle.eqn_tokens.specs.Tokens.{word}
 use Rattle.eqn_names.specs.Names.{Name, Asked, any_class, of_class, has_class, first_for}
-use Rattle.eqn_names.specs.NamesLaws.{first_is}
+use Rattle.eqn_names.proofs.NamesLaws.{first_is}
 use Rattle.eqn_grammar.specs.Grammar as grammar
 use Rattle.eqn_grammar.specs.Grammar.{Row, Limited, NoPrimary, no_primary, some_primary, Primary, row_tokens, limited_tokens, limit_tokens, overs_tokens, scripted_tokens, script_tokens, primary_tokens}
 use Rattle.eqn_grammar.specs.Parsing.{bare}

@@ -14,7 +14,7 @@ use Rattle.eqn_tokens.specs.Bytes.{is_word_byte, all_word_bytes, same}
 use Rattle.eqn_tokens.specs.Tokens.{Token, word, keyword, opening, closing, other, sub_bytes, sup_bytes, over_bytes, from_bytes, to_bytes, keyword_of, token_bytes, run_length, mark_of, tokens_in}
 use Rattle.eqn_tokens.specs.TokensLaws.{keyword_bytes_lem, begins_word, run_none, tokens_skip, tokens_word, tokens_mark}
 use Rattle.eqn_names.specs.Names.{Name, is_word, is_keyword}
-use Rattle.eqn_names.specs.NamesLaws.{Tabled}
+use Rattle.eqn_names.proofs.NamesLaws.{Tabled}
 use Rattle.eqn_tokens.specs.declared.tokens.Keyword.TheVariants.{Sub, Sup, Over, From, To}
 
 pub record WordCanStand (w : List ℕ) : Type 0 where

@@ -20,7 +20,7 @@ use borrow.Author.Tests.{eq-eqb, ne_eqb}
 use Rattle.laws.specs.Options.{none_some}
 use Rattle.eqn_tokens.specs.Tokens.{Token, tokens_in}
 use Rattle.eqn_tokens.specs.BytesLaws.{rest_lent}
-use Rattle.eqn_grammar.specs.ReadLaws.{single_tokens}
+use Rattle.eqn_grammar.proofs.ReadLaws.{single_tokens}
 use Rattle.eqn_grammar.specs.Grammar.{limited, NoOvers, no_overs, some_overs, Overs, single, fraction, Scripted, scripted, NoPrimary, no_primary, some_primary, Primary, limited_tokens, limit_tokens, overs_tokens, scripted_tokens, script_tokens, primary_tokens}
 use Rattle.eqn_grammar.specs.Splits.{last_outside}
 use Rattle.eqn_grammar.specs.SplitLaws.{last_to, no_to, last_from_lem, no_from, last_over, no_over, last_sup, no_sup, last_sub, no_sub, limited_without_to, scripted_without_sup}

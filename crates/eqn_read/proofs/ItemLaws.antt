@@ -26,7 +26,7 @@ use Rattle.formula.specs.declared.Kind.TheVariants as kind
 use Rattle.formula.specs.Tree.{noad, Field, empty}
 use Rattle.formula.specs.Heads.{class_number}
 use Rattle.formula_spelling.specs.Spelling.{kind_spelling, item_spelling, field_spelling}
-use Rattle.eqn_grammar.specs.ReadLaws.{single_tokens}
+use Rattle.eqn_grammar.proofs.ReadLaws.{single_tokens}
 use Rattle.eqn_grammar.specs.Grammar.{limited, NoOvers, no_overs, some_overs, Overs, single, fraction, Scripted, scripted, Primary, limited_tokens, overs_tokens, primary_tokens}
 use Rattle.eqn_grammar.specs.Parsing.{bare}
 use Rattle.eqn_meaning.specs.Meaning.{fraction_item, limited_item, limit_field, overs_operand, scripted_operand, script_field, primary_nucleus, item_within, field_within, atom_of}

@@ -17,7 +17,7 @@ use Rattle.formula.specs.declared.Limits.TheVariants.{Always}
 use Rattle.formula.specs.declared.Base.TheVariants.{Atom}
 use Rattle.formula.specs.declared.Kind.TheVariants as kind
 use Rattle.formula.specs.Tree.{Item, Field, noad, empty}
-use Rattle.eqn_grammar.specs.ReadLaws.{single_tokens}
+use Rattle.eqn_grammar.proofs.ReadLaws.{single_tokens}
 use Rattle.eqn_grammar.specs.Grammar.{Limited, limited, NoOvers, no_overs, some_overs, Overs, single, fraction, Scripted, scripted, NoPrimary, no_primary, some_primary, Primary, named, braced, limited_tokens, overs_tokens, scripted_tokens, primary_tokens}
 use Rattle.eqn_grammar.specs.Parsing.{bare}
 use Rattle.eqn_grammar.specs.Splits.{last_outside}

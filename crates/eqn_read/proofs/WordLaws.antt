@@ -25,7 +25,7 @@ use Rattle.formula.specs.Heads.{class_number}
 use Rattle.eqn_meaning.specs.Meaning.{or_no_name, class_of}
 use Rattle.eqn_read.specs.Values.{found_family, found_code}
 use Rattle.eqn_read.proofs.MeantLaws.{Some}
-use Rattle.eqn_names.specs.NamesLaws.{records_good, named_is}
+use Rattle.eqn_names.proofs.NamesLaws.{records_good, named_is}
 use Rattle.eqn_meaning.specs.MeaningLaws.{class_own}
 
 -- ---- the first token

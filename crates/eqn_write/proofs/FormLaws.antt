@@ -17,7 +17,7 @@ use Rattle.eqn_tokens.specs.Tokens.{Token, keyword}
 use Rattle.eqn_names.specs.Names.{asked_as}
 use Rattle.eqn_grammar.specs.Grammar as grammar
 use Rattle.eqn_grammar.specs.Grammar.{Row, Limited, NoPrimary, no_primary, some_primary, Primary, limited_tokens, limit_tokens, overs_tokens, scripted_tokens, script_tokens, primary_tokens}
-use Rattle.eqn_grammar.specs.ReadLaws.{single_tokens}
+use Rattle.eqn_grammar.proofs.ReadLaws.{single_tokens}
 use Rattle.eqn_meaning.specs.Writing.{Derived, nothing, operand, textless, as_group, group_for, with_script, with_operand, single, limit, atom_derived, limits_on, limits_derived, fraction_derived}
 use Rattle.eqn_write.specs.Writes.{joined, of_operand, of_script, of_item}
 use Rattle.eqn_tokens.specs.declared.tokens.Keyword.TheVariants.{Sub, Sup, Over, From, To}

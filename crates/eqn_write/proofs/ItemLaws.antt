@@ -16,7 +16,7 @@ use lib.ListN.{length, drop}
 use Rattle.laws.specs.Truths.{both_true, true_both}
 use Rattle.eqn_tokens.specs.Tokens.{Token, keyword}
 use Rattle.eqn_names.specs.Names.{Name, Asked, any_class, of_class, asked_as, first_for}
-use Rattle.eqn_names.specs.NamesLaws.{asked_class}
+use Rattle.eqn_names.proofs.NamesLaws.{asked_class}
 use Rattle.formula.specs.declared.Class.{Class}
 use Rattle.formula.specs.declared.Class.TheVariants.{Ord, Op, Bin, Rel, Open, Close, Punct, Inner}
 use Rattle.formula.specs.declared.Limits.TheVariants.{DisplayOnly, Always, Never}

@@ -22,7 +22,7 @@ use Rattle.eqn_meaning.specs.Writing.{as_word}
 use Rattle.eqn_write.specs.Values.{token_text, Texted, Untexted, HasNames}
 use Rattle.eqn_write.specs.Writes.{of_operand}
 use Rattle.eqn_write.proofs.PutLaws.{token_put}
-use Rattle.eqn_names.specs.NamesLaws.{records_good, first_is}
+use Rattle.eqn_names.proofs.NamesLaws.{records_good, first_is}
 
 pub text_size : (at : ℕ) (w : List ℕ) → (length w ≤ length (token_text at w)) × (length (token_text at w) ≤ length w + 1)
 text_size zero w = (omega arith, omega arith)

@@ -1,7 +1,7 @@
 -- The answer, and the buffer, where there is room for the answer. Assumes nothing.
 use Rattle.std.proofs.Common.{◌∙◌, length, arith, rules}
 use Rattle.eqn_meaning.specs.Answers.{read_result}
-use Rattle.eqn_meaning.specs.ResultLaws.{read_place}
+use Rattle.eqn_meaning.proofs.ResultLaws.{read_place}
 use Rattle.c_words.specs.WordsLaws.{enough, short, reported}
 use Rattle.c_eqn.proofs.Reported.{small}
 use Rattle.c_eqn.proofs.torfianka_eqn_read.Goals as goal

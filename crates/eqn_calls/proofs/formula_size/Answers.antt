@@ -1,5 +1,5 @@
 -- `formula_size` meets its contract: what is written of a derivation has the size of its formula, whatever room there is. Assumes nothing.
-use Rattle.eqn_grammar.specs.ParsingLaws.{parse_sound}
+use Rattle.eqn_grammar.proofs.ParsingLaws.{parse_sound}
 use Rattle.eqn_meaning.specs.Meaning.{row_items}
 use Rattle.eqn_calls.proofs.SizeLaws.{made_sized}
 use Rattle.eqn_calls.proofs.formula_size.Goals as goal

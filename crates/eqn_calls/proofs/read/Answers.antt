@@ -2,12 +2,12 @@
 -- Assumes nothing.
 use mathlib.Core.Path.{refl, sym, ap, ◌∙◌}
 use native.Mathlib.Omega.{arith}
-use Rattle.eqn_grammar.specs.ParsingLaws.{parse_sound}
+use Rattle.eqn_grammar.proofs.ParsingLaws.{parse_sound}
 use Rattle.eqn_meaning.specs.Meaning.{row_items}
 use Rattle.results.specs.Results.{accepted}
 use Rattle.eqn_meaning.specs.MadeLaws.{read_made}
 use Rattle.results.specs.ResultsLaws.{answer_refused, buffer_refused, answer_full, buffer_full, answer_made, buffer_stored}
-use Rattle.eqn_meaning.specs.ResultLaws.{large_refused}
+use Rattle.eqn_meaning.proofs.ResultLaws.{large_refused}
 use Rattle.eqn_calls.proofs.SizeLaws.{made_stored}
 use Rattle.eqn_calls.proofs.read.Goals as goal
 

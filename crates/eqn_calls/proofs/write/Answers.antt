@@ -4,11 +4,11 @@
 use mathlib.Core.Path.{refl, sym, ap, ◌∙◌}
 use native.Mathlib.Omega.{arith}
 use Rattle.formula.specs.PlacesLaws.{formula_good, formula_fault}
-use Rattle.eqn_names.specs.NamesLaws.{table_records}
+use Rattle.eqn_names.proofs.NamesLaws.{table_records}
 use Rattle.results.specs.Results.{accepted}
 use Rattle.eqn_meaning.specs.MadeLaws.{written_made}
 use Rattle.results.specs.ResultsLaws.{answer_refused, buffer_refused, answer_full, buffer_full, answer_made, buffer_stored}
-use Rattle.eqn_meaning.specs.ResultLaws.{unread_refused, textless_refused}
+use Rattle.eqn_meaning.proofs.ResultLaws.{unread_refused, textless_refused}
 use Rattle.eqn_calls.proofs.TestLaws.{bad_told, good_told, bad_unwritten}
 use Rattle.eqn_calls.proofs.SizeLaws.{put_stored}
 use Rattle.eqn_calls.proofs.write.Goals as goal

@@ -8,7 +8,7 @@ use Rattle.eqn_tokens.specs.Bytes.{same}
 use Rattle.eqn_tokens.specs.BytesLaws.{same_is}
 use Rattle.eqn_names.specs.Names.{named}
 use Rattle.eqn_names.specs.Values.{name_as}
-use Rattle.eqn_names.specs.NamesLaws.{named_first, named_next}
+use Rattle.eqn_names.proofs.NamesLaws.{named_first, named_next}
 use Rattle.eqn_names.proofs.WalkLaws.{name_at, name_bytes, Steps, steps, steps_not, passed_next, passed_found, passed_stopped, passed_all}
 use Rattle.eqn_names.proofs.find_from.Goals as goal
 

@@ -5,7 +5,7 @@ use mathlib.Core.Option.{Option}
 use Prim.Native.Nat.{ℕ}
 use native.Mathlib.Omega.{arith}
 use Rattle.eqn_names.specs.Names.{Name, first_for, first_place, asked_as}
-use Rattle.eqn_names.specs.NamesLaws.{is_for, first_here, first_next, place_here, place_next}
+use Rattle.eqn_names.proofs.NamesLaws.{is_for, first_here, first_next, place_here, place_next}
 use Rattle.eqn_names.proofs.WalkLaws.{name_at, name_bytes, Steps, steps, steps_not, passed_next, passed_found, passed_stopped, passed_all}
 use Rattle.eqn_names.proofs.first_for.Goals as goal
 

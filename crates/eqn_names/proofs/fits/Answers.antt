@@ -3,7 +3,7 @@
 use mathlib.Core.Path.{sym}
 use mathlib.Core.Bool.{◌&&◌, and-true}
 use lib.Dec.{eqb}
-use Rattle.eqn_names.specs.NamesLaws.{asked_any, asked_class}
+use Rattle.eqn_names.proofs.NamesLaws.{asked_any, asked_class}
 use Rattle.eqn_names.proofs.fits.Goals as goal
 
 pub returns-then-class-eq-ANY_CLASS : goal.returns-then-class-eq-ANY_CLASS

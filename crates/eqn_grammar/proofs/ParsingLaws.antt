@@ -20,7 +20,7 @@ use Rattle.laws.specs.Options.{none_some}
 use Rattle.eqn_tokens.specs.Tokens.{Token, keyword, closing}
 use Rattle.eqn_grammar.specs.Grammar.{Row, nil, beside, Limited, limited, NoOvers, no_overs, some_overs, Overs, single, fraction, Scripted, scripted, NoPrimary, no_primary, some_primary, Primary, named, braced, row_tokens, limited_tokens, limit_tokens, overs_tokens, scripted_tokens, script_tokens, primary_tokens, Viable}
 use Rattle.eqn_grammar.specs.Parsing.{bare, alone, with_last, on_scripted, on_open, with_sub, with_sup, joined, Limit, role_of, last_scripted, open_overs, open_role, limit_of, may_follow, Level, fresh, having, wanting, Reading, taking, joining, ended, read, Parsed, whole, stuck, one_later, at_end, parse_then, parse_from, begun, parse}
-use Rattle.eqn_grammar.specs.ReadLaws.{reading_tokens, around_tokens, reading, begun_sound, begun_tokens, ended_tokens, reads, reads_append, reads_then, reads_sound, reads_tokens, viable_before, sound_viable}
+use Rattle.eqn_grammar.proofs.ReadLaws.{reading_tokens, around_tokens, reading, begun_sound, begun_tokens, ended_tokens, reads, reads_append, reads_then, reads_sound, reads_tokens, viable_before, sound_viable}
 use Rattle.eqn_tokens.specs.declared.tokens.Keyword.{Keyword}
 use Rattle.eqn_tokens.specs.declared.tokens.Keyword.TheVariants.{Sub, Sup, Over, From, To}
 

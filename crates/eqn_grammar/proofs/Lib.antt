@@ -1,0 +1,3 @@
+-- The laws of the reading. Assumes nothing.
+pub mod ReadLaws
+pub mod ParsingLaws
