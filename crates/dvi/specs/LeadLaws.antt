@@ -1,13 +1,15 @@
 -- Whether some bytes begin with those of a node, place by place: the tests that the code makes.
 --     byte_test, byte_skip         a byte that is tested, and one that is taken as it stands
 --     stored_skip, big_skip        a number that is taken as it stands
---     stored-glyph, stored_rule, body_glyph_lem, body_rule_lem     the tests of a node of each kind
+--     marked, placed               the openings of stored nodes, and of a body's
+--     stored-glyph, body_glyph_lem     the tests of a glyph
+-- Those of a rule are in proofs/LeadLaws.antt.
 -- Assumes nothing.
 use Rattle.std.specs.Prelude.{◌≡◌, refl, false, ◌&&◌, ℕ, ◌+◌, ◌-◌, ◌*◌, ◌/◌, ◌%◌, ◌≤◌, ◌<◌, T, leb, ltb, neg_ℤ, get_or}
 use Rattle.std.proofs.Math.Path.{sym, ap}
 use Rattle.std.proofs.Common.{◌∙◌, arith, leb→le, le→leb, lt→ltb, take-append-drop, drop-cons, drop-drop, get_or-drop, length-take-le}
 use Rattle.std.proofs.Math.Bool.{true, and_assoc, and-true}
-use mathlib.Core.List.{List, [], ◌∷◌, ◌++◌, append_assoc, append-nil}
+use mathlib.Core.List.{List, [], ◌∷◌, ◌++◌, append_assoc}
 use Rattle.std.proofs.Math.Numerals.{add-one}
 use borrow.Author.Tests.{eq-eqb, ne_eqb, eqb-true}
 use Rattle.std.proofs.Math.Dec.{eqb, ltb→lt}
@@ -17,14 +19,12 @@ use Rattle.laws.specs.Truths.{same_truth}
 use Rattle.words.specs.Words.{little_endian, four_bytes}
 use Rattle.words.specs.WordLaws.{Bytes, four_back, four_again}
 use Rattle.nodes.specs.Nodes.{signed_bytes, node_bytes}
-use Rattle.nodes.specs.Stored.{number_at, glyph_in, rule_in}
+use Rattle.nodes.specs.Stored.{number_at, glyph_in}
 use Rattle.dvi.specs.Commands.{big_endian}
 use Rattle.dvi.specs.NumberLaws.{stored_again, big_again}
 use Rattle.dvi.specs.Body.{body_bytes}
-use Rattle.dvi.specs.BodyLaws.{at_place, glyph_body_lem, rule_body_lem}
-use Rattle.dvi.specs.Profile.{writable}
-use Rattle.dvi.specs.ProfileLaws.{facts, stored_width}
-use Rattle.dvi.specs.Forms.{body_number, body_glyph, body_rule, leads}
+use Rattle.dvi.specs.BodyLaws.{at_place, glyph_body_lem}
+use Rattle.dvi.specs.Forms.{body_number, body_glyph, leads}
 use Rattle.dvi.specs.FrontLaws.{leads_own, leads_is, leads_append}
 
 module _ (n : ℕ) (s : List ℕ) (room : n ≤ length s) where
@@ -66,7 +66,7 @@ module _ (n : ℕ) (s : List ℕ) (room : n ≤ length s) where
 
 module _ (s : List ℕ) (room : 18 ≤ length s) (byte : Bytes s) where
   -- a mark, and x and y as they stand
-  marked : (m m' : ℕ) (p : List ℕ) →
+  pub marked : (m m' : ℕ) (p : List ℕ) →
       leads (m ∷ m' ∷ (signed_bytes (number_at 2 s) ++ signed_bytes (number_at 6 s)) ++ p) s
       ≡ (eqb (get_or s 0 0) m && eqb (get_or s 1 0) m' && leads p (drop 10 s))
   marked m m' p =
@@ -97,22 +97,11 @@ module _ (s : List ℕ) (room : 18 ≤ length s) (byte : Bytes s) where
       ∙ rw (byte_skip 18 s room 10 tt, byte_skip 18 s room 11 tt, byte_skip 18 s room 12 tt, byte_test 18 s room 13 tt, zero_word)
       (sym (and_assoc (eqb (get_or s 0 0) 71 && eqb (get_or s 1 0) 76) (eqb (get_or s 13 0) 0) (eqb (little_endian 4 (drop 14 s)) 0))))
 
-  pub stored_rule : writable (rule_in s) ≡ true → (eqb (get_or s 0 0) 82 && eqb (get_or s 1 0) 85) ≡ leads (node_bytes (rule_in s)) s
-  unfolding node_bytes
-  stored_rule good =
-      let width = signed_bytes (number_at 10 s) in
-      let thickness = signed_bytes (number_at 14 s) in
-      let kept = stored_width (facts (rule_in s) good) in
-      let tail : leads (width ++ (thickness ++ [])) (drop 10 s) ≡ true =
-      stored_skip 18 s room byte 10 tt (thickness ++ []) ∙ stored_skip 18 s room byte 14 tt [] ∙ leads_own [] (drop 18 s) in
-      sym
-      (rw (kept, ← append-nil thickness) (marked 82 85 (width ++ (thickness ++ [])) ∙ rw tail (and-true (eqb (get_or s 0 0) 82 && eqb (get_or s 1 0) 85))))
-
 -- ---- a body's commands
 
 module _ (n : ℕ) (s : List ℕ) (room : n ≤ length s) (byte : Bytes s) where
   -- the opening, with its two numbers as they stand
-  placed : (k : ℕ) → T (leb (k + 11) n) → (p : List ℕ) →
+  pub placed : (k : ℕ) → T (leb (k + 11) n) → (p : List ℕ) →
       leads (at_place (body_number (k + 2) s) (body_number (k + 7) s) p) (drop k s)
       ≡ (eqb (get_or s k 0) 141 && (eqb (get_or s (k + 1) 0) 146 && (eqb (get_or s (k + 6) 0) 160 && leads p (drop (k + 11) s))))
   placed k l p =
@@ -130,16 +119,6 @@ module _ (n : ℕ) (s : List ℕ) (room : n ≤ length s) (byte : Bytes s) where
       ∙ rw (byte_test n s room (k + 1) at_1 146, two, big_skip n s room byte (k + 2) at-2, six, byte_test n s room (k + 6) at-6 160, seven, big_skip n s room byte (k + 7) at_7, eleven)
 
 module _ (s : List ℕ) (byte : Bytes s) where
-  pub body_rule_lem : 21 ≤ length s →
-      (eqb (get_or s 0 0) 141 && eqb (get_or s 1 0) 146 && eqb (get_or s 6 0) 160 && eqb (get_or s 11 0) 132 && eqb (get_or s 20 0) 142)
-      ≡ leads (body_bytes (body_rule s)) s
-  body_rule_lem room =
-      let tail : leads (132 ∷ (big_endian (body_number 12 s) ++ (big_endian (body_number 16 s) ++ (142 ∷ [])))) (drop 11 s) ≡ (eqb (get_or s 11 0) 132 && eqb (get_or s 20 0) 142) =
-      byte_test 21 s room 11 tt 132 _
-      ∙ rw (big_skip 21 s room byte 12 tt, big_skip 21 s room byte 16 tt, last_byte 21 s room 20 tt 142) in
-      rw (rule_body_lem (body_number 2 s) (neg_ℤ (body_number 7 s)) (body_number 16 s) (body_number 12 s), neg_ℤ-neg_ℤ, placed 21 s room byte 0 tt, tail)
-      (simp and_assoc)
-
   pub body_glyph_lem : 15 ≤ length s → 171 ≤ get_or s 0 0 →
       (eqb (get_or s 1 0) 141 && eqb (get_or s 2 0) 146 && eqb (get_or s 7 0) 160 && eqb (get_or s 12 0) 128 && eqb (get_or s 14 0) 142)
       ≡ leads (body_bytes (body_glyph s)) s

@@ -13,6 +13,5 @@ pub mod LeadLaws
 pub mod Stores
 pub mod ReadingLaws
 pub mod RoundTrip
-pub mod Examples
 pub mod AnswerLaws
 pub mod SetNodes

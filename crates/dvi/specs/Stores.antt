@@ -1,6 +1,6 @@
 -- What the code's stores come to.
 --     number_stored     the four bytes of a number that was turned round
---     place_stores, glyph_stores, rule_stores     stores one after the other are those of a node's bytes
+--     place_stores, glyph_stores     stores one after the other are those of a node's bytes; a rule's are in proofs/Stores.antt
 -- Assumes nothing.
 use Rattle.std.specs.Prelude.{◌≡◌, refl, List, [], ℤ, neg_ℤ, length, set}
 use Rattle.std.proofs.Common.{sym, ◌∙◌}
@@ -10,15 +10,15 @@ use Rattle.std.proofs.lemmas.List.Edits.{sets, sets-eq}
 use Rattle.scaled.specs.Made.{reach}
 use Rattle.scaled.specs.Signed.{Within}
 use Rattle.words.specs.Words.{word_of, four_bytes}
-use Rattle.nodes.specs.Nodes.{Node, glyph, rule, bytes_in_node, signed_bytes, node_bytes}
+use Rattle.nodes.specs.Nodes.{Node, glyph, bytes_in_node, signed_bytes, node_bytes}
 use Rattle.nodes.specs.NodeLaws.{length_node_bytes}
 use Rattle.nodes.specs.Buffer.{written, put, behind_nodes}
 use Rattle.nodes.specs.BufferLaws.{written_room, behind_at_lem}
 use Rattle.dvi.specs.Commands.{big_endian, command_bytes, commands_bytes, turned_word}
 use Rattle.dvi.specs.NumberLaws.{turned_bytes}
 use Rattle.dvi.specs.Body.{place_commands, commands_of, body_bytes}
-use Rattle.dvi.specs.BodyLaws.{glyph_size, rule_size_lem}
-use Rattle.dvi.specs.ProfileLaws.{Facts, of_glyph, of_rule}
+use Rattle.dvi.specs.BodyLaws.{glyph_size}
+use Rattle.dvi.specs.ProfileLaws.{Facts, of_glyph}
 
 pub number_stored : {w t : ℕ} (z : ℤ) → w ≡ word_of z → t ≡ turned_word w → four_bytes t ≡ big_endian z
 unfolding big_endian signed_bytes
@@ -45,12 +45,6 @@ module _ (b : List ℕ) where
       let opcode : 171 + 16 * size + family ≡ 171 + (16 * size + family) = omega arith in
       rw (first, opcode)
 
-  pub rule_stores : {b₁ b₂ b₃ : List ℕ} (x y width thickness : ℤ) → b₁ ≡ sets b 0 (commands_bytes (place_commands x y)) →
-      b₂ ≡ sets (set b₁ 11 132) 12 (big_endian thickness) → b₃ ≡ sets b₂ 16 (big_endian width) →
-      set b₃ 20 142 ≡ sets b 0 (body_bytes (rule x y width thickness))
-  unfolding body_bytes commands_of commands_bytes command_bytes big_endian signed_bytes four_bytes
-  rule_stores x y width thickness first second third = rw (third, second, first)
-
   -- a node's bytes over the front of a buffer, as the crate `nodes` has it
   pub written_sets : (s : List ℕ) → length s ≡ bytes_in_node → bytes_in_node ≤ length b → written s b ≡ sets b 0 s
   written_sets s size room =
@@ -68,7 +62,3 @@ module _ (b : List ℕ) where
 pub glyph_asks : {x y : ℤ} {size family code n : ℕ} → Facts (glyph x y size family code) →
     length (body_bytes (glyph x y size family code)) ≤ n → (15 ≤ n) × (size ≤ 2) × (family ≤ 15) × Within reach y
 glyph_asks {x} {y} {size} {family} {code} (of_glyph in-x in-y s f c) room = (omega (arith, glyph_size x y size family code), s, f, omega arith)
-
-pub rule_asks : {x y width thickness : ℤ} {n : ℕ} → Facts (rule x y width thickness) →
-    length (body_bytes (rule x y width thickness)) ≤ n → (21 ≤ n) × Within reach y
-rule_asks {x} {y} {width} {thickness} (of_rule in-x in-y w t) room = (omega (arith, rule_size_lem x y width thickness), omega arith)

@@ -22,8 +22,10 @@ use Rattle.dvi_nodes.specs.declared.Front.{Front}
 use Rattle.dvi.specs.Profile.{writable, all_writable}
 use Rattle.dvi.specs.ProfileLaws.{all_append}
 use Rattle.dvi.specs.Forms.{other_form, bytes_in, bytes_as, front_in, nodes_in}
-use Rattle.dvi.specs.FrontLaws.{size_least, size_most, front_is}
-use Rattle.dvi.specs.ReadingLaws.{bytes_nil, bytes_one, bytes_append, nodes_back, nodes_stopped, nodes_opened}
+use Rattle.dvi.specs.FrontLaws.{front_is}
+use Rattle.dvi.proofs.FrontLaws.{size_least, size_most}
+use Rattle.dvi.specs.ReadingLaws.{bytes_nil, bytes_one, bytes_append}
+use Rattle.dvi.proofs.ReadingLaws.{nodes_back, nodes_stopped, nodes_opened}
 use Rattle.dvi.specs.Answers.{buffer_after}
 use Rattle.dvi.specs.AnswerLaws.{buffer_made}
 use Rattle.dvi_nodes.specs.Values.{front_as}

@@ -20,7 +20,7 @@ use Rattle.dvi.specs.declared.forms.Form.TheVariants.{Stored, Body}
 use Rattle.dvi.specs.Forms.{other_form, bytes_as, nodes_in}
 use Rattle.dvi.specs.Answers.{refusal_number, no_room_number, if_read, result_of, answering, buffer_after}
 use Rattle.dvi.specs.AnswerLaws.{answer_refused, answer_full}
-use Rattle.dvi.specs.RoundTrip.{there_and_back}
+use Rattle.dvi.proofs.RoundTrip.{there_and_back}
 
 -- the bytes that a call has written of s into a buffer
 abbrev pub written : Form → List ℕ → List ℕ → List ℕ

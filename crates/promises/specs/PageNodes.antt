@@ -60,7 +60,8 @@ use Rattle.dvi.specs.Body.{body_of}
 use Rattle.dvi.specs.ProfileLaws.{Extent}
 use Rattle.results.specs.Results.{made}
 use Rattle.dvi.specs.Answers.{result_of as page_of}
-use Rattle.dvi.specs.SetNodes.{AllDrawable, stored_node, drawable_append, drawable_moved, set_written}
+use Rattle.dvi.specs.SetNodes.{AllDrawable, stored_node, drawable_append, drawable_moved}
+use Rattle.dvi.proofs.SetNodes.{set_written}
 use Rattle.answers.specs.Lent.{Lent, enough}
 use Rattle.answers.specs.Answers.{Result, boxed, refused, if_fits, if_present, if_read, if_enough, if_client, if_good, if_style, result_between}
 

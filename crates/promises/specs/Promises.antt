@@ -96,7 +96,8 @@ pub use Rattle.promises.specs.ItemExample.{behind_style, styled_up, behind_style
 -- ---- request 14: nodes as the body of a page
 
 -- what is written reads back to the same bytes, and what reads is what the writer writes
-pub use Rattle.dvi.specs.RoundTrip.{there_and_back, made_by, made_is, only_nodes}
+pub use Rattle.dvi.specs.RoundTrip.{made_is}
+pub use Rattle.dvi.proofs.RoundTrip.{there_and_back, made_by, only_nodes}
 -- and so over two calls, with a buffer each that has room: what the first has written at the front of its buffer, the second turns back
 pub use Rattle.promises.specs.PageCalls.{BackAgain, calls_back}
 -- the nodes of every accepted formula can be written

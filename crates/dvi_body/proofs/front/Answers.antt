@@ -2,7 +2,7 @@
 -- Assumes nothing.
 use native.Mathlib.Omega.{arith}
 use Rattle.dvi.specs.declared.forms.Form.TheVariants.{Body}
-use Rattle.dvi.specs.BodyLaws.{body_least}
+use Rattle.dvi.proofs.BodyLaws.{body_least}
 use Rattle.dvi.specs.Forms.{looks_like}
 use Rattle.dvi.specs.FrontLaws.{front_short}
 use Rattle.dvi_body.proofs.front.Goals as goal

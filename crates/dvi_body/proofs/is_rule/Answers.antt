@@ -1,6 +1,6 @@
 -- `is_rule` makes the tests of `body_rule_lem`.
 -- Assumes nothing.
-use Rattle.dvi.specs.LeadLaws.{body_rule_lem}
+use Rattle.dvi.proofs.LeadLaws.{body_rule_lem}
 use Rattle.dvi_body.proofs.is_rule.Goals as goal
 
 pub returns : goal.returns

@@ -1,7 +1,8 @@
 -- `put` meets its contract: each kind of node is written by a function of its own, whose needs a node that can be written meets.
 -- Assumes nothing.
-use Rattle.dvi.specs.ProfileLaws.{facts}
-use Rattle.dvi.specs.Stores.{glyph_asks, rule_asks}
+use Rattle.dvi.proofs.ProfileLaws.{facts}
+use Rattle.dvi.specs.Stores.{glyph_asks}
+use Rattle.dvi.proofs.Stores.{rule_asks}
 use Rattle.dvi_body.proofs.put.Goals as goal
 
 pub put_glyph-requires : goal.put_glyph-requires

@@ -3,7 +3,7 @@
 use mathlib.Core.Path.{◌∙◌}
 use native.Mathlib.Omega.{arith}
 use lib.ListN.{length-set}
-use Rattle.dvi.specs.Stores.{rule_stores}
+use Rattle.dvi.proofs.Stores.{rule_stores}
 use Rattle.dvi_body.proofs.put_rule.Goals as goal
 
 pub put_number-requires : goal.put_number-requires

@@ -3,7 +3,7 @@
 use mathlib.Core.Path.{◌∙◌}
 use native.Mathlib.Omega.{arith}
 use Rattle.dvi.specs.declared.forms.Form.TheVariants.{Body}
-use Rattle.dvi.specs.BodyLaws.{rule_size_lem}
+use Rattle.dvi.proofs.BodyLaws.{rule_size_lem}
 use Rattle.dvi.specs.FrontLaws.{front_by, front_short, looks_body_rule}
 use Rattle.dvi_body.proofs.rule_front.Goals as goal
 

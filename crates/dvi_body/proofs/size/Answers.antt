@@ -1,7 +1,8 @@
 -- `size` meets its contract: every glyph has 15 bytes, and every rule 21.
 -- Assumes nothing.
 use mathlib.Core.Path.{sym}
-use Rattle.dvi.specs.BodyLaws.{glyph_size, rule_size_lem}
+use Rattle.dvi.specs.BodyLaws.{glyph_size}
+use Rattle.dvi.proofs.BodyLaws.{rule_size_lem}
 use Rattle.dvi_body.proofs.size.Goals as goal
 
 pub returns-in-Glyph : goal.returns-in-Glyph

@@ -6,7 +6,7 @@ use native.Mathlib.Omega.{arith}
 use lib.ListN.{length}
 use Rattle.dvi.specs.declared.forms.Form.{Form}
 use Rattle.dvi.specs.Forms.{bytes_as}
-use Rattle.dvi.specs.FrontLaws.{size_least}
+use Rattle.dvi.proofs.FrontLaws.{size_least}
 use Rattle.dvi_nodes.specs.Values.{node_as}
 use Rattle.dvi_calls.proofs.Passing.{front_there, passed_none, passed_next, passed_all, passed_stopped}
 use Rattle.dvi_calls.proofs.measure.Goals as goal

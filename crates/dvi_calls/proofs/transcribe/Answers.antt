@@ -3,7 +3,7 @@
 -- Assumes nothing.
 use mathlib.Core.Path.{refl}
 use native.Mathlib.Omega.{arith}
-use Rattle.dvi.specs.FrontLaws.{size_least}
+use Rattle.dvi.proofs.FrontLaws.{size_least}
 use Rattle.dvi_nodes.specs.Values.{node_as}
 use Rattle.dvi_calls.proofs.Passing.{front_there, passed_next, copied_none, copied_room, copied_asks, copied_next, copied_all, never_stopped}
 use Rattle.dvi_calls.proofs.transcribe.Goals as goal

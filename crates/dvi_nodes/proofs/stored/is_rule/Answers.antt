@@ -1,6 +1,6 @@
 -- `is_rule` makes the tests of `stored_rule`.
 -- Assumes nothing.
-use Rattle.dvi.specs.LeadLaws.{stored_rule}
+use Rattle.dvi.proofs.LeadLaws.{stored_rule}
 use Rattle.dvi_nodes.proofs.stored.is_rule.Goals as goal
 
 pub returns : goal.returns
