@@ -7,27 +7,11 @@
 -- Assumes nothing.
 use Rattle.std.specs.Prelude.{List, [], ◌∷◌, ◌++◌, ◌+◌, ◌≤◌, ℤ, pos}
 use Rattle.scaled.specs.Length.{max_ℤ}
-<<<<<<< HEAD
-use Rattle.scaled.specs.Signed.{above, below, own, parts_max}
-use Rattle.scaled.specs.Linear.{#, greatest}
-use Rattle.scaled.proofs.Linear.{eq_by}
-use Rattle.nodes.specs.Nodes.{Node, glyph, rule, moved, node_bytes, bytes_of}
-use Rattle.nodes.specs.Bounds.{greatest_length, within, node_fits, nodes_fit}
-use Rattle.nodes.specs.HullLaws.{within_true}
-use Rattle.dvi.specs.declared.forms.Form.TheVariants.{Stored}
-use Rattle.dvi.specs.Body.{body_of}
-use Rattle.dvi.specs.Profile.{greatest_size, greatest_family, greatest_byte, writable, all_writable}
-use Rattle.dvi.specs.ProfileLaws.{Extent, of_glyph, of_rule}
-use Rattle.results.specs.Results.{made}
-use Rattle.dvi.specs.Answers.{result_of}
-
-=======
 use Rattle.scaled.specs.Signed.{above, below}
 use Rattle.nodes.specs.Nodes.{Node, glyph, rule, moved}
 use Rattle.nodes.specs.Bounds.{greatest_length}
 use Rattle.dvi.specs.Profile.{greatest_size, greatest_family, greatest_byte}
 use Rattle.dvi.specs.ProfileLaws.{Extent}
->>>>>>> h-formula
 
 abbrev pub Drawable : Node → Type 0
 Drawable (glyph x y size family code) = (size ≤ greatest_size) × (family ≤ greatest_family) × (code ≤ greatest_byte)
