@@ -1,6 +1,6 @@
 -- The reading cycle meets its contracts: `read_list` calls `read_item`, that `read_noad` or `read_choice`, these `read_held`, that `read_field`,
 -- and that `read_list` on a shorter list. The measure is five times the length of what is read, and one more for each of them upward.
--- Each need follows from what its calls say by a law of `VerdictLaws`. The loop's invariant: what the list says is what its
+-- Each goal follows from what its calls say by a law of `VerdictLaws`. The loop's invariant: what the list says is what its
 -- rest from `at` on says, `at` later.
 -- Assumes nothing.
 use mathlib.Core.Path.{◌≡◌, sym, ap₂, ◌∙◌}
