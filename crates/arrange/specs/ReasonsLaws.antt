@@ -17,10 +17,10 @@ use Rattle.nucleus.specs.Nucleus.{Nucleus}
 use Rattle.reasons.specs.Reasons.{Reasons}
 use Rattle.reasons.specs.Stages.{AllTrue}
 use Rattle.script_reasons.specs.Stages.{script_stages}
-use Rattle.script_reasons.specs.ReasonsLaws.{scripts_true, scripts_used}
+use Rattle.script_reasons.proofs.ReasonsLaws.{scripts_true, scripts_used}
 use Rattle.fractions.specs.Reasons.{fraction_reasons}
 use Rattle.fractions.specs.Stages.{fraction_stages}
-use Rattle.fractions.specs.ReasonsLaws.{fraction_true, fraction_used}
+use Rattle.fractions.proofs.ReasonsLaws.{fraction_true, fraction_used}
 use Rattle.arrange_rules.specs.Arrange.{is_given, sets_limits, nucleus_of, set_scripts, arrange}
 use Rattle.arrange.specs.Reasons.{beside_reasons, reasons, item_stages}
 

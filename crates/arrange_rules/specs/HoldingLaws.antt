@@ -30,7 +30,8 @@ use Rattle.limits.specs.Limits.{has_limits}
 use Rattle.limits.specs.HoldingLaws.{limits_hold}
 use Rattle.scripts.specs.ClearanceLaws.{scripts_hold}
 use Rattle.fractions.specs.Fractions.{bar_thickness, has_bar}
-use Rattle.fractions.specs.ClearanceLaws.{BarHeld, fraction_holds}
+use Rattle.fractions.specs.ClearanceLaws.{BarHeld}
+use Rattle.fractions.proofs.ClearanceLaws.{fraction_holds}
 use Rattle.arrange_rules.specs.Arrange.{is_given, sets_limits, root_nucleus, fence_nucleus, nucleus_of, set_scripts, arrange}
 
 -- a part of a fraction stands where it stands though it is nothing: no claim is made of it

@@ -23,9 +23,10 @@ use Rattle.boxes.specs.Boxes.{Size, Shape, nothing, char, box, char_size, size_o
 use Rattle.delimiters.specs.Delimiters.{Signs}
 use Rattle.nucleus.specs.Nucleus.{Nucleus}
 use Rattle.scripts.specs.Scripts.{pair_shifts, scripted}
-use Rattle.scripts.specs.ClearanceLaws.{pair_gap}
+use Rattle.scripts.proofs.ClearanceLaws.{pair_gap}
 use Rattle.fractions.specs.Fractions.{bar_thickness, has_bar, stacked, final_shifts, fraction}
-use Rattle.fractions.specs.ClearanceLaws.{Centred, bar_centred, bar_low, bar_rule, from_bar, between_parts, PartsClear, parts_clear}
+use Rattle.fractions.specs.ClearanceLaws.{Centred, bar_centred, bar_low, bar_rule, from_bar, between_parts, PartsClear}
+use Rattle.fractions.proofs.ClearanceLaws.{parts_clear}
 use Rattle.arrange.specs.declared.Manner.TheVariants.{Plain}
 use Rattle.arrange_rules.specs.Arrange.{is_given, sets_limits, nucleus_of, set_scripts, arrange}
 use Rattle.arrange.specs.Arrange.{first_style, second_style, third_style, first_manner}
