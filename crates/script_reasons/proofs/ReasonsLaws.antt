@@ -29,7 +29,7 @@ use Rattle.reasons.specs.ReasonsLaws.{by_its_test}
 use Rattle.reasons.proofs.ReasonsLaws.{corrected_shift, corrected_kept, true_by_stages}
 use Rattle.scripts.specs.Scripts.{Candidates, greatest, kept_free, subscript_candidates, superscript_candidates, pair_candidates, gap, four_rules, gap_down, ψ_of, lifted, spread, pair_shifts, scripted}
 use Rattle.script_reasons.specs.Reasons.{first_greatest, chosen, widened, first_shifts, pair_reasons, script_reasons}
-use Rattle.script_reasons.specs.Stages.{quantities, alone_stages, up_after_ψ, down_at_gap, down_after_ψ, pair_up_stages, script_stages}
+use Rattle.script_reasons.specs.Stages.{quantities, alone_stages, up_after_ψ, down_at_gap, down_after_ψ, pair_up_stages, pair_down_stages, script_stages}
 
 -- ---- of numbers
 
@@ -254,21 +254,42 @@ some_is : {A : Type 0} {x y : A} → some x ≡ some y → x ≡ y
 some_is e = cc
 
 module _ (p : Parameters) (s : Style) (n : Nucleus) where
-  pub pair_true : (x y : Size) → AllTrue (script_stages p s n (some x) (some y)) (pair_reasons p s n x y)
-  unfolding script_stages pair_reasons pair_shifts
-  pair_true x y =
+  -- the shift up of a pair, and its shift down
+  pair_up_true : (x y : Size) → True (pair_up_stages p s n x y) (corrected Psi (pair_shifts p s n x y).up (chosen (superscript_candidates p s n x)))
+  unfolding pair_shifts
+  pair_up_true x y =
+      let u = superscript_candidates p s n x in
+      subst (True (pair_up_stages p s n x y))
+      (ap (corrected Psi (pair_shifts p s n x y).up) (corrected_kept Gap (greatest u) (chosen u) refl))
+      (true_of u none (some (up_after_ψ p s n x y)) (greatest u) _ unchanged
+      (λ h. ap some (ψ_up_is p (font_size s) x y (first_shifts p s n x) h)))
+
+  pair_down_true : (x y : Size) →
+      True (pair_down_stages p s n x y)
+      (corrected Psi (pair_shifts p s n x y).down
+      (corrected Gap (widened p (font_size s) x y (first_shifts p s n x)) (chosen (pair_candidates p s n))))
+  unfolding pair_shifts
+  pair_down_true x y =
       let size = font_size s in
       let t = first_shifts p s n x in
-      let u = superscript_candidates p s n x in
-      record {
-        up =
-            subst (True (pair_up_stages p s n x y))
-            (ap (corrected Psi (pair_shifts p s n x y).up) (corrected_kept Gap (greatest u) (chosen u) refl))
-            (true_of u none (some (up_after_ψ p s n x y)) (greatest u) _ unchanged (λ h. ap some (ψ_up_is p size x y t h)));
-        down =
-            true_of (pair_candidates p s n) (some (down_at_gap p s n x y)) (some (down_after_ψ p s n x y)) _ _
-            (λ h. ap some (gap_is p size x y t h)) (λ h. ap some (ψ_down_is p size x y t h));
-      }
+      true_of (pair_candidates p s n) (some (down_at_gap p s n x y)) (some (down_after_ψ p s n x y)) _ _
+      (λ h. ap some (gap_is p size x y t h)) (λ h. ap some (ψ_down_is p size x y t h))
+
+  -- the reasons of a pair by their stages: another candidate or another order of the stages is refused here
+  up_is : (x y : Size) → (pair_reasons p s n x y).up ≡ corrected Psi (pair_shifts p s n x y).up (chosen (superscript_candidates p s n x))
+  unfolding pair_reasons
+  up_is x y = cc
+
+  down_is : (x y : Size) →
+      (pair_reasons p s n x y).down
+      ≡ corrected Psi (pair_shifts p s n x y).down
+      (corrected Gap (widened p (font_size s) x y (first_shifts p s n x)) (chosen (pair_candidates p s n)))
+  unfolding pair_reasons
+  down_is x y = cc
+
+  pub pair_true : (x y : Size) → AllTrue (script_stages p s n (some x) (some y)) (pair_reasons p s n x y)
+  unfolding script_stages
+  pair_true x y = record { up = rw (up_is x y) (pair_up_true x y); down = rw (down_is x y) (pair_down_true x y) }
 
   pub scripts_true : (x y : Option Size) (r : Reasons) → script_reasons p s n x y ≡ some r → AllTrue (script_stages p s n x y) r
   unfolding script_reasons script_stages
