@@ -21,7 +21,7 @@ use Rattle.formula.specs.Reading.{Read, good, fault, read_formula}
 use Rattle.formula_spelling.specs.Spelling.{spelling}
 use Rattle.eqn_tokens.specs.Tokens.{tokens_in, place_in}
 use Rattle.eqn_names.specs.Names.{Name, Table, names, bad_at, table_of}
-use Rattle.eqn_names.specs.WithinLaws.{place_within, table_within}
+use Rattle.eqn_names.proofs.WithinLaws.{place_within, table_within}
 use Rattle.eqn_names.specs.Unknown.{first_unknown}
 use Rattle.eqn_grammar.specs.Grammar.{Row}
 use Rattle.eqn_grammar.specs.Parsing.{Parsed, whole, stuck, parse}
