@@ -50,7 +50,7 @@ module _ (style : ℕ) (table client : List ℕ) (lent : Lent) (formula : List �
   accepted_of b is =
       let room = bytes_in_node * length b.nodes in
       accepted_reads style table client lent formula room
-      (ap (λ (w : Result). (set_by room w).number) is ∙ rw (le-leb room room (le_refl room)) refl)
+      (ap (λ (w : Result). (set_by room w).number) is ∙ rw (le-leb room room (le_refl room), set_by) refl)
 
   -- no refusal has the number of an acceptance
   never_refused : (place : ℕ) → result_of style table client lent formula ≡ refused accepted_number place → ⊥
