@@ -46,7 +46,7 @@ use Rattle.arrange.specs.declared.Manner.{Manner}
 use Rattle.arrange.specs.declared.Manner.TheVariants.{Plain}
 use Rattle.arrange.specs.Arrange.{first_style, second_style, third_style, first_manner}
 use Rattle.arrange_rules.specs.Arrange.{is_given, sets_limits, root_nucleus, fence_nucleus, nucleus_of, arrange}
-use Rattle.arrange_rules.specs.ArrangeLaws.{atom_own, set_own}
+use Rattle.arrange_rules.proofs.ArrangeLaws.{atom_own, set_own}
 use Rattle.nodes.specs.Nodes.{moved, bytes_of}
 use Rattle.nodes.specs.Bounds.{greatest_length, within}
 use Rattle.nodes.specs.HullLaws.{within_true}

@@ -26,7 +26,8 @@ use Rattle.spacing.specs.Classes.{Neighbour, class_of}
 use Rattle.arrange.specs.declared.Manner.{Manner}
 use Rattle.arrange.specs.declared.Manner.TheVariants.{Plain}
 use Rattle.arrange.specs.Arrange.{first_style, second_style, third_style, first_manner}
-use Rattle.arrange_rules.specs.HoldingLaws.{ShapeHeld, NoThird, arranged_holds}
+use Rattle.arrange_rules.specs.HoldingLaws.{ShapeHeld, NoThird}
+use Rattle.arrange_rules.proofs.HoldingLaws.{arranged_holds}
 use Rattle.nodes.specs.Nodes.{Node, moved}
 use Rattle.setting.specs.Setting.{Box, FieldBox, Symbol, symbol_in, symbol_field_box, signs_in, moved_by, own_node, own_nodes, arranged_in, item_nodes, item_box, taken, style_behind, next_class, Line, beside, placed, Sides, sides_of, start, closed, is_enlarged, set_items, set_item, set_field, set_list}
 use Rattle.setting.proofs.FoundSymbols.{SymbolThere, symbol_there, signs_there}
