@@ -6,7 +6,8 @@ use Rattle.std.proofs.Common.{arith}
 use Rattle.std.specs.Int.Signed.{lt_z, shr_z}
 use Rattle.scaled.specs.Length.{pick, half}
 use Rattle.scaled.specs.Signed.{NotNegative}
-use Rattle.scaled.specs.Linear.{#, ◌⊕◌, ◌⊖◌, greatest, halved, floor, sound}
+use Rattle.scaled.specs.Linear.{#, ◌⊕◌, ◌⊖◌, greatest, halved, floor}
+use Rattle.scaled.proofs.Linear.{sound}
 use Rattle.scaled.specs.Made.{Less, less}
 use Rattle.boxes.specs.declared.styles.Style.{Style}
 use Rattle.boxes.specs.Styles.{is_display, font_size}
