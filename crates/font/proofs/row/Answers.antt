@@ -1,6 +1,6 @@
 -- `row` stores the words of one size: each word stored so far is that of its number, by `parameter_word`.
 use mathlib.Core.Path.{◌≡◌, sym, refl, ◌∙◌}
-use Prim.Native.Nat.{ℕ, ◌<◌, ◌-◌}
+use Prim.Native.Nat.{ℕ, ◌<◌}
 use native.Mathlib.Omega.{arith}
 use borrow.Author.Count.{below_more}
 use lib.Seq.{get_or-set_same, get_or-set_other}

@@ -5,7 +5,7 @@ use Rattle.font.specs.Records.{successor_byte}
 use Rattle.font.specs.Font.{font_with, metrics_of}
 use Rattle.font.specs.Chains.{goes_on}
 use Rattle.font.specs.MetricsLaws.{successor_some, successor_none}
-use Rattle.font.specs.LookupLaws.{read_short, read_long}
+use Rattle.font.proofs.LookupLaws.{read_short, read_long}
 use Rattle.font_chains.proofs.ChainLaws.{goes_none, goes_last, goes_step}
 use Rattle.font_chains.proofs.+goes_on.Goals as goal
 

@@ -2,7 +2,7 @@
 -- Assumes nothing.
 use mathlib.Core.Path.{sym, ap, ◌∙◌}
 use mathlib.Core.Option.{some}
-use Rattle.font.specs.LookupLaws.{read_short, read_long}
+use Rattle.font.proofs.LookupLaws.{read_short, read_long}
 use Rattle.font_index.proofs.symbol.Goals as goal
 
 pub returns-then-r-lt-CHARACTER_BYTES : goal.returns-then-r-lt-CHARACTER_BYTES

@@ -9,7 +9,8 @@ use lib.ListN.{length}
 use Rattle.font.specs.Records.{header_bytes}
 use Rattle.font.specs.Font.{record_in, place_in, past}
 use Rattle.font.specs.FontLaws.{whole_records, sound_client}
-use Rattle.font.specs.LookupLaws.{our_part, sound_part, client_record, our_record}
+use Rattle.font.specs.LookupLaws.{our_part, sound_part}
+use Rattle.font.proofs.LookupLaws.{client_record, our_record}
 use Rattle.font_search.proofs.record_near.Goals as goal
 
 pub record_in-own-requires : goal.record_in-own-requires
