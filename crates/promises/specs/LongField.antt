@@ -38,7 +38,7 @@ use Rattle.setting.specs.Missing.{later, missing_items}
 use Rattle.setting.specs.Fitting.{items_fit, item_fits, list_fits}
 use Rattle.answers.specs.Lent.{enough}
 use Rattle.answers.specs.Answers.{refused, fault_number, Answered, measured}
-use Rattle.answers.specs.AnswersLaws.{measured_boxed, set_boxed}
+use Rattle.answers.proofs.AnswersLaws.{measured_boxed, set_boxed}
 use Rattle.promises.specs.BenchTable.{just_enough, bench_table}
 use Rattle.promises.specs.Definitions.{definitions}
 use Rattle.promises.specs.Accepting.{Passed, boxed_of}

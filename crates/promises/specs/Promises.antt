@@ -9,9 +9,9 @@
 -- it counts and no others
 pub use Rattle.promises.specs.Demand1.{Leaves, demand_1}
 -- a refusal is one of the papers' numbers, in their order: a law for each test, of a list between any two sides
-pub use Rattle.answers.specs.AnswersLaws.{no_style, bad_table, bad_client, few_words, read_is, missing_refused, large_refused, no_room_is}
+pub use Rattle.answers.proofs.AnswersLaws.{no_style, bad_table, bad_client, few_words, read_is, missing_refused, large_refused, no_room_is}
 -- no place and no count is greater than the longest formula has bytes
-pub use Rattle.answers.specs.Small.{measured_small, setting_small, why_small}
+pub use Rattle.answers.proofs.Small.{measured_small, setting_small, why_small}
 -- ---- demand 2: sizes and nodes are those of the rules
 
 -- the worked examples P1 to P12, from bytes, sizes and nodes whole
@@ -77,7 +77,7 @@ pub use Rattle.promises.specs.LongField.{long_before}
 -- ---- request 9: words for the indexes
 
 -- the words after a call: unchanged on 1, 2, 8 and 19, else with each table's index at the front; so of asking why, on 9 too
-pub use Rattle.answers.specs.LentLaws.{measuring_leaves}
+pub use Rattle.answers.proofs.LentLaws.{measuring_leaves}
 pub use Rattle.promises.specs.LentWords.{setting_leaves, why_leaves, unpicked_leaves, words_last, words_settle}
 -- 19 where words are few, and nowhere else; with words enough their number makes no difference
 pub use Rattle.promises.specs.LentWords.{few_refused, few_why, only_few, only_few_set, only_few_why, same_result, same_measured, same_set, same_why}
