@@ -31,10 +31,10 @@ use Rattle.spacing.specs.Classes.{Neighbour}
 use Rattle.arrange.specs.declared.Manner.{Manner}
 use Rattle.arrange.specs.declared.Manner.TheVariants.{Plain}
 use Rattle.arrange.specs.Arrange.{first_style, second_style, third_style, first_manner}
-use Rattle.arrange_rules.specs.ArrangeLaws.{own_before, own_behind, few_own}
+use Rattle.arrange_rules.proofs.ArrangeLaws.{own_before, own_behind, few_own}
 use Rattle.nodes.specs.NodeLaws.{length_moved}
 use Rattle.setting.specs.Setting.{Box, Line, Symbol, FieldBox, symbol_in, symbol_field_box, signs_in, has_signs, item_nodes, item_box, taken, style_behind, next_class, start, no_sides, sides_of, is_enlarged, placed, set_items, set_item, set_field, set_list, taken_start}
-use Rattle.setting.specs.SettingLaws.{length_own, signs_found, set_item_choice, missing_item_choice, closed_nodes}
+use Rattle.setting.proofs.SettingLaws.{length_own, signs_found, set_item_choice, missing_item_choice, closed_nodes}
 use Rattle.setting.specs.Missing.{◌or_else◌, later, absent_at, missing_items, missing_item, missing_field}
 use Rattle.setting.specs.Fitting.{list_fits}
 use Rattle.reasons.specs.Reasons.{Reasons}

@@ -1,2 +1,4 @@
--- The worked examples. Assumes nothing.
+-- The worked examples; how many own nodes an item has, and what it holds. Assumes nothing.
 mod Examples
+pub mod ArrangeLaws
+pub mod HoldingLaws

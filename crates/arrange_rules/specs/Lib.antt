@@ -1,4 +1,3 @@
 -- An item from the shapes of its fields, and how many own nodes it has. Assumes nothing.
 pub mod Arrange
-pub mod ArrangeLaws
 pub mod HoldingLaws

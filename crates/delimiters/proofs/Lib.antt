@@ -1,4 +1,5 @@
--- Laws of the search as the code goes, and worked examples. Assumes nothing.
+-- Laws of the search as the code goes, worked examples, and that what the search takes is in the font. Assumes nothing.
 mod LookingLaws
 mod ChainLaws
 mod Examples
+pub mod FoundSigns

@@ -37,7 +37,7 @@ use Rattle.boxes.specs.declared.styles.Style.{Style}
 use Rattle.arrange.specs.Arrange.{first_style, second_style, third_style}
 use Rattle.setting.specs.Setting.{taken, taken_start}
 use Rattle.setting.specs.Picked.{Picked, ◌or_in◌, if_reached, pick_in, pick_at, pick_field}
-use Rattle.setting.specs.PickedLaws.{pick_in_here, pick_in_later, pick_field_before, pick_field_past, pick_at_choice}
+use Rattle.setting.proofs.PickedLaws.{pick_in_here, pick_in_later, pick_field_before, pick_field_past, pick_at_choice}
 use Rattle.walk_looks.specs.declared.current.Span.{Span}
 use Rattle.walk_looks.specs.declared.places.Sight.{Sight}
 use Rattle.walk_looks.specs.Seen.{part, lists_before, TakenSpan, ItemSeen}

@@ -34,9 +34,9 @@ use Rattle.reasons.specs.declared.ItemReasons.{ItemReasons}
 use Rattle.reasons.specs.declared.ItemReasons.TheVariants.{Nothing}
 use Rattle.reasons.specs.Values.{item_reasons_as}
 use Rattle.setting.specs.Setting.{signs_in, set_field}
-use Rattle.setting.specs.FieldAlone.{fields_there, fields_fit}
+use Rattle.setting.proofs.FieldAlone.{fields_there, fields_fit}
 use Rattle.setting.specs.Picked.{Picked, pick_in, picked_reasons, reasons_at}
-use Rattle.setting.specs.PickedLaws.{picked_there}
+use Rattle.setting.proofs.PickedLaws.{picked_there}
 use Rattle.walk_fields.specs.Lists.{ListGiven, FieldGiven}
 use Rattle.picking.specs.Picking.{Spotted, ThirdGiven, ShapeDone, HeadReasonsAre, ItemReasonsAre, PlaceReasonsAre}
 

@@ -26,7 +26,7 @@ use Rattle.setting.specs.Setting.{set_field}
 use Rattle.setting.specs.Missing.{missing_field, missing_items}
 use Rattle.setting.specs.Fitting.{field_fits, items_fit}
 use Rattle.setting.specs.Picked.{Picked, picked, if_reached, pick_in, pick_at, pick_field, picked_reasons, reasons_at}
-use Rattle.setting.specs.PickedLaws.{Sound}
+use Rattle.setting.proofs.PickedLaws.{Sound}
 use Rattle.walk_looks.specs.declared.current.Span.{Span}
 use Rattle.walk_looks.specs.Seen.{part}
 use Rattle.picking.specs.declared.Step.{Step}

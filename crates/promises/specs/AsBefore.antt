@@ -16,7 +16,7 @@ use Rattle.formula.specs.Reading.{good, read_formula}
 use Rattle.boxes.specs.declared.styles.Style.{Style}
 use Rattle.boxes.specs.Styles.{style_of}
 use Rattle.setting.specs.Setting.{no_sides}
-use Rattle.setting.specs.Plain.{Plain, set_plain, missing_plain, plain_fits, set_as_before as box-as-before, missing_as_before, fits_as_before}
+use Rattle.setting.proofs.Plain.{Plain, set_plain, missing_plain, plain_fits, set_as_before as box-as-before, missing_as_before, fits_as_before}
 use Rattle.answers.specs.Lent.{Lent, enough}
 use Rattle.answers.specs.Answers.{Result, refused, missing_number, if_fits, if_present, if_read, result_of, measured_by, measured, measured_between, set_by, setting, setting_between, buffer_by, buffer_after, buffer_between}
 use Rattle.answers.specs.AnswersLaws.{read_is}

@@ -23,12 +23,13 @@ use Rattle.boxes.specs.Boxes.{Size}
 use Rattle.nodes.specs.Nodes.{Node}
 use Rattle.setting.specs.Setting.{no_sides, set_list}
 use Rattle.setting.specs.Picked.{Picked, picked_item}
-use Rattle.setting.specs.ItemOnPage.{SetAt, ItemOnPage, item_on_page, PartsOnPage, parts_on_page}
-use Rattle.setting.specs.Formed.{Formed, read_formed, formed_at}
+use Rattle.setting.specs.ItemOnPage.{SetAt, ItemOnPage, PartsOnPage}
+use Rattle.setting.proofs.ItemOnPage.{item_on_page, parts_on_page}
+use Rattle.setting.proofs.Formed.{Formed, read_formed, formed_at}
 use Rattle.setting.specs.Ink.{HasSymbol, Every, InkBetween, InkIn}
-use Rattle.setting.specs.InkLaws.{every_so, inked_symbol}
-use Rattle.setting.specs.BoxInk.{list_ink}
-use Rattle.setting.specs.Clearances.{ItemClear, item_clear}
+use Rattle.setting.proofs.InkLaws.{every_so, inked_symbol}
+use Rattle.setting.proofs.BoxInk.{list_ink}
+use Rattle.setting.proofs.Clearances.{ItemClear, item_clear}
 use Rattle.answers.specs.Lent.{Lent}
 use Rattle.answers.specs.Answers.{accepted_number, setting}
 use Rattle.promises.specs.Accepting.{Accepted, accepted_reads, Page, page_of}

@@ -40,8 +40,9 @@ use Rattle.nodes.specs.NodeLaws.{length_moved, bytes_append}
 use Rattle.setting.specs.Setting.{Box, Line, Sides, no_sides, sides_of, placed, set_item, set_field, set_list, moved_by}
 use Rattle.setting.specs.Frames.{Frame, framed}
 use Rattle.setting.specs.Paths.{field_style, field_manner, Step, holder, item_style, step_style, step_sides, Path, into, fill, style_at, sides_at, place_of}
-use Rattle.setting.specs.FieldInPlace.{sized, item_around, size_used, frame, field_in_place}
-use Rattle.setting.specs.FieldAlone.{missing_alone, fits_alone}
+use Rattle.setting.specs.FieldInPlace.{sized, item_around, frame}
+use Rattle.setting.proofs.FieldInPlace.{size_used, field_in_place}
+use Rattle.setting.proofs.FieldAlone.{missing_alone, fits_alone}
 use Rattle.answers.specs.Lent.{Lent}
 use Rattle.answers.specs.Answers.{Answered, accepted_number, accepted, measured, measured_between, setting, setting_between, buffer_after, buffer_between, result_of, result_between, boxed}
 use Rattle.answers.specs.AnswersLaws.{measured_boxed, set_boxed, buffer_boxed}

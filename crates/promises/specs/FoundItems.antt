@@ -34,11 +34,11 @@ use Rattle.boxes.specs.declared.styles.Style.{Style}
 use Rattle.boxes.specs.Styles.{style_of}
 use Rattle.arrange.specs.Arrange.{first_style, second_style, third_style}
 use Rattle.setting.specs.Setting.{style_after, style_behind, Sides}
-use Rattle.setting.specs.SettingLaws.{style_behind_choice_lem}
+use Rattle.setting.proofs.SettingLaws.{style_behind_choice_lem}
 use Rattle.setting.specs.Paths.{choice_with, list_place as placeAmong}
 use Rattle.setting.specs.Picked.{Picked, ◌or_in◌, if_reached, pick_in, pick_at, pick_field}
-use Rattle.setting.specs.PickedLaws.{pick_in_here, pick_in_later, split, or_in_some, reached}
-use Rattle.setting.specs.PickedSet.{pick_at_chosen, reached_there}
+use Rattle.setting.proofs.PickedLaws.{pick_in_here, pick_in_later, split, or_in_some, reached}
+use Rattle.setting.proofs.PickedSet.{pick_at_chosen, reached_there}
 use Rattle.promises.specs.ListFields.{ListField, list_field_lem, taken_number, taken_place, ItemAt, first, past_fields, past_kern, past_style, past_choice, SetItem, in_list, in_taken, FieldAt, in_one, in_two, in_three, OwnListField, ListFieldAt, own, deeper, TakenRead, taken_read}
 use Rattle.promises.specs.ItemsOnPage.{ItemSetAt, outermost, in_field, item_read}
 

@@ -28,8 +28,9 @@ use Rattle.nodes.specs.NodeLaws.{bytes_append}
 use Rattle.setting.specs.Setting.{Sides, no_sides, set_list, moved_by}
 use Rattle.setting.specs.Paths.{whole, into, fill, put, style_at, place_of}
 use Rattle.setting.specs.Picked.{Picked, picked, pick_in, picked_item}
-use Rattle.setting.specs.ItemOnPage.{SetAt, picked_nodes, ItemOnPage, item_on_page, PartsOnPage, parts_on_page}
-use Rattle.setting.specs.PickedSet.{set_picked}
+use Rattle.setting.specs.ItemOnPage.{SetAt, picked_nodes, ItemOnPage, PartsOnPage}
+use Rattle.setting.proofs.ItemOnPage.{item_on_page, parts_on_page}
+use Rattle.setting.proofs.PickedSet.{set_picked}
 use Rattle.answers.specs.Lent.{Lent}
 use Rattle.answers.specs.Answers.{accepted_number, measured, setting, buffer_after}
 use Rattle.promises.specs.Accepting.{Accepted, accepted_reads, Page, page_of}

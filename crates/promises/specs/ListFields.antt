@@ -36,8 +36,8 @@ use Rattle.boxes.specs.declared.styles.Style.{Style}
 use Rattle.boxes.specs.Styles.{style_of}
 use Rattle.arrange.specs.Arrange.{first_style, second_style, third_style, first_manner}
 use Rattle.setting.specs.Setting.{taken, style_after, style_behind, Sides, no_sides, fence_sides, sides_of}
-use Rattle.setting.specs.SettingLaws.{held_sides, first_sides, taken_all, style_behind_choice_lem}
-use Rattle.setting.specs.Lines.{style_after_join}
+use Rattle.setting.proofs.SettingLaws.{held_sides, first_sides, taken_all, style_behind_choice_lem}
+use Rattle.setting.proofs.Lines.{style_after_join}
 use Rattle.setting.specs.Paths.{Arm, in_first, in_second, in_third, holding, field_style, field_manner, field_place, HasField, join, choice_with, list_place as placeAmong, Spot, among, within, put, items_before, spot_place, Step, list_with, item_style, step_style, step_sides, step_place, Path, whole, into, fill, style_at, sides_at, place_of, HasFields}
 use Rattle.promises.specs.FieldBytes.{PartAt, part_behind, part_within}
 

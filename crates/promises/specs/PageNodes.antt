@@ -46,13 +46,13 @@ use Rattle.arrange.specs.declared.Manner.{Manner}
 use Rattle.arrange.specs.declared.Manner.TheVariants.{Plain}
 use Rattle.arrange.specs.Arrange.{first_style, second_style, third_style, first_manner}
 use Rattle.arrange_rules.specs.Arrange.{is_given, sets_limits, root_nucleus, fence_nucleus, nucleus_of, arrange}
-use Rattle.arrange_rules.specs.ArrangeLaws.{atom_own, set_own}
+use Rattle.arrange_rules.proofs.ArrangeLaws.{atom_own, set_own}
 use Rattle.nodes.specs.Nodes.{moved, bytes_of}
 use Rattle.nodes.specs.Bounds.{greatest_length, within}
 use Rattle.nodes.specs.HullLaws.{within_true}
 use Rattle.setting.specs.Setting.{Box, Line, Symbol, FieldBox, symbol_in, symbol_field_box, signs_in, moved_by, own_nodes, arranged_in, item_nodes, item_box, taken, style_behind, next_class, placed, Sides, sides_of, start, closed, is_enlarged, set_items, set_item, set_field, set_list}
-use Rattle.setting.specs.SettingLaws.{set_item_style}
-use Rattle.setting.specs.FoundSymbols.{SymbolThere, symbol_there, signs_there}
+use Rattle.setting.proofs.SettingLaws.{set_item_style}
+use Rattle.setting.proofs.FoundSymbols.{SymbolThere, symbol_there, signs_there}
 use Rattle.setting.specs.Missing.{missing_items}
 use Rattle.setting.specs.Fitting.{size_fits, box_fits, items_fit, item_fits, field_fits, list_fits}
 use Rattle.dvi.specs.declared.forms.Form.TheVariants.{Stored}

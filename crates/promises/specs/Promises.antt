@@ -64,7 +64,7 @@ pub use Rattle.promises.specs.WhyLaws.{WhyOnPage, why_on_page}
 -- asking finds exactly the items that are set, each in the style current at it: by the place of the first byte (and `picks` of `ItemStands`,
 -- below), and in the tree
 pub use Rattle.promises.specs.FoundItems.{FoundAt, found_at}
-pub use Rattle.setting.specs.PickedSet.{set_picked, picked_set}
+pub use Rattle.setting.proofs.PickedSet.{set_picked, picked_set}
 pub use Rattle.promises.specs.Examples.{why_hold}
 -- ---- request 8: long formulas
 

@@ -23,9 +23,10 @@ use Rattle.nodes.specs.Nodes.{Node, bytes_in_node}
 use Rattle.reasons.specs.Reasons.{Reasons}
 use Rattle.setting.specs.Setting.{Box, no_sides, set_list}
 use Rattle.setting.specs.Picked.{Picked, pick_in, picked_reasons}
-use Rattle.setting.specs.PickedLaws.{Because, picked_because, picked_of}
-use Rattle.setting.specs.ItemOnPage.{ItemOnPage, item_on_page, raised_field, lowered_field, StandsAbove, raised_on_page, lowered_on_page}
-use Rattle.setting.specs.PickedSet.{picked_set}
+use Rattle.setting.proofs.PickedLaws.{Because, picked_because, picked_of}
+use Rattle.setting.specs.ItemOnPage.{ItemOnPage, raised_field, lowered_field, StandsAbove}
+use Rattle.setting.proofs.ItemOnPage.{item_on_page, raised_on_page, lowered_on_page}
+use Rattle.setting.proofs.PickedSet.{picked_set}
 use Rattle.answers.specs.Lent.{Lent}
 use Rattle.answers.specs.Answers.{accepted_number, Result, boxed, refused, result_of, has_room, set_by, setting_between}
 use Rattle.promises.specs.Accepting.{Accepted, accepted_reads, passed, boxed_of, Page, page_of}
@@ -49,7 +50,7 @@ module _ (style : ℕ) (table client : List ℕ) (lent : Lent) (formula : List �
   accepted_of b is =
       let room = bytes_in_node * length b.nodes in
       accepted_reads style table client lent formula room
-      (ap (λ (w : Result). (set_by room w).number) is ∙ rw (le-leb room room (le_refl room)) refl)
+      (ap (λ (w : Result). (set_by room w).number) is ∙ rw (le-leb room room (le_refl room), set_by) refl)
 
   -- no refusal has the number of an acceptance
   never_refused : (place : ℕ) → result_of style table client lent formula ≡ refused accepted_number place → ⊥

@@ -1,2 +1,3 @@
--- The worked examples. Assumes nothing.
+-- The worked examples; what a root holds. Assumes nothing.
 mod Examples
+pub mod HoldingLaws

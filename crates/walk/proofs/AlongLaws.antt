@@ -45,10 +45,11 @@ use Rattle.nodes.specs.Hull.{hull, joined}
 use Rattle.nodes.specs.HullLaws.{join_none, join_assoc, hull_append, within_more}
 use Rattle.nodes.specs.Values.{hull_of, is_large}
 use Rattle.setting.specs.Setting.{Line, restyled, style_after, style_behind, next_class, set_item, set_items}
-use Rattle.setting.specs.SettingLaws.{set_item_style, set_items_style}
+use Rattle.setting.proofs.SettingLaws.{set_item_style, set_items_style}
 use Rattle.setting.specs.Missing.{◌or_else◌, later, missing_item, missing_items}
 use Rattle.setting.specs.Fitting.{item_fits, items_fit}
-use Rattle.setting.specs.FieldInPlace.{after_nodes, sized, set_items_after}
+use Rattle.setting.specs.FieldInPlace.{after_nodes, sized}
+use Rattle.setting.proofs.FieldInPlace.{set_items_after}
 use Rattle.walk_fields.specs.declared.lines.Line as lines
 use Rattle.walk_fields.specs.declared.lines.ItemsSet.TheVariants as items
 use Rattle.walk_fields.specs.Values.{bare_line}

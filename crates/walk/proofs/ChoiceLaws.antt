@@ -20,7 +20,7 @@ use Rattle.nodes.specs.Kept.{kept_more}
 use Rattle.setting.specs.Setting.{Line, style_after, style_behind, next_class, set_item, set_items}
 use Rattle.setting.specs.Missing.{later, missing_item, missing_items}
 use Rattle.setting.specs.Fitting.{item_fits, items_fit}
-use Rattle.setting.specs.SettingLaws.{style_behind_choice_lem, set_item_choice, missing_item_choice, item_fits_choice}
+use Rattle.setting.proofs.SettingLaws.{style_behind_choice_lem, set_item_choice, missing_item_choice, item_fits_choice}
 use Rattle.walk_looks.specs.declared.current.Span.{Span}
 use Rattle.walk_looks.specs.Seen.{part, lists_before, TakenSpan, SetsAlike}
 use Rattle.walk_looks.specs.TakenLaws.{place_taken}

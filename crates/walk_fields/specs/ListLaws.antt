@@ -25,7 +25,7 @@ use Rattle.nodes.specs.Hull.{hull_fits, joined, hull}
 use Rattle.nodes.specs.HullLaws.{fits_hull, within_more}
 use Rattle.nodes.specs.Values.{hull_of, is_large, RunIs}
 use Rattle.setting.specs.Setting.{Box, Line, Sides, no_sides, start, style_after, closed, set_items, set_list}
-use Rattle.setting.specs.SettingLaws.{closed_nodes, set_items_style}
+use Rattle.setting.proofs.SettingLaws.{closed_nodes, set_items_style}
 use Rattle.setting.specs.Fitting.{size_fits, box_fits, items_fit}
 use Rattle.walk_fields.specs.declared.lines.Line as lines
 use Rattle.walk_fields.specs.declared.lines.ItemsSet.{ItemsSet}

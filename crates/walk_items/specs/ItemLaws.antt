@@ -33,7 +33,7 @@ use Rattle.nodes.specs.HullLaws.{hull_append, hull_moved, join_assoc, join_withi
 use Rattle.nodes.specs.declared.run.Run.{Run}
 use Rattle.nodes.specs.Values.{hull_of}
 use Rattle.setting.specs.Setting.{FieldBox, own_node, own_nodes, item_nodes}
-use Rattle.setting.specs.SettingLaws.{length_own}
+use Rattle.setting.proofs.SettingLaws.{length_own}
 use Rattle.walk_fields.specs.declared.lines.Line as lines
 use Rattle.walk_fields.specs.Bounds.{stride, LineWithin}
 use Rattle.walk_fields.specs.Lines.{beside_size}

@@ -37,7 +37,7 @@ use Rattle.nodes.specs.Values.{is_large}
 use Rattle.delimiters.specs.Delimiters.{Signs}
 use Rattle.delimiters.specs.DelimiterLaws.{which_found}
 use Rattle.setting.specs.Setting.{FieldBox, signs_in, has_signs, item_nodes, item_box, placed, set_field, set_item}
-use Rattle.setting.specs.SettingLaws.{signs_found}
+use Rattle.setting.proofs.SettingLaws.{signs_found}
 use Rattle.setting.specs.Missing.{◌or_else◌, missing_field, missing_item}
 use Rattle.setting.specs.Fitting.{field_fits, item_fits}
 use Rattle.walk_fields.specs.declared.fields.FieldBox as fields

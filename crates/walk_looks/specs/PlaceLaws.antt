@@ -29,7 +29,8 @@ use Rattle.spacing.specs.declared.classes.Neighbour.TheVariants.{End, Atom}
 use Rattle.spacing.specs.Classes.{Neighbour, class_of}
 use Rattle.spacing.specs.Values.{neighbour_as}
 use Rattle.setting.specs.Setting.{restyled, style_after, style_behind, next_class, class_at}
-use Rattle.setting.specs.Beyond.{◌or_next◌, or_next_assoc, or_next_none, next_class_cons}
+use Rattle.setting.specs.Beyond.{◌or_next◌}
+use Rattle.setting.proofs.Beyond.{or_next_assoc, or_next_none, next_class_cons}
 use Rattle.walk_looks.specs.declared.places.Sight.{Sight}
 use Rattle.walk_looks.specs.Seen.{OpenedSeen, ItemSeen, ChangesAlike}
 

@@ -23,7 +23,7 @@ use Rattle.boxes.specs.declared.styles.Level.TheVariants.{Display, Text, Script,
 use Rattle.boxes.specs.declared.styles.Style.{Style}
 use Rattle.boxes.specs.Styles.{plain}
 use Rattle.setting.specs.Setting.{style_after, next_class, taken_place}
-use Rattle.setting.specs.SettingLaws.{taken_all, style_behind_choice_lem, class_at_choice}
+use Rattle.setting.proofs.SettingLaws.{taken_all, style_behind_choice_lem, class_at_choice}
 use Rattle.walk_looks.specs.declared.current.Span.{Span}
 use Rattle.walk_looks.specs.declared.places.Sight.{Sight}
 use Rattle.walk_looks.specs.Seen.{part, lists_before, TakenSpan, OpenedSeen, ItemSeen, ItemsSeen}

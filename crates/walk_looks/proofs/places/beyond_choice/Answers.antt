@@ -9,7 +9,7 @@ use Rattle.boxes.specs.declared.styles.Style.{Style}
 use Rattle.spacing.specs.Classes.{Neighbour}
 use Rattle.spacing.specs.Values.{neighbour_as}
 use Rattle.setting.specs.Setting.{next_class, set_items}
-use Rattle.setting.specs.Beyond.{set_items_beyond}
+use Rattle.setting.proofs.Beyond.{set_items_beyond}
 use Rattle.walk_looks.specs.Seen.{SetsAlike}
 use Rattle.walk_looks.proofs.places.beyond_choice.Goals as goal
 

@@ -26,10 +26,10 @@ use Rattle.arrange.specs.ReasonsLaws.{raised, lowered, reasons_true, used}
 use Rattle.reasons.specs.Reasons.{Reasons}
 use Rattle.reasons.specs.Stages.{AllTrue}
 use Rattle.setting.specs.Setting.{taken, style_behind, sides_of, set_list, taken_start}
-use Rattle.setting.specs.SettingLaws.{taken_all}
+use Rattle.setting.proofs.SettingLaws.{taken_all}
 use Rattle.setting.specs.Missing.{later, missing_items, missing_item, missing_field}
 use Rattle.setting.specs.Fitting.{box_fits, items_fit, item_fits, field_fits}
-use Rattle.setting.specs.FieldAlone.{neither_missing, not_later, all_true, fields_there, fields_fit}
+use Rattle.setting.proofs.FieldAlone.{neither_missing, not_later, all_true, fields_there, fields_fit}
 use Rattle.setting.specs.Picked.{Picked, picked, ◌or_in◌, if_reached, pick_in, pick_at, pick_field, picked_item, picked_arranged, picked_reasons, picked_stages, reasons_at}
 
 -- ---- where the place lies

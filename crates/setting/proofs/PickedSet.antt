@@ -21,9 +21,9 @@ use Rattle.boxes.specs.declared.styles.Style.{Style}
 use Rattle.arrange.specs.Arrange.{first_style, second_style, third_style}
 use Rattle.setting.specs.Setting.{taken, style_after, style_behind, taken_start}
 use Rattle.setting.specs.Paths.{Arm, in_first, in_second, in_third, holding, field_style, field_place, HasField, join, choice_with, list_place, Spot, among, within, put, items_before, spot_style, spot_place, Step, holder, list_with, item_style, step_style, step_place, Path, whole, into, fill, style_at, place_of, HasFields}
-use Rattle.setting.specs.Lines.{style_after_join}
+use Rattle.setting.proofs.Lines.{style_after_join}
 use Rattle.setting.specs.Picked.{Picked, picked, ◌or_in◌, if_reached, pick_in, pick_at, pick_field, picked_item}
-use Rattle.setting.specs.PickedLaws.{pick_in_here, pick_in_later, pick_field_before, pick_field_past, pick_at_choice, split, or_in_some, reached}
+use Rattle.setting.proofs.PickedLaws.{pick_in_here, pick_in_later, pick_field_before, pick_field_past, pick_at_choice, split, or_in_some, reached}
 use Rattle.setting.specs.ItemOnPage.{Site, site_style, with_item, site_place, SetAt}
 
 -- ---- how many bytes stand before what a list holds, and in all

@@ -35,10 +35,10 @@ use Rattle.nodes.specs.Nodes.{Node, rule, moved}
 use Rattle.setting.specs.Setting.{FieldBox, moved_by, own_nodes}
 use Rattle.setting.specs.Frames.{further}
 use Rattle.setting.specs.Picked.{Picked, picked_item, picked_first, picked_second, picked_third, picked_signs, picked_arranged}
-use Rattle.setting.specs.Formed.{FormedItem}
+use Rattle.setting.proofs.Formed.{FormedItem}
 use Rattle.setting.specs.Ink.{ink_of, Every, InkBetween, Clear}
-use Rattle.setting.specs.InkLaws.{clear_by, clear_none}
-use Rattle.setting.specs.BoxInk.{ShapeInk, FieldInk, shape_span, field_ink}
+use Rattle.setting.proofs.InkLaws.{clear_by, clear_none}
+use Rattle.setting.proofs.BoxInk.{ShapeInk, FieldInk, shape_span, field_ink}
 
 -- ---- what is claimed of an item that is arranged so
 

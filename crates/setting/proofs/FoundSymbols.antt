@@ -13,7 +13,7 @@ use Rattle.formula.specs.declared.Kind.TheVariants.{Scripted, Fraction}
 use Rattle.boxes.specs.declared.styles.Style.{Style}
 use Rattle.boxes.specs.Styles.{font_size}
 use Rattle.boxes.specs.Boxes.{Shape, size_of}
-use Rattle.delimiters.specs.FoundSigns.{sign_there}
+use Rattle.delimiters.proofs.FoundSigns.{sign_there}
 use Rattle.roots.specs.Roots.{sign_extent}
 use Rattle.fences.specs.Fences.{fence_extent}
 use Rattle.arrange_rules.specs.HoldingLaws.{SignsThere}

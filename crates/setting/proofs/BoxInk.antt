@@ -26,13 +26,14 @@ use Rattle.spacing.specs.Classes.{Neighbour, class_of}
 use Rattle.arrange.specs.declared.Manner.{Manner}
 use Rattle.arrange.specs.declared.Manner.TheVariants.{Plain}
 use Rattle.arrange.specs.Arrange.{first_style, second_style, third_style, first_manner}
-use Rattle.arrange_rules.specs.HoldingLaws.{ShapeHeld, NoThird, arranged_holds}
+use Rattle.arrange_rules.specs.HoldingLaws.{ShapeHeld, NoThird}
+use Rattle.arrange_rules.proofs.HoldingLaws.{arranged_holds}
 use Rattle.nodes.specs.Nodes.{Node, moved}
 use Rattle.setting.specs.Setting.{Box, FieldBox, Symbol, symbol_in, symbol_field_box, signs_in, moved_by, own_node, own_nodes, arranged_in, item_nodes, item_box, taken, style_behind, next_class, Line, beside, placed, Sides, sides_of, start, closed, is_enlarged, set_items, set_item, set_field, set_list}
-use Rattle.setting.specs.FoundSymbols.{SymbolThere, symbol_there, signs_there}
-use Rattle.setting.specs.Formed.{Formed, FormedItem, FormedField, ThirdFormed}
+use Rattle.setting.proofs.FoundSymbols.{SymbolThere, symbol_there, signs_there}
+use Rattle.setting.proofs.Formed.{Formed, FormedItem, FormedField, ThirdFormed}
 use Rattle.setting.specs.Ink.{glyph_ink, ink_of, Inked, Every, Between, InkBetween, InkIn}
-use Rattle.setting.specs.InkLaws.{every_append, held_ink, held_there, span_moved}
+use Rattle.setting.proofs.InkLaws.{every_append, held_ink, held_there, span_moved}
 
 module _ (F : Font) where
   -- a field that is nothing has no nodes

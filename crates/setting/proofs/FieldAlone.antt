@@ -22,7 +22,7 @@ use Rattle.setting.specs.Setting.{no_sides, sides_of, style_after, style_behind,
 use Rattle.setting.specs.Missing.{◌or_else◌, later, missing_items, missing_item, missing_field}
 use Rattle.setting.specs.Fitting.{box_fits, items_fit, item_fits, field_fits, list_fits}
 use Rattle.setting.specs.Paths.{Arm, in_first, in_second, in_third, holding, field_style, field_manner, join, choice_with, Spot, among, within, put, items_before, holder, list_with, item_style, Path, whole, into, fill, style_at, sides_at}
-use Rattle.setting.specs.Lines.{style_after_join}
+use Rattle.setting.proofs.Lines.{style_after_join}
 
 -- ---- answer 5
 

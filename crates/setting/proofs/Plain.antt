@@ -23,7 +23,7 @@ use Rattle.arrange.specs.declared.Manner.{Manner}
 use Rattle.arrange.specs.declared.Manner.TheVariants.{Plain as Plainly}
 use Rattle.arrange.specs.Arrange.{first_style, second_style, third_style, first_manner}
 use Rattle.setting.specs.Setting.{Box, FieldBox, Line, symbol_in, empty_field_box, symbol_field_box, item_box, style_behind, next_class, class_at, empty_box, beside, kerned, placed, Sides, no_sides, sides_of, is_enlarged, start, closed, set_items, set_item, set_field, set_list}
-use Rattle.setting.specs.SettingLaws.{held_sides, first_sides}
+use Rattle.setting.proofs.SettingLaws.{held_sides, first_sides}
 use Rattle.setting.specs.FieldInPlace.{list_field_box}
 use Rattle.setting.specs.Missing.{◌or_else◌, later, absent_at, missing_items, missing_item, missing_field}
 use Rattle.setting.specs.Fitting.{box_fits, items_fit, item_fits, field_fits, list_fits}

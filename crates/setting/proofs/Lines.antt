@@ -14,7 +14,7 @@ use Rattle.boxes.specs.declared.styles.Level.TheVariants.{Display, Text, Script,
 use Rattle.boxes.specs.declared.styles.Style.{Style}
 use Rattle.spacing.specs.Classes.{Neighbour}
 use Rattle.setting.specs.Setting.{Box, Line, taken, style_after, style_behind, next_class, class_at, set_items, set_item}
-use Rattle.setting.specs.SettingLaws.{style_behind_choice_lem, class_at_choice, set_item_choice, set_items_style, set_item_style}
+use Rattle.setting.proofs.SettingLaws.{style_behind_choice_lem, class_at_choice, set_item_choice, set_items_style, set_item_style}
 use Rattle.setting.specs.Paths.{join, choice_with, Spot, among, within, put, items_before, items_after}
 
 join_assoc : (a b c : Items) → join (join a b) c ≡ join a (join b c)
