@@ -28,8 +28,7 @@ use Rattle.answers.specs.Answers.{accepted_number, measured, setting, buffer_aft
 use Rattle.promises.specs.Accepting.{Accepted, accepted_reads, Page, page_of}
 use Rattle.promises.specs.ListFields.{SetItem, ListFieldAt}
 use Rattle.promises.proofs.ListFields.{spot_of, reached}
-use Rattle.promises.specs.ItemsOnPage as defs
-use Rattle.promises.specs.ItemsOnPage.{ItemSetAt, item_read, ItemStands}
+use Rattle.promises.specs.ItemsOnPage.{ItemSetAt, item_read, ItemStands, outermost, in_field}
 
 -- it stands in the tree
 pub set_in_tree : (u : Style) (formula : List ℕ) → Readable formula → {place : ℕ} {v : Style} {item : List ℕ} →

@@ -26,8 +26,7 @@ use Rattle.setting.proofs.SettingLaws.{held_sides, first_sides, taken_all, style
 use Rattle.setting.proofs.Lines.{style_after_join}
 use Rattle.setting.specs.Paths.{Arm, in_first, in_second, in_third, holding, field_style, field_manner, field_place, HasField, join, choice_with, list_place as placeAmong, Spot, among, within, put, items_before, spot_place, Step, list_with, item_style, step_style, step_sides, step_place, Path, whole, into, fill, style_at, sides_at, place_of, HasFields}
 use Rattle.promises.specs.FieldBytes.{PartAt, part_behind, part_within}
-use Rattle.promises.specs.ListFields as defs
-use Rattle.promises.specs.ListFields.{ListField, taken_number, taken_place, ItemAt, SetItem, FieldAt, OwnListField, ListFieldAt, SidesOf, ListRead, TakenRead, Behind, SpotOf, Held, Entered, Reached}
+use Rattle.promises.specs.ListFields.{ListField, taken_number, taken_place, ItemAt, SetItem, FieldAt, OwnListField, ListFieldAt, SidesOf, TakenRead, SpotOf, Reached, list_field, long_list_field, first, past_fields, past_kern, past_style, past_choice, in_list, in_taken, in_one, in_two, in_three, own, deeper}
 
 first_of : (kind : Kind) (u : Style) → SidesOf kind (opening_bytes kind) (sides_of (first_manner kind u))
 first_of kind u =
@@ -60,6 +59,13 @@ step_sides_lem u t = go t.arm
     go (in_first y z) = first_of t.kind (item_style u t)
     go (in_second x z) = other_of t.kind _ (omega (arith, some_bytes x))
     go (in_third x y) = other_of t.kind _ (omega (arith, some_bytes x))
+
+-- ---- a list field reads to the tree of the bytes that it holds
+record ListRead (s field : List ℕ) : Type 0 where
+  readable : Readable field
+  is : field_of s (field_head s) ≡ list (tree_of field)
+  items_are : list_of s (field_head s) ≡ tree_of field
+  part : PartAt s (list_opening_bytes (length field)) field
 
 -- of n bytes, behind an opening of so many
 sublist_read : (s : List ℕ) (opening n : ℕ) → field_head s ≡ sublist_head opening n (drop opening s) → GoodField s (field_head s) →
@@ -169,6 +175,14 @@ taken_read u s inner e r f =
     among_lists Scriptscript cramped =
         (list_in s 0, list_in s 1, list_in s 2, refl, omega (arith, long 0 (omega arith), long 1 (omega arith), long 2 (omega arith)), omega arith)
 
+-- ---- the items before a place, and the style there
+record Behind (u : Style) (s : List ℕ) (at : ℕ) (v : Style) : Type 0 where
+  before : Items
+  readable : Readable (drop at s)
+  tree : tree_of s ≡ join before (tree_of (drop at s))
+  long : items_bytes before ≡ at
+  style : style_after u before ≡ v
+
 -- past the first item
 past : (u v w : Style) (s : List ℕ) (at : ℕ) (o : Opening) → opening_of s ≡ o → 0 < opened_bytes o → Readable s →
     style_behind u (item_of s o) ≡ v → (Readable (drop (item_size s o) s) → Behind v (drop (item_size s o) s) at w) →
@@ -254,6 +268,16 @@ spot_of (in_taken {u} {v} {w} {s} {inner} {item} {at} {k} i c f j) r kind e =
     let t = taken_read v (drop at s) inner c h.readable f in
     spot_within u v w s inner item at k kind h c t (spot_of j t.readable kind e)
 
+-- ---- a list field of the first item
+record Held (s : List ℕ) (kind : Kind) (u : Style) (at : ℕ) (v : Style) (sides : Sides) (field : List ℕ) : Type 0 where
+  arm : Arm
+  is : item_of s (Fields kind) ≡ holding kind arm (tree_of field)
+  style : field_style kind arm u ≡ v
+  between : sides_of (field_manner kind arm u) ≡ sides
+  has : HasField kind arm
+  place : field_place kind arm ≡ at
+  read : ListRead (drop at s) field
+
 held : (s : List ℕ) (kind : Kind) (u : Style) (at : ℕ) (v : Style) (sides : Sides) (field : List ℕ) → Noad s kind →
     FieldAt s kind u at v sides → ListField (drop at s) field → Held s kind u at v sides field
 held s kind u at v sides field n in_one f =
@@ -295,6 +319,17 @@ held s kind u at v sides field n (in_three has) f =
       place = third_field_lem s kind n;
       read = r;
     }
+
+-- ---- a list field of an item of a list: one step
+record Entered (u : Style) (s : List ℕ) (place : ℕ) (v : Style) (sides : Sides) (field : List ℕ) : Type 0 where
+  by : Step
+  readable : Readable field
+  tree : tree_of s ≡ list_with u by (tree_of field)
+  style : step_style u by ≡ v
+  between : step_sides u by ≡ sides
+  has : HasField by.kind by.arm
+  there : step_place u by (tree_of field) ≡ place + list_opening_bytes (length field)
+  part : PartAt s (step_place u by (tree_of field)) field
 
 entered : (u : Style) (s : List ℕ) (place : ℕ) (v : Style) (sides : Sides) (field : List ℕ) → Readable s →
     OwnListField u s place v sides field → Entered u s place v sides field
