@@ -20,7 +20,7 @@ use Rattle.nodes.specs.Drawn.{Drawn}
 use Rattle.setting.specs.Setting.{Box, no_sides, set_list}
 use Rattle.answers.specs.Lent.{Lent}
 use Rattle.answers.specs.Answers.{boxed, result_of, Answered, accepted, measured, setting, buffer_after}
-use Rattle.answers.specs.AnswersLaws as answers
+use Rattle.answers.proofs.AnswersLaws as answers
 use Rattle.walk_fields.specs.declared.lines.ItemsSet.{ItemsSet}
 use Rattle.walk_fields.specs.declared.lines.ItemsSet.TheVariants.{Whole, Missing}
 use Rattle.walk_fields.specs.Lists.{ListDone}

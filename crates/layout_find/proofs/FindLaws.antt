@@ -26,8 +26,8 @@ use Rattle.setting.specs.Missing.{missing_items}
 use Rattle.setting.specs.Fitting.{box_fits, items_fit, list_fits}
 use Rattle.answers.specs.Lent.{Lent, lent_of, builds, built_if, index_after, client_index_after}
 use Rattle.answers.specs.Answers.{refusal, fault_number, missing_number, too_large_number, if_read, result_of, measured}
-use Rattle.answers.specs.AnswersLaws.{read_is, missing_refused, box_is, large_refused, measured_refused}
-use Rattle.answers.specs.LentLaws.{index_in_front, early, measuring_leaves}
+use Rattle.answers.proofs.AnswersLaws.{read_is, missing_refused, box_is, large_refused, measured_refused}
+use Rattle.answers.proofs.LentLaws.{index_in_front, early, measuring_leaves}
 use Rattle.walk_fields.specs.declared.lines.Line as lines
 use Rattle.walk_fields.specs.Values.{line_fits}
 use Rattle.walk_fields.specs.Lists.{ListWhole}

@@ -11,8 +11,8 @@ use Rattle.boxes.specs.Styles.{style_of}
 use Rattle.setting.specs.Setting.{no_sides}
 use Rattle.answers.specs.Lent.{Lent}
 use Rattle.answers.specs.Answers.{style_number, table_number, client_number, index_number}
-use Rattle.answers.specs.AnswersLaws.{no_style, bad_table, bad_client, few_words}
-use Rattle.answers.specs.LentLaws.{enough_is, Few, few_is, early}
+use Rattle.answers.proofs.AnswersLaws.{no_style, bad_table, bad_client, few_words}
+use Rattle.answers.proofs.LentLaws.{enough_is, Few, few_is, early}
 use Rattle.layout_answers.specs.declared.Answer.TheVariants.{NoStyle, BadTable, BadClient, FewWords}
 use Rattle.layout_test.specs.Tested.{Passes, Stops}
 

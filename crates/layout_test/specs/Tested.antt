@@ -7,7 +7,7 @@ use Rattle.boxes.specs.declared.styles.Style.{Style}
 use Rattle.boxes.specs.Styles.{style_of}
 use Rattle.answers.specs.Lent.{Lent, enough}
 use Rattle.answers.specs.Answers.{refusal, refused, result_of}
-use Rattle.answers.specs.LentLaws.{early}
+use Rattle.answers.proofs.LentLaws.{early}
 use Rattle.layout_answers.specs.declared.Answer.{Answer}
 use Rattle.layout_answers.specs.Values.{answered_as}
 use Rattle.layout_test.specs.declared.Testing.{Testing}

@@ -25,7 +25,7 @@ use Rattle.setting.specs.Missing.{missing_items}
 use Rattle.setting.specs.Fitting.{list_fits}
 use Rattle.answers.specs.Lent.{Lent, enough}
 use Rattle.answers.specs.Answers.{Answered, Result, boxed, accepted_number, if_fits, if_present, if_read, if_enough, if_client, if_good, if_style, result_of, result_between, measured, set_by, setting, setting_between, buffer_after}
-use Rattle.answers.specs.AnswersLaws.{tested_is, read_is, box_is, measured_boxed, buffer_boxed}
+use Rattle.answers.proofs.AnswersLaws.{tested_is, read_is, box_is, measured_boxed, buffer_boxed}
 
 pub record Accepted (style : ℕ) (table client : List ℕ) (lent : Lent) (formula : List ℕ) (s : Style) (tree : Items) : Type 0 where
   pub style_is : style_of style ≡ some s

@@ -34,7 +34,7 @@ use Rattle.setting.proofs.PickedSet.{set_picked}
 use Rattle.answers.specs.Lent.{Lent}
 use Rattle.answers.specs.Answers.{accepted_number, measured, setting, buffer_after}
 use Rattle.promises.specs.Accepting.{Accepted, accepted_reads, Page, page_of}
-use Rattle.promises.specs.ListFields.{SetItem, ListFieldAt, spot_of, reached}
+use Rattle.promises.specs.ListFields.{SetItem, ListFieldAt}
 
 -- ---- the item
 
@@ -46,32 +46,6 @@ pub data ItemSetAt (u : Style) (s : List ℕ) : ℕ → Style → List ℕ → T
 abbrev pub item_read : Style → List ℕ → Kind → Picked
 item_read v item kind =
     picked v kind (field_in item (opening_bytes kind)) (field_in item (second item kind)) (third_in item (has_third kind) (third item kind))
-
--- it stands in the tree
-pub set_in_tree : (u : Style) (formula : List ℕ) → Readable formula → {place : ℕ} {v : Style} {item : List ℕ} →
-    ItemSetAt u formula place v item → (kind : Kind) → opening_of item ≡ Fields kind → SetAt u place (tree_of formula) (item_read v item kind)
-set_in_tree u formula r (outermost h) kind e =
-    let m = spot_of h r kind e in
-    record {
-      site = record { path = whole; spot = m.spot };
-      formula_is = m.tree;
-      style_is = m.style;
-      place_is = omega (arith, m.place);
-      has_fields = tt;
-    }
-set_in_tree u formula r (in_field {inner = inner} {w} {v} {around = around} {item} h k) kind e =
-    let o = reached u formula r h in
-    let p = into o.p o.t in
-    let there : SetItem (style_at u p) around inner v item = rw o.style k in
-    let m = spot_of there o.readable kind e in
-    let outer = ap (place_of u p) m.tree in
-    record {
-      site = record { path = p; spot = m.spot };
-      formula_is = o.tree ∙ ap (fill u p) m.tree;
-      style_is = m.style;
-      place_is = omega (arith, outer, o.there, m.place);
-      has_fields = o.has_fields;
-    }
 
 -- ---- on the page
 
@@ -92,39 +66,3 @@ pub record ItemStands (style : ℕ) (table client : List ℕ) (lent : Lent) (for
       ≡ bytes_of item_there.before
       ++ (bytes_of (moved_by item_there.reference (picked_nodes (font_with table client) q))
       ++ (bytes_of item_there.after ++ drop bytes buffer))
-
-set_stands : {style : ℕ} {table client : List ℕ} {lent : Lent} {formula : List ℕ} {s : Style} {place : ℕ} {q : Picked} {tree : Items} →
-    Accepted style table client lent formula s tree → SetAt s place tree q → ItemStands style table client lent formula s place q
-set_stands {style} {table} {client} {lent} {formula} {s} {place} {q} {tree} reads h =
-    let F = font_with table client in
-    let b = set_list F no_sides s tree in
-    let there = item_on_page F h in
-    let page = page_of reads in
-    record {
-      tree = tree;
-      reads = reads;
-      set_there = h;
-      picks = set_picked h;
-      size = b.size;
-      nodes = b.nodes;
-      page = page;
-      item_there = there;
-      parts_there = parts_on_page there;
-      buffer_is = λ buffer enough.
-          page.buffer_is buffer enough
-          ∙ ap (λ (ns : List Node). bytes_of ns ++ drop (bytes_in_node * (measured style table client lent formula).count) buffer) there.page_is
-          ∙ simp (bytes_append, append_assoc);
-    }
-
-pub item_stands : (style : ℕ) (table client : List ℕ) (lent : Lent) (formula : List ℕ) (room : ℕ) →
-    (setting style table client lent formula room).number ≡ accepted_number →
-    (s : Style) → style_of style ≡ some s → (place : ℕ) (v : Style) (item : List ℕ) → ItemSetAt s formula place v item →
-    (kind : Kind) → opening_of item ≡ Fields kind → ItemStands style table client lent formula s place (item_read v item kind)
-item_stands style table client lent formula room e s is place v item h kind opens =
-    let a = accepted_reads style table client lent formula room e in
-    let read = (reads_so long_format formula a.1 a.2.reads).1 in
-    let set = set_in_tree s formula (readable_of formula _ a.1 read) h kind opens in
-    let reads : Accepted style table client lent formula s a.1 =
-    record { style_is = is; reads = a.2.reads; room = room; is_accepted = e }
-    in
-    set_stands reads (rw (tree_is formula _ a.1 read) at set)

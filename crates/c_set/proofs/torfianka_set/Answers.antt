@@ -1,6 +1,7 @@
 -- The answer of setting, the buffer, and the words for both indexes, where there is room for the answer.
 use Rattle.std.proofs.Common.{sym, subst, ◌∙◌, rules}
-use Rattle.answers.specs.Small.{Small, setting_small}
+use Rattle.answers.specs.Small.{Small}
+use Rattle.answers.proofs.Small.{setting_small}
 use Rattle.c_words.specs.WordsLaws.{enough, short}
 use Rattle.c_set.proofs.torfianka_set.Goals as goal
 

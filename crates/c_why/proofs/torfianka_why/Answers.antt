@@ -3,7 +3,7 @@
 use Rattle.std.proofs.Common.{◌≤◌, sym, subst, ◌∙◌, rules}
 use Rattle.formula.specs.Format.{formula_limit}
 use Rattle.answers.specs.Why.{WhyAnswered}
-use Rattle.answers.specs.Small.{why_small}
+use Rattle.answers.proofs.Small.{why_small}
 use Rattle.c_words.specs.WordsLaws.{enough, short}
 use Rattle.c_why.proofs.torfianka_why.Goals as goal
 

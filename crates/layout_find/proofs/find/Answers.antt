@@ -4,7 +4,7 @@ use mathlib.Core.Path.{sym, ◌∙◌}
 use native.Mathlib.Omega.{arith}
 use Rattle.font.specs.FontLaws.{good_header, sound_tables}
 use Rattle.formula.specs.PlacesLaws.{formula_good, formula_fault}
-use Rattle.answers.specs.LentLaws.{enough_words}
+use Rattle.answers.proofs.LentLaws.{enough_words}
 use Rattle.layout_find.specs.FoundLaws.{given_list}
 use Rattle.layout_find.proofs.FindLaws.{Built, stopped, left_alone, built_both, fault_refused, formula_reads, examined_found}
 use Rattle.layout_find.proofs.find.Goals as goal

@@ -45,11 +45,12 @@ use Rattle.setting.proofs.FieldInPlace.{size_used, field_in_place}
 use Rattle.setting.proofs.FieldAlone.{missing_alone, fits_alone}
 use Rattle.answers.specs.Lent.{Lent}
 use Rattle.answers.specs.Answers.{Answered, accepted_number, accepted, measured, measured_between, setting, setting_between, buffer_after, buffer_between, result_of, result_between, boxed}
-use Rattle.answers.specs.AnswersLaws.{measured_boxed, set_boxed, buffer_boxed}
+use Rattle.answers.proofs.AnswersLaws.{measured_boxed, set_boxed, buffer_boxed}
 use Rattle.promises.specs.Accepting.{Accepted, accepted_reads, Passed, passed, boxed_of}
-use Rattle.promises.specs.MovedBytes.{OnlyPlaceMoved, node_at, nodes_passed, moved_as, moved_at}
+use Rattle.promises.proofs.MovedBytes.{OnlyPlaceMoved, node_at, nodes_passed, moved_as, moved_at}
 use Rattle.promises.specs.FieldBytes.{field_part, field_reads}
-use Rattle.promises.specs.ListFields.{ListFieldAt, reached}
+use Rattle.promises.specs.ListFields.{ListFieldAt}
+use Rattle.promises.proofs.ListFields.{reached}
 
 -- ---- the number of a style
 

@@ -12,7 +12,7 @@ use Rattle.nodes.specs.NodeLaws.{length_bytes}
 use Rattle.setting.specs.Setting.{Box, Sides, no_sides}
 use Rattle.answers.specs.Lent.{Lent}
 use Rattle.answers.specs.Answers.{Result, boxed, refused, result_between, Answered, accepted_number, no_room_number, accepted, refusal, has_room, set_by, setting_between, setting, buffer_by, buffer_between, buffer_after}
-use Rattle.promises.specs.Agreement.{RefusedBefore, result_before_lem}
+use Rattle.promises.proofs.Agreement.{RefusedBefore, result_before_lem}
 
 pub record RefusedWhole (a : Answered) (before after : List ℕ) : Type 0 where
   pub no_size : a.size ≡ zero_size

@@ -33,7 +33,8 @@ use Rattle.setting.proofs.Clearances.{ItemClear, item_clear}
 use Rattle.answers.specs.Lent.{Lent}
 use Rattle.answers.specs.Answers.{accepted_number, setting}
 use Rattle.promises.specs.Accepting.{Accepted, accepted_reads, Page, page_of}
-use Rattle.promises.specs.ItemsOnPage.{ItemSetAt, item_read, set_in_tree}
+use Rattle.promises.specs.ItemsOnPage.{ItemSetAt, item_read}
+use Rattle.promises.proofs.ItemsOnPage.{set_in_tree}
 
 pub record ItemKeeps (F : Font) (q : Picked) (nodes : List Node) : Type 0 where
   pub item_there : ItemOnPage F q nodes

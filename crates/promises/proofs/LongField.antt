@@ -38,14 +38,14 @@ use Rattle.setting.specs.Missing.{later, missing_items}
 use Rattle.setting.specs.Fitting.{items_fit, item_fits, list_fits}
 use Rattle.answers.specs.Lent.{enough}
 use Rattle.answers.specs.Answers.{refused, fault_number, Answered, measured}
-use Rattle.answers.specs.AnswersLaws.{measured_boxed, set_boxed}
-use Rattle.promises.specs.BenchTable.{just_enough, bench_table}
-use Rattle.promises.specs.Definitions.{definitions}
+use Rattle.answers.proofs.AnswersLaws.{measured_boxed, set_boxed}
+use Rattle.promises.proofs.BenchTable.{just_enough, bench_table}
+use Rattle.promises.proofs.Definitions.{definitions}
 use Rattle.promises.specs.Accepting.{Passed, boxed_of}
 use Rattle.promises.specs.ListFields.{ListField, long_list_field, first, in_list, in_one, ListFieldAt, own}
-use Rattle.promises.specs.Demand3.{ListFieldAsAlone, demand_3_at}
-use Rattle.promises.specs.Formats.{result_under, long_answered}
-use Rattle.promises.specs.FieldExample.{T, atom_bytes, ord, a, a_alone}
+use Rattle.promises.proofs.Demand3.{ListFieldAsAlone, demand_3_at}
+use Rattle.promises.proofs.Formats.{result_under, long_answered}
+use Rattle.promises.proofs.FieldExample.{T, atom_bytes, ord, a, a_alone}
 
 -- ---- an underlined list of kind 3
 

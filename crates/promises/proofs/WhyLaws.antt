@@ -30,7 +30,7 @@ use Rattle.setting.proofs.PickedSet.{picked_set}
 use Rattle.answers.specs.Lent.{Lent}
 use Rattle.answers.specs.Answers.{accepted_number, Result, boxed, refused, result_of, has_room, set_by, setting_between}
 use Rattle.promises.specs.Accepting.{Accepted, accepted_reads, passed, boxed_of, Page, page_of}
-use Rattle.promises.specs.FoundItems.{FoundAt, found_at}
+use Rattle.promises.proofs.FoundItems.{FoundAt, found_at}
 use Rattle.answers.specs.Why.{if_picked, why_by, reasons_in, why_of}
 
 pub record WhyTrue (style : ℕ) (table client : List ℕ) (lent : Lent) (formula : List ℕ) (place : ℕ) (r : Reasons) : Type 0 where

@@ -20,12 +20,12 @@ use Rattle.nodes.specs.Nodes.{glyph, rule}
 use Rattle.setting.specs.Setting.{no_sides}
 use Rattle.setting.specs.Paths.{in_first, in_second, in_third, among, Step, Path, whole, into, fill}
 use Rattle.answers.specs.Answers.{measured}
-use Rattle.promises.specs.BenchTable.{just_enough, bench_table}
-use Rattle.promises.specs.Definitions.{definitions}
+use Rattle.promises.proofs.BenchTable.{just_enough, bench_table}
+use Rattle.promises.proofs.Definitions.{definitions}
 use Rattle.promises.specs.Accepting.{Accepted}
-use Rattle.promises.specs.EveryField.{listed_at}
-use Rattle.promises.specs.Demand3.{around, run, StandsIn, demand_3, ListFieldAsAlone}
-use Rattle.promises.specs.FieldExample.{T, atom_bytes, ord, a, a_alone, by_place}
+use Rattle.promises.proofs.EveryField.{listed_at}
+use Rattle.promises.proofs.Demand3.{around, run, StandsIn, demand_3, ListFieldAsAlone}
+use Rattle.promises.proofs.FieldExample.{T, atom_bytes, ord, a, a_alone, by_place}
 
 -- the size of the list a alone, in a style
 abbrev size_in : ℕ → Size

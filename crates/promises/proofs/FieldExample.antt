@@ -30,12 +30,12 @@ use Rattle.nodes.specs.Nodes.{glyph, rule}
 use Rattle.setting.specs.Setting.{Sides, no_sides, fence_sides, sides_of}
 use Rattle.setting.specs.Paths.{in_first, in_second, among, within, Step, whole, into, fill}
 use Rattle.answers.specs.Answers.{measured, measured_between}
-use Rattle.promises.specs.BenchTable.{just_enough, bench_table}
-use Rattle.promises.specs.Definitions.{definitions}
+use Rattle.promises.proofs.BenchTable.{just_enough, bench_table}
+use Rattle.promises.proofs.Definitions.{definitions}
 use Rattle.promises.specs.Accepting.{Accepted}
 use Rattle.promises.specs.FieldBytes.{field_part}
 use Rattle.promises.specs.ListFields.{list_field, ItemAt, first, past_fields, past_style, past_choice, in_list, in_taken, in_one, in_two, OwnListField, ListFieldAt, own, deeper}
-use Rattle.promises.specs.Demand3.{field_style_number, around, FieldAsAlone, demand_3, ListFieldAsAlone, demand_3_at}
+use Rattle.promises.proofs.Demand3.{field_style_number, around, FieldAsAlone, demand_3, ListFieldAsAlone, demand_3_at}
 
 abbrev pub T : ℕ
 T = 2

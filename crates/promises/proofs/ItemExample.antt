@@ -15,12 +15,13 @@ use Rattle.boxes.specs.Styles.{plain}
 use Rattle.nodes.specs.Nodes.{Node}
 use Rattle.answers.specs.Answers.{accepted_number, setting}
 use Rattle.answers.specs.Why.{why_of}
-use Rattle.promises.specs.BenchTable.{just_enough, bench_table}
-use Rattle.promises.specs.Definitions.{definitions}
+use Rattle.promises.proofs.BenchTable.{just_enough, bench_table}
+use Rattle.promises.proofs.Definitions.{definitions}
 use Rattle.promises.specs.ListFields.{list_field, first, past_style, in_list, in_one, own}
-use Rattle.promises.specs.ItemsOnPage.{ItemSetAt, outermost, in_field, item_read, ItemStands, item_stands}
-use Rattle.promises.specs.Clearances.{ItemKeeps, clearances}
-use Rattle.promises.specs.WhyLaws.{WhyOnPage, why_on_page}
+use Rattle.promises.specs.ItemsOnPage.{ItemSetAt, outermost, in_field, item_read, ItemStands}
+use Rattle.promises.proofs.ItemsOnPage.{item_stands}
+use Rattle.promises.proofs.Clearances.{ItemKeeps, clearances}
+use Rattle.promises.proofs.WhyLaws.{WhyOnPage, why_on_page}
 
 abbrev T : ℕ
 T = 2

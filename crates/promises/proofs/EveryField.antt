@@ -35,7 +35,8 @@ use Rattle.setting.proofs.SettingLaws.{style_behind_choice_lem}
 use Rattle.setting.proofs.Lines.{style_after_join}
 use Rattle.setting.specs.Paths.{Arm, in_first, in_second, in_third, holding, field_style, field_manner, field_place, join, choice_with, list_place as placeAmong, Spot, among, within, put, items_before, spot_place, Step, holder, list_with, item_style, step_style, step_sides, step_place, Path, whole, into, fill, style_at, sides_at, place_of}
 use Rattle.promises.specs.FieldBytes.{field_part, field_reads}
-use Rattle.promises.specs.ListFields.{ListField, list_field, long_list_field, taken_number, taken_place, ItemAt, first, past_fields, past_kern, past_style, past_choice, SetItem, in_list, in_taken, FieldAt, in_one, in_two, in_three, OwnListField, ListFieldAt, own, deeper, TakenRead, taken_read, reached}
+use Rattle.promises.specs.ListFields.{ListField, list_field, long_list_field, taken_number, taken_place, ItemAt, first, past_fields, past_kern, past_style, past_choice, SetItem, in_list, in_taken, FieldAt, in_one, in_two, in_three, OwnListField, ListFieldAt, own, deeper, TakenRead}
+use Rattle.promises.proofs.ListFields.{taken_read, reached}
 
 -- ---- a list field, from what its head says
 

@@ -39,7 +39,8 @@ use Rattle.setting.specs.Paths.{choice_with, list_place as placeAmong}
 use Rattle.setting.specs.Picked.{Picked, ◌or_in◌, if_reached, pick_in, pick_at, pick_field}
 use Rattle.setting.proofs.PickedLaws.{pick_in_here, pick_in_later, split, or_in_some, reached}
 use Rattle.setting.proofs.PickedSet.{pick_at_chosen, reached_there}
-use Rattle.promises.specs.ListFields.{ListField, list_field_lem, taken_number, taken_place, ItemAt, first, past_fields, past_kern, past_style, past_choice, SetItem, in_list, in_taken, FieldAt, in_one, in_two, in_three, OwnListField, ListFieldAt, own, deeper, TakenRead, taken_read}
+use Rattle.promises.specs.ListFields.{ListField, taken_number, taken_place, ItemAt, first, past_fields, past_kern, past_style, past_choice, SetItem, in_list, in_taken, FieldAt, in_one, in_two, in_three, OwnListField, ListFieldAt, own, deeper, TakenRead}
+use Rattle.promises.proofs.ListFields.{list_field_lem, taken_read}
 use Rattle.promises.specs.ItemsOnPage.{ItemSetAt, outermost, in_field, item_read}
 
 pub record FoundAt (u : Style) (s : List ℕ) (place : ℕ) (q : Picked) : Type 0 where

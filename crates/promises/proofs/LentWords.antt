@@ -23,8 +23,8 @@ use Rattle.reasons.specs.Reasons.{Reasons}
 use Rattle.setting.specs.Setting.{Box, Sides, no_sides}
 use Rattle.font_index.specs.IndexLaws.{index_length}
 use Rattle.answers.specs.Lent.{Lent, lends, lent_of, enough, builds, built_if, index_after, client_index_after}
-use Rattle.answers.specs.AnswersLaws.{few_words}
-use Rattle.answers.specs.LentLaws.{Few, few_is, is_few, early, found_number, read_late, result_early, measured_number, WordsLeft, left_by, measuring_leaves}
+use Rattle.answers.proofs.AnswersLaws.{few_words}
+use Rattle.answers.proofs.LentLaws.{Few, few_is, is_few, early, found_number, read_late, result_early, measured_number, WordsLeft, left_by, measuring_leaves}
 use Rattle.answers.specs.Answers.{Result, boxed, refused, index_number, no_room_number, if_enough, if_client, if_good, if_style, result_between, result_of, Answered, accepted, refusal, measured_by, measured_between, has_room, set_by, setting_between, buffer_by, buffer_between}
 use Rattle.answers.specs.Why.{unpicked_number, why_refusal, if_picked, why_by, reasons_in, why_of}
 

@@ -19,7 +19,7 @@ use Rattle.setting.specs.Setting.{no_sides}
 use Rattle.setting.proofs.Plain.{Plain, set_plain, missing_plain, plain_fits, set_as_before as box-as-before, missing_as_before, fits_as_before}
 use Rattle.answers.specs.Lent.{Lent, enough}
 use Rattle.answers.specs.Answers.{Result, refused, missing_number, if_fits, if_present, if_read, result_of, measured_by, measured, measured_between, set_by, setting, setting_between, buffer_by, buffer_after, buffer_between}
-use Rattle.answers.specs.AnswersLaws.{read_is}
+use Rattle.answers.proofs.AnswersLaws.{read_is}
 
 unfoldable pub present_before : Font → Style → Items → Option ℕ → Result
 present_before F s l none = if_fits (plain_fits F s l) (set_plain F s l)

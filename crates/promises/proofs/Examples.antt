@@ -22,8 +22,8 @@ use Rattle.setting.specs.Ink.{Ink, ink_of}
 use Rattle.answers.specs.Lent.{lends, client_index_after}
 use Rattle.answers.specs.Answers.{Result, boxed, refused, result_of, Answered, measured, setting, buffer_after}
 use Rattle.answers.specs.Why.{WhyAnswered, why_refusal, why_of}
-use Rattle.promises.specs.BenchTable.{just_enough, bench_table, client_table, turning_table}
-use Rattle.promises.specs.Definitions.{definitions}
+use Rattle.promises.proofs.BenchTable.{just_enough, bench_table, client_table, turning_table}
+use Rattle.promises.proofs.Definitions.{definitions}
 
 -- ---- formulas as bytes
 
