@@ -503,8 +503,7 @@ set_items-loop-at-smaller t c = omega (arith, c.in-UpTo-step.ensures.1, c.loop-a
 pub set_items-loop-at-preserved : goal.set_items-loop-at-preserved
 set_items-loop-at-preserved t c =
     let a = c.args in
-    let F = font_with a.table.now a.client.now in
-    (
+    let F = font_with a.table.now a.client.now in (
       λ b so. (along_stretch F (neighbour_as a.beyond) (c.loop-at.invariant.0 b so) c.room-j.ensures c.set_onward-step.new.buf (stretch.UpTo c.in-UpTo-step.size c.in-UpTo-step.next) c.in-UpTo-step.ensures.0).0,
       (along_stretch F (neighbour_as a.beyond) (c.loop-at.invariant.0 c.args.buf.now c.in-UpTo.ensures.0) c.room-j.ensures c.set_onward-step.new.buf (stretch.UpTo c.in-UpTo-step.size c.in-UpTo-step.next) c.in-UpTo-step.ensures.0).1,
     )
