@@ -1,6 +1,7 @@
 -- `held` meets its contract, by whether the field is a list.
 -- Assumes nothing.
 use native.Mathlib.Omega.{arith}
+use borrow.Enum.Refused.{opened}
 use Rattle.picking.proofs.PickingLaws.{head_short, held_other, held_sublist}
 use Rattle.picking.proofs.held.Goals as goal
 
@@ -16,7 +17,7 @@ overflow_add-end c =
 
 pub returns-in_default : goal.returns-in_default
 returns-in_default c =
-    held_other c.args.s.now c.args.at c.requires.0 c.requires.1 c.field_head-head.ensures c.field_bytes.ensures c.in_default.in_default-own.keys2
+    held_other c.args.s.now c.args.at c.requires.0 c.requires.1 c.field_head-head.ensures c.field_bytes.ensures (opened c.in_default.in_default-own.keys2)
 
 pub overflow_add-result : goal.overflow_add-result
 overflow_add-result c =

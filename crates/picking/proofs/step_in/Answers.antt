@@ -30,40 +30,38 @@ pub look_at-sight-requires : goal.look_at-sight-requires
 look_at-sight-requires c =
     let along = c.loop-at.invariant in
     let more = c.loop-at-test.true in
-    let s = c.args.s.now in
     (rest_opens along.between more c.requires.1).0
 
 pub overflow_add-next : goal.overflow_add-next
 overflow_add-next c =
     let along = c.loop-at.invariant in
     let more = c.loop-at-test.true in
-    let s = c.args.s.now in
     omega (arith, (next_between along.between more c.look_at-sight.ensures).inside, c.requires.1)
 
 pub overflow_sub-place : goal.overflow_sub-place
-overflow_sub-place c = omega (arith, c.loop-at.inv.low)
+overflow_sub-place c = omega (arith, c.loop-at.invariant.low)
 
 pub slice_bounds-step_at-count : goal.slice_bounds-step_at-count
-slice_bounds-step_at-count c = omega (arith, c.loop-at.inv.between.inside)
+slice_bounds-step_at-count c = omega (arith, c.loop-at.invariant.between.inside)
 
 pub slice_bounds-step_at-start : goal.slice_bounds-step_at-start
-slice_bounds-step_at-start c = omega (arith, c.loop-at.inv.between.inside)
+slice_bounds-step_at-start c = omega (arith, c.loop-at.invariant.between.inside)
 
 pub slice_bounds-step_at-end : goal.slice_bounds-step_at-end
-slice_bounds-step_at-end c = omega (arith, c.loop-at.inv.between.inside)
+slice_bounds-step_at-end c = omega (arith, c.loop-at.invariant.between.inside)
 
 pub step_at-requires : goal.step_at-requires
 step_at-requires c =
-    let along = c.loop-at.inv in
-    let more = c.loop-at-test.taken in
+    let along = c.loop-at.invariant in
+    let more = c.loop-at-test.true in
     let s = c.args.s.now in
     let g = (rest_opens along.between more c.requires.1).0 in
     (g.0, g.1, g.2, rw (tail_part s c.loop-at.at) (here_inside along more c.look_at-sight.ensures c.if-place-next.true))
 
 pub behind-requires : goal.behind-requires
 behind-requires c =
-    let along = c.loop-at.inv in
-    let more = c.loop-at-test.taken in
+    let along = c.loop-at.invariant in
+    let more = c.loop-at-test.true in
     let s = c.args.s.now in
     let at = c.loop-at.at in
     short_step _ _ _ _ c.step_at.result c.step_at.ensures
@@ -71,8 +69,8 @@ behind-requires c =
 
 pub returns-then-place-next : goal.returns-then-place-next
 returns-then-place-next c =
-    let along = c.loop-at.inv in
-    let more = c.loop-at-test.taken in
+    let along = c.loop-at.invariant in
+    let more = c.loop-at-test.true in
     let s = c.args.s.now in
     let at = c.loop-at.at in
     let r = c.step_at.result in
@@ -84,16 +82,14 @@ returns-then-place-next c =
 
 pub loop-at-smaller : goal.loop-at-smaller
 loop-at-smaller c =
-    let along = c.loop-at.inv in
-    let more = c.loop-at-test.taken in
-    let s = c.args.s.now in
+    let along = c.loop-at.invariant in
+    let more = c.loop-at-test.true in
     omega (arith, next_some along.between more c.look_at-sight.ensures, (next_between along.between more c.look_at-sight.ensures).inside)
 
 pub loop-at-preserved : goal.loop-at-preserved
 loop-at-preserved c =
-    let along = c.loop-at.inv in
-    let more = c.loop-at-test.taken in
-    let s = c.args.s.now in
+    let along = c.loop-at.invariant in
+    let more = c.loop-at-test.true in
     along_next along more c.look_at-sight.ensures c.if-place-next.false
 
 pub returns : goal.returns

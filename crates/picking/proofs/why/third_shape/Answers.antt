@@ -1,10 +1,10 @@
 -- `third_shape` meets its contract, by whether there is a third field.
 -- Assumes nothing.
-use mathlib.Core.Path.{refl, sym, subst, ◌∙◌}
-use mathlib.Core.Bool.{Bool}
-use Rattle.font.specs.Font.{font_with}
+use Rattle.std.proofs.Common.{◌≡◌, ℕ, List, Bool, true, false, refl, sym, subst, ◌∙◌}
+use Rattle.font.specs.Font.{Font, font_with}
 use Rattle.formula.specs.Places.{third_in}
 use Rattle.formula.specs.PlacesLaws.{third_good}
+use Rattle.boxes.specs.declared.styles.Style.{Style}
 use Rattle.boxes.specs.declared.Shape.{Shape}
 use Rattle.boxes.specs.declared.Shape.TheVariants.{Nothing}
 use Rattle.arrange.specs.declared.Manner.TheVariants.{Plain}
@@ -14,10 +14,15 @@ use Rattle.picking.specs.Picking.{ShapeDone}
 use Rattle.picking.proofs.why.third_shape.Goals as goal
 
 -- the shape of the third field, if there is one
-abbrev ThirdShape : tie.Start → Bool → Shape → Type 0
-ThirdShape c has shape =
-    let a = c.args in
-    ShapeDone (font_with a.table.now a.client.now) (third_style a.style) Plain a.at (third_in a.s.now has a.at) shape
+module _ (F : Font) (style : Style) (s : List ℕ) (at : ℕ) {has : Bool} {shape : Shape} where
+  there_is : has ≡ true → ShapeDone F (third_style style) Plain at (third_in s true at) shape → ShapeDone F (third_style style) Plain at (third_in s has at) shape
+  there_is e d = subst (λ (t : Bool). ShapeDone F (third_style style) Plain at (third_in s t at) shape) (sym e) d
+
+  none_there : has ≡ false → shape ≡ Nothing → ShapeDone F (third_style style) Plain at (third_in s has at) shape
+  unfolding set_field
+  none_there e is =
+      subst (λ (t : Bool). ShapeDone F (third_style style) Plain at (third_in s t at) shape) (sym e)
+      (rw is (record { moderate = tt; is = λ there fits. refl }))
 
 pub shape_of-requires-then-has_third : goal.shape_of-requires-then-has_third
 shape_of-requires-then-has_third c =
@@ -33,13 +38,11 @@ shape_of-requires-then-has_third c =
 
 pub returns-then-has_third : goal.returns-then-has_third
 returns-then-has_third c =
-    let has = sym c.has_third.ensures ∙ c.if-has_third.true in
-    subst (λ (t : Bool). ThirdShape c.before t c.shape_of.result) (sym has)
+    let a = c.args in
+    there_is (font_with a.table.now a.client.now) a.style a.s.now a.at (sym c.has_third.ensures ∙ c.if-has_third.true)
     (rw c.third_style.ensures at c.shape_of.ensures)
 
 pub returns : goal.returns
-unfolding set_field
 returns c =
-    let none = sym c.has_third.ensures ∙ c.if-has_third.false in
-    subst (λ (t : Bool). ThirdShape c.before t Nothing) (sym none)
-    (record { moderate = tt; is = λ there fits. refl })
+    let a = c.args in
+    none_there (font_with a.table.now a.client.now) a.style a.s.now a.at (sym c.has_third.ensures ∙ c.if-has_third.false) refl

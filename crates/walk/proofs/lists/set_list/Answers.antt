@@ -13,5 +13,5 @@ pub returns : goal.returns
 returns c =
     let a = c.args in
     let s = a.s.now in
-    list_of_items (font_with a.table.now a.client.now) (tree_of s) (length s) a.buf.now c.set_items.new.1.1.1.1.1.1.1.1.0 c.set_items.result
+    list_of_items (font_with a.table.now a.client.now) (tree_of s) (length s) a.buf.now c.set_items.new.buf c.set_items.result
     c.start.ensures c.set_items.ensures
