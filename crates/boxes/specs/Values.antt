@@ -3,6 +3,7 @@
 use Rattle.std.specs.Prelude.{List, [], ◌∷◌, ◌++◌, ℕ, get_or}
 use Rattle.std.proofs.Math.Option.{Option, none, some}
 use Rattle.font.specs.Values.{metrics_as}
+pub use Rattle.font.specs.Values.{parameters_in}
 use Rattle.boxes.specs.declared.styles.Style.{Style}
 use Rattle.boxes.specs.declared.styles.Numbered.{Numbered}
 use Rattle.boxes.specs.declared.styles.Numbered.TheVariants.{Styled, Unstyled}
@@ -22,13 +23,8 @@ use Rattle.boxes.specs.declared.Signing.TheVariants.{Unsigned, Signed}
 use Rattle.boxes.specs.declared.Owned.{Owned}
 use Rattle.boxes.specs.declared.Own.{Own}
 use Rattle.boxes.specs.declared.Arranged.{Arranged}
-use Rattle.boxes.specs.Parameters.{Parameters}
 use Rattle.boxes.specs.Boxes.{nothing, char, box, OwnNode, ruled, signed}
 use Rattle.boxes.specs.Boxes.{Size as SizeOf, Shape as ShapeOf, Offset as OffsetOf, Shifts as ShiftsOf, Rule as RuleOf, Glyph as GlyphOf, Own as OwnOf, Arranged as ArrangedOf}
-
--- three rows of thirty-five words, read by size and number
-unfoldable pub parameters_in : List (List ℕ) → Parameters
-parameters_in p size number = get_or (get_or p size []) number 0
 
 abbrev pub numbered_as : Numbered → Option Style
 numbered_as (Styled s) = some s

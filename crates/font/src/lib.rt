@@ -10,28 +10,14 @@ ghost use Rattle.font.specs.Records.{size_count, header_bytes, character_bytes};
 ghost use Rattle.font.specs.Font.{metrics_of, successor_of};
 ghost use Rattle.font.specs.Values.{metrics_as, successor_as, HoldsRow, HoldsParameters};
 
-// The code of the next larger symbol of the same family, if there is one.
-#[derive(Clone, Copy)]
-pub enum Successor {
-    Nothing,
-    Code(u8),
-}
-
-// What a table says of a symbol.
+// What a table says of a symbol. Its successor, if it has one, is the next larger symbol of the same family.
 #[derive(Clone, Copy)]
 pub struct Metrics {
     pub width: u32,
     pub height: u32,
     pub depth: u32,
     pub italic: u32,
-    pub successor: Successor,
-}
-
-// What a lookup comes to.
-#[derive(Clone, Copy)]
-pub enum Found {
-    Symbol(Metrics),
-    Absent,
+    pub successor: Option<u8>,
 }
 
 // Steps of a chain, each to a symbol's successor.
@@ -78,13 +64,13 @@ pub fn metrics_of(r: &[u8]) -> Metrics
 }
 
 // The successor of a record's symbol, if its flag is set.
-fn successor_of(r: &[u8]) -> Successor
+fn successor_of(r: &[u8]) -> Option<u8>
     requires { character_bytes ≤ length r.now }
     ensures { successor_as result ≡ successor_of r.now }
 {
     if r[format::FLAG] == 1 {
-        Successor::Code(r[format::SUCCESSOR])
+        Some(r[format::SUCCESSOR])
     } else {
-        Successor::Nothing
+        None
     }
 }

@@ -1,15 +1,17 @@
-// The index of CH records (specs/Index.antt): a symbol's record by it, and the symbol.
+// The font that our table and a client's hold, asked by size, family and code. A symbol is found by the index of its table's CH records
+// (specs/Index.antt).
 
 #![tactic(auto)]
 
 ghost use Rattle.std.specs.Prelude.{◌≡◌, ◌+◌, ◌*◌, ◌≤◌, ◌<◌, length};
 ghost use Rattle.font.specs.Records.{most_characters, greatest_size, greatest_family, client_records};
-ghost use Rattle.font.specs.Font.{font_with, record_in, record_of, place_in, place_of, past};
+ghost use Rattle.font.specs.Font.{font_in, record_in, record_of, place_in, place_of, past};
 ghost use Rattle.font.specs.Table.{SoundRecords};
-ghost use Rattle.font.specs.Values.{found_as};
+ghost use Rattle.font.specs.Values.{found_as, parameters_in};
 ghost use Rattle.font_index.specs.Index.{family_count, codes_in_word, bit_words, group_words, index_words, Indexes, Indexed, group_word, ones_below, present_by, number_by};
 
-use font::{Found, format, metrics_of};
+use font::{Metrics, format, metrics_of};
+use std::marker::Model;
 
 // For each size and family words of bits, one for each code, and a start.
 const FAMILY_COUNT: usize = 16;
@@ -25,24 +27,59 @@ pub const GROUP_WORDS: usize = BIT_WORDS + 1;
 // How many words an index takes.
 pub const INDEX_WORDS: usize = GROUP_WORDS * GROUP_COUNT;
 
-// The symbol of a size, family and code.
-pub fn symbol<'a>(
+// A font: our table, a client's whose symbols come before ours, the index of each, and our parameters.
+#[derive(Drop)]
+pub struct Font<'a> {
     table: &'a [u8],
     client: &'a [u8],
-    index: &[u64],
-    client_index: &[u64],
-    size: u8,
-    family: u8,
-    code: u8,
-) -> Found
-    requires { Indexed table.now client.now index.now client_index.now }
-    ensures { found_as result ≡ (font_with table.now client.now).symbol size family code }
-{
-    let r = record_of(table, client, index, client_index, size, family, code);
-    if r.len() < format::CHARACTER_BYTES {
-        return Found::Absent;
+    index: &'a [u64],
+    client_index: &'a [u64],
+    parameters: [[u32; 35]; 3],
+}
+
+// What a contract sees of a font is its two tables.
+impl<'a> Model for Font<'a> {
+    ghost use Rattle.font.specs.Font.{Tables};
+    ghost use Rattle.font_index.specs.Index.{Held};
+
+    ghost Value = { Tables };
+
+    ghost view = { λ f. record { ours = f.table.now; client = f.client.now } };
+
+    ghost invariant = { λ f. Held f.table.now f.client.now f.index.now f.client_index.now f.parameters };
+}
+
+impl<'a> Font<'a> {
+    // The font of tables that have been indexed.
+    pub fn new(table: &'a [u8], client: &'a [u8], index: &'a [u64], client_index: &'a [u64]) -> Font<'a>
+        requires { Indexed table.now client.now index.now client_index.now }
+        ensures { result ≡ record { ours = table.now; client = client.now } }
+    {
+        Font {
+            table,
+            client,
+            index,
+            client_index,
+            parameters: font::parameters(table),
+        }
     }
-    Found::Symbol(metrics_of(r))
+
+    // The symbol of a size, family and code.
+    pub fn symbol(&self, size: u8, family: u8, code: u8) -> Option<Metrics>
+        ensures { found_as result ≡ (font_in self.now).symbol size family code }
+    {
+        let r = record_of(self.table, self.client, self.index, self.client_index, size, family, code);
+        if r.len() < format::CHARACTER_BYTES {
+            return None;
+        }
+        Some(metrics_of(r))
+    }
+
+    pub fn parameters(&self) -> &[[u32; 35]; 3]
+        ensures { parameters_in result.now ≡ (font_in self.now).parameter }
+    {
+        &self.parameters
+    }
 }
 
 // The record of a symbol by the indexes, as a part of the client's table or else of ours, or an empty part.

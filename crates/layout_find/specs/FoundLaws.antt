@@ -9,7 +9,7 @@ use Rattle.font.specs.Values.{HoldsParameters}
 use Rattle.formula.specs.Places.{tree_of}
 use Rattle.boxes.specs.declared.styles.Style.{Style}
 use Rattle.boxes.specs.declared.Size.{Size}
-use Rattle.boxes.specs.ValueLaws.{taken_out}
+use Rattle.font.specs.ValueLaws.{taken_out}
 use Rattle.setting.specs.Setting.{no_sides, set_list}
 use Rattle.answers.specs.Lent.{Lent}
 use Rattle.answers.specs.Answers.{boxed, result_of}

@@ -3,8 +3,7 @@
 use Rattle.std.specs.Prelude.{List, ◌≡◌, ℕ}
 use Rattle.std.proofs.Math.Path.{fun_ext}
 use Rattle.font.specs.Font.{font_of}
-use Rattle.font.specs.Values.{HoldsParameters}
-use Rattle.boxes.specs.Values.{parameters_in}
+use Rattle.font.specs.Values.{HoldsParameters, parameters_in}
 
 pub taken_out : (t : List ℕ) (p : List (List ℕ)) → HoldsParameters p t → parameters_in p ≡ (font_of t).parameter
 unfolding parameters_in
