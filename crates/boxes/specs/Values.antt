@@ -1,34 +1,27 @@
 -- What the values of the code stand for in the definitions: each struct and enum is read by a function of its own.
 -- Assumes nothing.
-use Rattle.std.specs.Prelude.{List, [], ◌∷◌, ◌++◌, ℕ, get_or}
-use Rattle.std.proofs.Math.Option.{Option, none, some}
+use Rattle.std.specs.Prelude.{List, [], ◌∷◌, ◌++◌, Option, Some, None}
+use Rattle.std.proofs.Math.Option.{none, some}
+use Rattle.std.proofs.Math.Option.{Option as OptionOf}
 use Rattle.font.specs.Values.{metrics_as}
-pub use Rattle.font.specs.Values.{parameters_in}
+unfoldable pub use Rattle.font.specs.Values.{parameters_in}
 use Rattle.boxes.specs.declared.styles.Style.{Style}
-use Rattle.boxes.specs.declared.styles.Numbered.{Numbered}
-use Rattle.boxes.specs.declared.styles.Numbered.TheVariants.{Styled, Unstyled}
 use Rattle.boxes.specs.declared.Size.{Size}
 use Rattle.boxes.specs.declared.Shape.{Shape}
 use Rattle.boxes.specs.declared.Shape.TheVariants.{Nothing, Char, Box}
-use Rattle.boxes.specs.declared.Script.{Script}
-use Rattle.boxes.specs.declared.Script.TheVariants.{Absent, Given}
 use Rattle.boxes.specs.declared.Offset.{Offset}
 use Rattle.boxes.specs.declared.Shifts.{Shifts}
 use Rattle.boxes.specs.declared.Rule.{Rule}
-use Rattle.boxes.specs.declared.Ruling.{Ruling}
-use Rattle.boxes.specs.declared.Ruling.TheVariants.{Unruled, Ruled}
 use Rattle.boxes.specs.declared.Glyph.{Glyph}
-use Rattle.boxes.specs.declared.Signing.{Signing}
-use Rattle.boxes.specs.declared.Signing.TheVariants.{Unsigned, Signed}
 use Rattle.boxes.specs.declared.Owned.{Owned}
 use Rattle.boxes.specs.declared.Own.{Own}
 use Rattle.boxes.specs.declared.Arranged.{Arranged}
 use Rattle.boxes.specs.Boxes.{nothing, char, box, OwnNode, ruled, signed}
 use Rattle.boxes.specs.Boxes.{Size as SizeOf, Shape as ShapeOf, Offset as OffsetOf, Shifts as ShiftsOf, Rule as RuleOf, Glyph as GlyphOf, Own as OwnOf, Arranged as ArrangedOf}
 
-abbrev pub numbered_as : Numbered → Option Style
-numbered_as (Styled s) = some s
-numbered_as Unstyled = none
+abbrev pub numbered_as : Option Style → OptionOf Style
+numbered_as None = none
+numbered_as (Some s) = some s
 
 abbrev pub size_as : Size → SizeOf
 size_as z = record { width = z.width.0; height = z.height.0; depth = z.depth.0 }
@@ -38,9 +31,9 @@ shape_as Nothing = nothing
 shape_as (Char m) = char (metrics_as m)
 shape_as (Box z) = box (size_as z)
 
-abbrev pub script_as : Script → Option SizeOf
-script_as Absent = none
-script_as (Given z) = some (size_as z)
+abbrev pub script_as : Option Size → OptionOf SizeOf
+script_as None = none
+script_as (Some z) = some (size_as z)
 
 abbrev pub offset_as : Offset → OffsetOf
 offset_as p = record { across = p.across.0; up = p.up.0 }
@@ -51,16 +44,16 @@ shifts_as t = record { up = t.up.0; down = t.down.0 }
 abbrev pub rule_as : Rule → RuleOf
 rule_as r = record { corner = offset_as r.corner; width = r.width.0; thickness = r.thickness.0 }
 
-abbrev pub ruling_as : Ruling → List OwnNode
-ruling_as Unruled = []
-ruling_as (Ruled r) = ruled (rule_as r) ∷ []
+abbrev pub ruling_as : Option Rule → List OwnNode
+ruling_as None = []
+ruling_as (Some r) = ruled (rule_as r) ∷ []
 
 abbrev pub glyph_as : Glyph → GlyphOf
 glyph_as g = record { place = offset_as g.place; size = g.size; family = g.family; code = g.code }
 
-abbrev pub signing_as : Signing → List OwnNode
-signing_as Unsigned = []
-signing_as (Signed g) = signed (glyph_as g) ∷ []
+abbrev pub signing_as : Option Glyph → List OwnNode
+signing_as None = []
+signing_as (Some g) = signed (glyph_as g) ∷ []
 
 -- a sign stands before a rule
 abbrev pub owned_as : Owned → List OwnNode

@@ -31,13 +31,6 @@ pub enum Shape {
     Box(Size),
 }
 
-// A superscript or a subscript, if there is one.
-#[derive(Clone, Copy)]
-pub enum Script {
-    Absent,
-    Given(Size),
-}
-
 // Across to the right and up, from the item's reference point.
 #[derive(Clone, Copy)]
 pub struct Offset {
@@ -69,25 +62,11 @@ pub struct Glyph {
     pub code: u8,
 }
 
-// A line or a bar, if there is one.
-#[derive(Clone, Copy)]
-pub enum Ruling {
-    Unruled,
-    Ruled(Rule),
-}
-
-// A delimiter's symbol, if there is one.
-#[derive(Clone, Copy)]
-pub enum Signing {
-    Unsigned,
-    Signed(Glyph),
-}
-
 // Own nodes that stand together: a sign, and behind it a rule.
 #[derive(Clone, Copy)]
 pub struct Owned {
-    pub sign: Signing,
-    pub ruling: Ruling,
+    pub sign: Option<Glyph>,
+    pub ruling: Option<Rule>,
 }
 
 // An item's own nodes: before its first field, and behind it.
@@ -117,14 +96,14 @@ pub fn size_of(x: Shape) -> Size
     }
 }
 
-// A script that is there.
-pub fn given(x: Shape) -> Script
+// A superscript or a subscript, if there is one.
+pub fn given(x: Shape) -> Option<Size>
     ensures { (script_as result ≡ boxes.given (shape_as x)) × (ModerateShape x → ModerateScript result) }
 {
     match x {
-        Shape::Nothing => Script::Absent,
-        Shape::Char(m) => Script::Given(char_size(m)),
-        Shape::Box(z) => Script::Given(z),
+        Shape::Nothing => None,
+        Shape::Char(m) => Some(char_size(m)),
+        Shape::Box(z) => Some(z),
     }
 }
 
@@ -173,8 +152,8 @@ pub fn origin() -> Offset
 }
 
 const NONE_OWNED: Owned = Owned {
-    sign: Signing::Unsigned,
-    ruling: Ruling::Unruled,
+    sign: None,
+    ruling: None,
 };
 
 pub fn no_own() -> Own
@@ -191,8 +170,8 @@ pub fn ruled_behind(rule: Rule) -> Own
     ensures { (own_as result ≡ boxes.ruled_behind (rule_as rule)) × OwnWithin item_words result }
 {
     let behind = Owned {
-        sign: Signing::Unsigned,
-        ruling: Ruling::Ruled(rule),
+        sign: None,
+        ruling: Some(rule),
     };
     Own {
         before: NONE_OWNED,
@@ -201,13 +180,13 @@ pub fn ruled_behind(rule: Rule) -> Own
 }
 
 // A delimiter's symbol, if there is one, and a rule.
-pub fn signed_before(sign: Signing, rule: Rule) -> Own
+pub fn signed_before(sign: Option<Glyph>, rule: Rule) -> Own
     requires { SigningWithin item_words sign × RuleWithin item_words rule }
     ensures { (own_as result ≡ boxes.signed_before (signing_as sign) (rule_as rule)) × OwnWithin item_words result }
 {
     let before = Owned {
         sign,
-        ruling: Ruling::Ruled(rule),
+        ruling: Some(rule),
     };
     Own {
         before,
@@ -216,17 +195,17 @@ pub fn signed_before(sign: Signing, rule: Rule) -> Own
 }
 
 // A delimiter's symbol on either side, if there is one.
-pub fn signed_around(left: Signing, right: Signing) -> Own
+pub fn signed_around(left: Option<Glyph>, right: Option<Glyph>) -> Own
     requires { SigningWithin item_words left × SigningWithin item_words right }
     ensures { (own_as result ≡ boxes.signed_around (signing_as left) (signing_as right)) × OwnWithin item_words result }
 {
     let before = Owned {
         sign: left,
-        ruling: Ruling::Unruled,
+        ruling: None,
     };
     let behind = Owned {
         sign: right,
-        ruling: Ruling::Unruled,
+        ruling: None,
     };
     Own { before, behind }
 }

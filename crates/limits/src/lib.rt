@@ -19,7 +19,7 @@ use boxes::parameters::{
     Parameters, parameter,
 };
 use boxes::styles::{Style, is_display};
-use boxes::{Arranged, Offset, Script, Size, centred};
+use boxes::{Arranged, Offset, Size, centred};
 use formula::{Class, Limits};
 use formula_kinds::is_op;
 use nucleus::Nucleus;
@@ -50,8 +50,8 @@ pub fn limited(
     p: &Parameters,
     size: usize,
     n: Nucleus,
-    superscript: Script,
-    subscript: Script,
+    superscript: Option<Size>,
+    subscript: Option<Size>,
 ) -> Arranged
     requires { (size < 3) × ModerateNucleus n × ModerateScript superscript × ModerateScript subscript }
     ensures { (arranged_as result ≡ rule.limited (parameters_in p.now) size (nucleus_as n) (script_as superscript) (script_as subscript)) × Bounded result }
@@ -118,33 +118,33 @@ fn stacked(n: Nucleus, width: Sp, over: Side, under: Side) -> Arranged
     }
 }
 
-fn widest(w: Sp, superscript: Script, subscript: Script) -> Sp
+fn widest(w: Sp, superscript: Option<Size>, subscript: Option<Size>) -> Sp
     ensures { (result.0 ≡ rule.widest w.0 (script_as superscript) (script_as subscript)) × (Within (words 6) w.0 × ModerateScript superscript × ModerateScript subscript → Within (words 6) result.0) }
 {
     w.max(width_of(superscript)).max(width_of(subscript))
 }
 
 // An empty script is 0 wide.
-fn width_of(script: Script) -> Sp
+fn width_of(script: Option<Size>) -> Sp
     ensures { (result.0 ≡ width_of (script_as script)) × (ModerateScript script → Within (words 2) result.0) }
 {
     match script {
-        Script::Absent => Sp(0),
-        Script::Given(z) => z.width,
+        None => Sp(0),
+        Some(z) => z.width,
     }
 }
 
 // A script upside down: below an operator all is as above, upside down.
-fn turned(script: Script) -> Script
+fn turned(script: Option<Size>) -> Option<Size>
     ensures { (script_as result ≡ rule.turned (script_as script)) × (ModerateScript script → ModerateScript result) }
 {
     match script {
-        Script::Absent => Script::Absent,
-        Script::Given(z) => {
+        None => None,
+        Some(z) => {
             let width = z.width;
             let height = z.depth;
             let depth = z.height;
-            Script::Given(Size {
+            Some(Size {
                 width,
                 height,
                 depth,
@@ -170,18 +170,18 @@ fn one_side(
     edge: Sp,
     w: Sp,
     right: Sp,
-    script: Script,
+    script: Option<Size>,
 ) -> Side
     requires { (size < 3) × (gap < 35) × (distance < 35) × Within (words 7) edge.0 × Within (words 6) w.0 × Within (words 2) right.0 × ModerateScript script }
     ensures { (side_as result ≡ rule.side (pos (parameters_in p.now size gap)) (pos (parameters_in p.now size distance)) (big_op_spacing5 (parameters_in p.now) size) edge.0 w.0 right.0 (script_as script)) × SideWithin 12 result }
 {
     match script {
-        Script::Absent => Side {
+        None => Side {
             reach: edge,
             across: Sp(0),
             shift: Sp(0),
         },
-        Script::Given(z) => {
+        Some(z) => {
             let l = limit(p, size, gap, distance, edge, z.depth, z.height);
             let reach = l.reach;
             let shift = l.shift;

@@ -33,13 +33,6 @@ pub struct Reasons {
     pub down: ShiftReason,
 }
 
-// Of an item, where it has such shifts.
-#[derive(Clone, Copy)]
-pub enum ItemReasons {
-    Nothing,
-    By(Reasons),
-}
-
 // A shift that is not there.
 pub fn unshifted() -> ShiftReason
     ensures { shift_reason_as result ≡ rule.unshifted }

@@ -13,7 +13,7 @@ ghost use Rattle.nucleus.specs.Bounds.{ModerateNucleus};
 
 use boxes::parameters::Parameters;
 use boxes::styles::Style;
-use boxes::{Arranged, Offset, Script, Size, origin};
+use boxes::{Arranged, Offset, Size, origin};
 use nucleus::Nucleus;
 use scaled::Sp;
 use script_shifts::{pair_shifts, subscript_candidates, superscript_candidates};
@@ -26,20 +26,20 @@ pub fn scripted(
     p: &Parameters,
     style: Style,
     n: Nucleus,
-    superscript: Script,
-    subscript: Script,
+    superscript: Option<Size>,
+    subscript: Option<Size>,
 ) -> Arranged
     requires { ModerateNucleus n × ModerateScript superscript × ModerateScript subscript }
     ensures { (arranged_as result ≡ rule.scripted (parameters_in p.now) style (nucleus_as n) (script_as superscript) (script_as subscript)) × Bounded result }
 {
     match superscript {
-        Script::Absent => match subscript {
-            Script::Absent => without_scripts(n),
-            Script::Given(y) => with_subscript(p, style, n, y),
+        None => match subscript {
+            None => without_scripts(n),
+            Some(y) => with_subscript(p, style, n, y),
         },
-        Script::Given(x) => match subscript {
-            Script::Absent => with_superscript(p, style, n, x),
-            Script::Given(y) => with_pair(p, style, n, x, y),
+        Some(x) => match subscript {
+            None => with_superscript(p, style, n, x),
+            Some(y) => with_pair(p, style, n, x, y),
         },
     }
 }

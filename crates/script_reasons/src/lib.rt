@@ -16,9 +16,9 @@ ghost use Rattle.nucleus.specs.Bounds.{ModerateNucleus};
 
 use boxes::parameters::Parameters;
 use boxes::styles::{Style, font_size};
-use boxes::{Script, Shifts, Size};
+use boxes::{Shifts, Size};
 use nucleus::Nucleus;
-use reasons::{ItemReasons, Reason, Reasons, ShiftReason, corrected, unshifted};
+use reasons::{Reason, Reasons, ShiftReason, corrected, unshifted};
 use scaled::Sp;
 use script_shifts::{
     four_rules, gap, gap_down, pair_candidates, pair_shifts, subscript_candidates,
@@ -30,26 +30,26 @@ pub fn script_reasons(
     p: &Parameters,
     style: Style,
     n: Nucleus,
-    superscript: Script,
-    subscript: Script,
-) -> ItemReasons
+    superscript: Option<Size>,
+    subscript: Option<Size>,
+) -> Option<Reasons>
     requires { ModerateNucleus n × ModerateScript superscript × ModerateScript subscript }
     ensures { item_reasons_as result ≡ rule.script_reasons (parameters_in p.now) style (nucleus_as n) (script_as superscript) (script_as subscript) }
 {
     match superscript {
-        Script::Absent => match subscript {
-            Script::Absent => ItemReasons::Nothing,
-            Script::Given(y) => ItemReasons::By(Reasons {
+        None => match subscript {
+            None => None,
+            Some(y) => Some(Reasons {
                 up: unshifted(),
                 down: chosen(subscript_candidates(p, style, n, y)),
             }),
         },
-        Script::Given(x) => match subscript {
-            Script::Absent => ItemReasons::By(Reasons {
+        Some(x) => match subscript {
+            None => Some(Reasons {
                 up: chosen(superscript_candidates(p, style, n, x)),
                 down: unshifted(),
             }),
-            Script::Given(y) => ItemReasons::By(pair_reasons(p, style, n, x, y)),
+            Some(y) => Some(pair_reasons(p, style, n, x, y)),
         },
     }
 }

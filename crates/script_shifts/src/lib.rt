@@ -20,7 +20,7 @@ use boxes::styles::{Style, font_size, is_display};
 use boxes::{Shifts, Size};
 use nucleus::Nucleus;
 use scaled::Sp;
-use scripts::{Candidates, Free, drops, greatest, lifted};
+use scripts::{Candidates, drops, greatest, lifted};
 
 // 18b: a subscript y alone.
 pub fn subscript_candidates(p: &Parameters, style: Style, n: Nucleus, y: Size) -> Candidates
@@ -32,7 +32,7 @@ pub fn subscript_candidates(p: &Parameters, style: Style, n: Nucleus, y: Size) -
     Candidates {
         dropped,
         least: parameter(p, size, SUB1),
-        free: Free::Asked(y.height.minus(four_fifths_x_height(p, size))),
+        free: Some(y.height.minus(four_fifths_x_height(p, size))),
     }
 }
 
@@ -45,7 +45,7 @@ pub fn superscript_candidates(p: &Parameters, style: Style, n: Nucleus, x: Size)
     Candidates {
         dropped,
         least: least_up(p, style),
-        free: Free::Asked(x.depth.plus(quarter_x_height(p, font_size(style)))),
+        free: Some(x.depth.plus(quarter_x_height(p, font_size(style)))),
     }
 }
 
@@ -72,7 +72,7 @@ pub fn pair_candidates(p: &Parameters, style: Style, n: Nucleus) -> Candidates
     Candidates {
         dropped,
         least: parameter(p, font_size(style), SUB2),
-        free: Free::Unasked,
+        free: None,
     }
 }
 

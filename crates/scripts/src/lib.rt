@@ -44,14 +44,8 @@ pub struct Candidates {
     pub dropped: Sp,
     // The font's least shift.
     pub least: Sp,
-    pub free: Free,
-}
-
-// What keeps the script's other edge free, where a rule asks for that.
-#[derive(Clone, Copy)]
-pub enum Free {
-    Unasked,
-    Asked(Sp),
+    // What keeps the script's other edge free, where a rule asks for that.
+    pub free: Option<Sp>,
 }
 
 pub fn greatest(c: Candidates) -> Sp
@@ -60,8 +54,8 @@ pub fn greatest(c: Candidates) -> Sp
     let shift = c.dropped.max(c.least);
     let free = c.free;
     match free {
-        Free::Unasked => shift,
-        Free::Asked(edge) => shift.max(edge),
+        None => shift,
+        Some(edge) => shift.max(edge),
     }
 }
 

@@ -12,7 +12,6 @@ ghost use Rattle.spacing.specs.Spacing.{chart, space_before};
 ghost use Rattle.boxes.specs.Values.{parameters_in};
 ghost use Rattle.spacing.specs.Values.{neighbour_as, Digits};
 
-use crate::classes::Neighbour;
 use boxes::parameters::{Parameters, QUAD, parameter};
 use boxes::styles::{Style, font_size, is_large};
 use formula::Class;
@@ -32,12 +31,12 @@ const CHART: [[u8; 8]; 8] = [
 ];
 
 // The space before an atom of class right, none before the first.
-pub fn space_before(p: &Parameters, style: Style, left: Neighbour, right: Class) -> Sp
+pub fn space_before(p: &Parameters, style: Style, left: Option<Class>, right: Class) -> Sp
     ensures { (result.0 ≡ space_before (parameters_in p.now) style (neighbour_as left) right) × Within (2 ^ 32) result.0 }
 {
     match left {
-        Neighbour::End => Sp(0),
-        Neighbour::Atom(class) => {
+        None => Sp(0),
+        Some(class) => {
             let quad = parameter(p, font_size(style), QUAD);
             Mu(units(is_large(style), class, right) as i64).at(quad)
         }

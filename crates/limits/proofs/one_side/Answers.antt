@@ -9,24 +9,24 @@ use Rattle.limits.proofs.one_side.Goals as goal
 pub limit-l-requires : goal.limit-l-requires
 limit-l-requires c =
     let pre = c.requires in
-    let z = rw c.in-Given.is at pre.6 in
+    let z = rw c.in-Some.is at pre.6 in
     (pre.0, pre.1, pre.2, pre.3, z.depth, z.height)
 
 pub centred-requires : goal.centred-requires
 centred-requires c =
     let pre = c.requires in
-    let z = rw c.in-Given.is at pre.6 in
+    let z = rw c.in-Some.is at pre.6 in
     (pre.4, omega (arith, z.width))
 
-pub returns-in-Absent : goal.returns-in-Absent
-returns-in-Absent c =
+pub returns-in-None : goal.returns-in-None
+returns-in-None c =
     let pre = c.requires in
-    (rw c.in-Absent.is refl, search rules)
+    (rw c.in-None.is refl, search rules)
 
-pub returns-in-Given : goal.returns-in-Given
-returns-in-Given c =
+pub returns-in-Some : goal.returns-in-Some
+returns-in-Some c =
     let shift = ap (λ (l : Limit). l.shift) c.limit-l.ensures.0 in
     let reach = ap (λ (l : Limit). l.reach) c.limit-l.ensures.0 in (
-      rw (c.in-Given.is, shift, reach, c.plus.ensures.is, c.centred.ensures.0),
+      rw (c.in-Some.is, shift, reach, c.plus.ensures.is, c.centred.ensures.0),
       omega (arith, c.plus.ensures.parts, c.centred.ensures.1, c.limit-l.ensures.1, c.requires.5),
     )

@@ -4,15 +4,15 @@ use native.Mathlib.Omega.{arith}
 use Rattle.scripts.specs.Scripts.{greatest}
 use Rattle.scripts.proofs.greatest.Goals as goal
 
-pub returns-in-Unasked : goal.returns-in-Unasked
+pub returns-in-None : goal.returns-in-None
 unfolding greatest
-returns-in-Unasked c =
-    (rw (c.in-Unasked.is, c.max-shift.ensures.is), λ within. omega (arith, c.max-shift.ensures.parts, within.dropped, within.least))
+returns-in-None c =
+    (rw (c.in-None.is, c.max-shift.ensures.is), λ within. omega (arith, c.max-shift.ensures.parts, within.dropped, within.least))
 
-pub returns-in-Asked : goal.returns-in-Asked
+pub returns-in-Some : goal.returns-in-Some
 unfolding greatest
-returns-in-Asked c =
-    let known = c.in-Asked.is in (
+returns-in-Some c =
+    let known = c.in-Some.is in (
       rw (known, c.max.ensures.is, c.max-shift.ensures.is),
       λ within. omega (arith, c.max.ensures.parts, c.max-shift.ensures.parts, within.dropped, within.least, rw known at within.free),
     )

@@ -15,13 +15,13 @@ at-requires c =
     let units : to_z w64 c.units.result ≡ pos c.units.result = to_z_pos w64 c.units.result (omega arith) in
     (rw units (omega arith), omega arith)
 
-pub returns-in-End : goal.returns-in-End
+pub returns-in-None : goal.returns-in-None
 unfolding space_before
-returns-in-End c = search rules
+returns-in-None c = search rules
 
-pub returns-in-Atom : goal.returns-in-Atom
+pub returns-in-Some : goal.returns-in-Some
 unfolding space_before
-returns-in-Atom c =
-    let known = c.in-Atom.is in
+returns-in-Some c =
+    let known = c.in-Some.is in
     let units : to_z w64 c.units.result ≡ pos c.units.result = to_z_pos w64 c.units.result (omega arith) in
     (rw (known, c.at.ensures.at.is, units, c.units.ensures.0, c.is_large.ensures, c.parameter-quad.ensures.0.is, c.font_size.ensures.0), omega arith)
