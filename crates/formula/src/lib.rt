@@ -84,7 +84,7 @@ pub const GREATEST_SHORT: usize = 65_535;
 pub const SHORT_OPENING_BYTES: usize = 3;
 
 // The class of an atom, by which it is spaced.
-#[derive(Clone, Copy)]
+#[derive(Clone, Copy, PartialEq, Eq)]
 pub enum Class {
     Ord,
     Op,
@@ -96,8 +96,20 @@ pub enum Class {
     Inner,
 }
 
+// A class by its number.
+impl From<Class> for u8 {
+    ghost use Rattle.std.specs.Prelude.{◌≡◌};
+    ghost use Rattle.formula.specs.Heads.{class_number};
+
+    ghost from_gives = { λ class n. n ≡ class_number class };
+
+    fn from(class: Class) -> u8 {
+        class as u8
+    }
+}
+
 // Where the scripts of a large operator stand as limits.
-#[derive(Clone, Copy)]
+#[derive(Clone, Copy, PartialEq, Eq)]
 pub enum Limits {
     DisplayOnly,
     Always,
@@ -105,28 +117,28 @@ pub enum Limits {
 }
 
 // The bar of a fraction: of the default thickness, or none.
-#[derive(Clone, Copy)]
+#[derive(Clone, Copy, PartialEq, Eq)]
 pub enum Bar {
     Default,
     Without,
 }
 
 // The family and the code of a symbol of a delimiter; zero and zero where there is none.
-#[derive(Clone, Copy)]
+#[derive(Clone, Copy, PartialEq, Eq)]
 pub struct Pair {
     pub family: u8,
     pub code: u8,
 }
 
 // A variable delimiter: where its small symbol does not suffice, its large one is tried.
-#[derive(Clone, Copy)]
+#[derive(Clone, Copy, PartialEq, Eq)]
 pub struct Delimiter {
     pub small: Pair,
     pub large: Pair,
 }
 
 // What the scripts of an item are set to. A root has its sign, a fence its left delimiter and its right one.
-#[derive(Clone, Copy)]
+#[derive(Clone, Copy, PartialEq, Eq)]
 pub enum Base {
     Atom(Class, Limits),
     Over,
@@ -136,14 +148,14 @@ pub enum Base {
 }
 
 // What an item with fields is: a base with scripts, or a fraction.
-#[derive(Clone, Copy)]
+#[derive(Clone, Copy, PartialEq, Eq)]
 pub enum Kind {
     Scripted(Base),
     Fraction(Bar),
 }
 
 // The two letters with which an item opens.
-#[derive(Clone, Copy)]
+#[derive(Clone, Copy, PartialEq, Eq)]
 pub enum Mark {
     AT,
     OV,
@@ -169,7 +181,7 @@ pub enum Opening {
 
 // What a field says at its kind byte. A list has the number of bytes before its items and that of its items, or its
 // length is cut off, passes the end, or is too short for its kind.
-#[derive(Clone, Copy)]
+#[derive(Clone, Copy, PartialEq, Eq)]
 pub enum FieldHead {
     NoField,
     Empty,
@@ -179,15 +191,15 @@ pub enum FieldHead {
 }
 
 // What keeps a formula from being read: an item that can't be read, or a list too deep.
-#[derive(Clone, Copy)]
+#[derive(Clone, Copy, PartialEq, Eq)]
 pub enum Fault {
     Unreadable,
     TooDeep,
 }
 
-// What reading a list comes to: a fault has its place.
-#[derive(Clone, Copy)]
-pub enum Verdict {
-    Good,
-    Faulty(Fault, usize),
+// A fault and its place.
+#[derive(Clone, Copy, PartialEq, Eq)]
+pub struct FaultAt {
+    pub fault: Fault,
+    pub place: usize,
 }
