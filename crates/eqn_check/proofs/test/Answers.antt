@@ -15,7 +15,7 @@ pub loop-base-smaller : goal.loop-base-smaller
 loop-base-smaller c = omega arith
 
 pub loop-base-preserved : goal.loop-base-preserved
-loop-base-preserved c = rw c.earlier-least.ensures (least_next c.loop-base.invariant c.pass-next.ensures)
+loop-base-preserved c = rw c.earlier-least.ensures (least_next c.loop-base.invariant c.pass.ensures)
 
 pub returns : goal.returns
 returns c = c.loop-base.invariant.exact (omega (arith, c.pass-first.ensures.deep, c.loop-base-test.false))

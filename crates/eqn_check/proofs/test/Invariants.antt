@@ -6,4 +6,4 @@ abbrev pub invariant-loop-base : goal.invariant-loop-base
 invariant-loop-base l = Least l.text l.base l.least
 
 abbrev pub decreases-loop-base : goal.decreases-loop-base
-decreases-loop-base l = l.deepest + 1 - l.base
+decreases-loop-base l = l.first.deepest + 1 - l.base
