@@ -112,9 +112,9 @@ pub fn char_size(m: Metrics) -> Size
     ensures { (size_as result ≡ boxes.char_size (metrics_as m)) × Moderate result }
 {
     Size {
-        width: Sp::of_word(m.width).plus(Sp::of_word(m.italic)),
-        height: Sp::of_word(m.height),
-        depth: Sp::of_word(m.depth),
+        width: Sp::from(m.width).plus(Sp::from(m.italic)),
+        height: Sp::from(m.height),
+        depth: Sp::from(m.depth),
     }
 }
 
@@ -169,13 +169,12 @@ pub fn ruled_behind(rule: Rule) -> Own
     requires { RuleWithin item_words rule }
     ensures { (own_as result ≡ boxes.ruled_behind (rule_as rule)) × OwnWithin item_words result }
 {
-    let behind = Owned {
-        sign: None,
-        ruling: Some(rule),
-    };
     Own {
         before: NONE_OWNED,
-        behind,
+        behind: Owned {
+            sign: None,
+            ruling: Some(rule),
+        },
     }
 }
 
@@ -184,12 +183,11 @@ pub fn signed_before(sign: Option<Glyph>, rule: Rule) -> Own
     requires { SigningWithin item_words sign × RuleWithin item_words rule }
     ensures { (own_as result ≡ boxes.signed_before (signing_as sign) (rule_as rule)) × OwnWithin item_words result }
 {
-    let before = Owned {
-        sign,
-        ruling: Some(rule),
-    };
     Own {
-        before,
+        before: Owned {
+            sign,
+            ruling: Some(rule),
+        },
         behind: NONE_OWNED,
     }
 }
@@ -199,15 +197,16 @@ pub fn signed_around(left: Option<Glyph>, right: Option<Glyph>) -> Own
     requires { SigningWithin item_words left × SigningWithin item_words right }
     ensures { (own_as result ≡ boxes.signed_around (signing_as left) (signing_as right)) × OwnWithin item_words result }
 {
-    let before = Owned {
-        sign: left,
-        ruling: None,
-    };
-    let behind = Owned {
-        sign: right,
-        ruling: None,
-    };
-    Own { before, behind }
+    Own {
+        before: Owned {
+            sign: left,
+            ruling: None,
+        },
+        behind: Owned {
+            sign: right,
+            ruling: None,
+        },
+    }
 }
 
 // How far a box of width w is moved right to stand in the middle of the width all.

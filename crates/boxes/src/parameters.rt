@@ -54,11 +54,12 @@ pub const BIG_OP_SPACING4: usize = 33; // ξ12
 
 pub const BIG_OP_SPACING5: usize = 34; // ξ13
 
+#[tactic(auto, unfolding(font::specs::Values::parameters_in))]
 pub fn parameter(p: &Parameters, size: usize, number: usize) -> Sp
     requires { (size < 3) × (number < 35) }
     ensures { FromWord (parameters_in p.now size number) result.0 }
 {
-    Sp::of_word(p[size][number])
+    Sp::from(p[size][number])
 }
 
 // ξ8 at the size of a style.

@@ -20,6 +20,7 @@ use formula::Bar;
 use fractions::{bar_of, cleared, enclosed, has_bar, least_clearance, rules_clear};
 use scaled::Sp;
 
+#[tactic(auto, unfolding(fractions::specs::Fractions::fraction))]
 pub fn fraction(p: &Parameters, style: Style, bar: Bar, x: Size, z: Size) -> Arranged
     requires { Moderate x × Moderate z }
     ensures { (arranged_as result ≡ rule.fraction (parameters_in p.now) style bar (size_as x) (size_as z)) × Bounded result }
@@ -62,6 +63,7 @@ fn final_shifts(p: &Parameters, style: Style, theta: Sp, x: Size, z: Size) -> Sh
 }
 
 // 15b: the shifts at first.
+#[tactic(auto, unfolding(fractions::specs::Fractions::fraction_shifts))]
 fn fraction_shifts(p: &Parameters, style: Style, theta: Sp) -> Shifts
     ensures { (shifts_as result ≡ fraction_shifts (parameters_in p.now) style theta.0) × ShiftsWithin 1 result }
 {
@@ -71,30 +73,34 @@ fn fraction_shifts(p: &Parameters, style: Style, theta: Sp) -> Shifts
     }
 }
 
+#[tactic(auto, unfolding(scaled::specs::Length::pick))]
 fn numerator_up(p: &Parameters, style: Style, theta: Sp) -> Sp
     ensures { (result.0 ≡ numerator_up (parameters_in p.now) style theta.0) × Within (words 1) result.0 }
 {
     let size = font_size(style);
     if is_display(style) {
-        return parameter(p, size, NUM1);
+        parameter(p, size, NUM1)
+    } else if has_bar(theta) {
+        parameter(p, size, NUM2)
+    } else {
+        parameter(p, size, NUM3)
     }
-    if has_bar(theta) {
-        return parameter(p, size, NUM2);
-    }
-    parameter(p, size, NUM3)
 }
 
+#[tactic(auto, unfolding(scaled::specs::Length::pick))]
 fn denominator_down(p: &Parameters, style: Style) -> Sp
     ensures { (result.0 ≡ denominator_down (parameters_in p.now) style) × Within (words 1) result.0 }
 {
     let size = font_size(style);
     if is_display(style) {
-        return parameter(p, size, DENOM1);
+        parameter(p, size, DENOM1)
+    } else {
+        parameter(p, size, DENOM2)
     }
-    parameter(p, size, DENOM2)
 }
 
 // 15c: without a bar, both gain half of what the clearance lacks.
+#[tactic(auto, unfolding(fractions::specs::Fractions::shifts_without_bar))]
 fn shifts_without_bar(p: &Parameters, style: Style, x: Size, z: Size, t: Shifts) -> Shifts
     requires { Moderate x × Moderate z × ShiftsWithin 1 t }
     ensures { (shifts_as result ≡ shifts_without_bar (parameters_in p.now) style (size_as x) (size_as z) (shifts_as t)) × ShiftsWithin 12 result }
@@ -111,11 +117,12 @@ fn clearance(x: Size, z: Size, t: Shifts) -> Sp
 }
 
 // 15c.
+#[tactic(auto, unfolding(fractions::specs::Fractions::parted))]
 fn parted(phi: Sp, psi: Sp, t: Shifts) -> Shifts
     requires { Within (words 7) phi.0 × Within (words 4) psi.0 × ShiftsWithin 1 t }
     ensures { (shifts_as result ≡ rule.parted phi.0 psi.0 (shifts_as t)) × ShiftsWithin 12 result }
 {
-    if psi.less(phi) {
+    if psi < phi {
         let more = phi.minus(psi).half();
         Shifts {
             up: t.up.plus(more),
@@ -127,6 +134,7 @@ fn parted(phi: Sp, psi: Sp, t: Shifts) -> Shifts
 }
 
 // 15d: with a bar, each shift grows until its side is clear of the bar by φ.
+#[tactic(auto, unfolding(fractions::specs::Fractions::shifts_with_bar))]
 fn shifts_with_bar(axis: Sp, theta: Sp, phi: Sp, x: Size, z: Size, t: Shifts) -> Shifts
     requires { Within (words 1) axis.0 × Within (words 1) theta.0 × Within (words 7) phi.0 × Moderate x × Moderate z × ShiftsWithin 1 t }
     ensures { (shifts_as result ≡ shifts_with_bar axis.0 theta.0 phi.0 (size_as x) (size_as z) (shifts_as t)) × ShiftsWithin 12 result }
@@ -159,7 +167,6 @@ fn stacked(x: Size, z: Size, w: Sp, t: Shifts, bar: Own) -> Arranged
     requires { Moderate x × Moderate z × Within (words 2) w.0 × ShiftsWithin 12 t × OwnWithin item_words bar }
     ensures { (arranged_as result ≡ rule.stacked (size_as x) (size_as z) w.0 (shifts_as t) (own_as bar)) × Bounded result }
 {
-    let up = t.up;
     Arranged {
         size: Size {
             width: enclosed(w),
@@ -168,7 +175,7 @@ fn stacked(x: Size, z: Size, w: Sp, t: Shifts, bar: Own) -> Arranged
         },
         first: Offset {
             across: across_of(w, x),
-            up,
+            up: t.up,
         },
         second: Offset {
             across: across_of(w, z),

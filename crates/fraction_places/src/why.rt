@@ -15,6 +15,7 @@ use formula::Bar;
 use reasons::{Reason, Reasons, ShiftReason, corrected};
 use scaled::Sp;
 
+#[tactic(auto, unfolding(fractions::specs::Reasons::fraction_reasons))]
 pub fn fraction_reasons(p: &Parameters, style: Style, bar: Bar, x: Size, z: Size) -> Reasons
     requires { Moderate x × Moderate z }
     ensures { reasons_as result ≡ rule.fraction_reasons (parameters_in p.now) style bar (size_as x) (size_as z) }

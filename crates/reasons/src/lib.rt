@@ -44,21 +44,13 @@ pub fn unshifted() -> ShiftReason
 }
 
 // A stage that comes to this shift is named exactly if it changed the one before it.
+#[tactic(auto, unfolding(crate::specs::Reasons::corrected))]
 pub fn corrected(name: Reason, shift: Sp, before: ShiftReason) -> ShiftReason
     ensures { shift_reason_as result ≡ rule.corrected name shift.0 (shift_reason_as before) }
 {
-    if differs(shift, before.shift) {
+    if shift != before.shift {
         ShiftReason { by: name, shift }
     } else {
         before
     }
-}
-
-fn differs(a: Sp, b: Sp) -> bool
-    ensures { result ≡ rule.differs a.0 b.0 }
-{
-    if a.less(b) {
-        return true;
-    }
-    b.less(a)
 }

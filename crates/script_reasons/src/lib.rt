@@ -26,6 +26,7 @@ use script_shifts::{
 };
 use scripts::{Candidates, greatest};
 
+#[tactic(auto, unfolding(crate::specs::Reasons::script_reasons))]
 pub fn script_reasons(
     p: &Parameters,
     style: Style,
@@ -36,21 +37,17 @@ pub fn script_reasons(
     requires { ModerateNucleus n × ModerateScript superscript × ModerateScript subscript }
     ensures { item_reasons_as result ≡ rule.script_reasons (parameters_in p.now) style (nucleus_as n) (script_as superscript) (script_as subscript) }
 {
-    match superscript {
-        None => match subscript {
-            None => None,
-            Some(y) => Some(Reasons {
-                up: unshifted(),
-                down: chosen(subscript_candidates(p, style, n, y)),
-            }),
-        },
-        Some(x) => match subscript {
-            None => Some(Reasons {
-                up: chosen(superscript_candidates(p, style, n, x)),
-                down: unshifted(),
-            }),
-            Some(y) => Some(pair_reasons(p, style, n, x, y)),
-        },
+    match (superscript, subscript) {
+        (None, None) => None,
+        (Some(x), None) => Some(Reasons {
+            up: chosen(superscript_candidates(p, style, n, x)),
+            down: unshifted(),
+        }),
+        (None, Some(y)) => Some(Reasons {
+            up: unshifted(),
+            down: chosen(subscript_candidates(p, style, n, y)),
+        }),
+        (Some(x), Some(y)) => Some(pair_reasons(p, style, n, x, y)),
     }
 }
 
@@ -66,25 +63,27 @@ fn chosen(c: Candidates) -> ShiftReason
 }
 
 // A candidate is passed over where it is less than the greatest.
+#[tactic(auto, unfolding(crate::specs::Reasons::first_greatest))]
 fn first_greatest(c: Candidates, most: Sp) -> Reason
     requires { most.0 ≡ greatestOf (candidates_as c) }
     ensures { result ≡ rule.first_greatest (candidates_as c) }
 {
-    if c.dropped.less(most) {
-        if c.least.less(most) {
-            return Reason::XHeight;
-        }
-        return Reason::Sigma;
+    if c.dropped >= most {
+        Reason::Drop
+    } else if c.least >= most {
+        Reason::Sigma
+    } else {
+        Reason::XHeight
     }
-    Reason::Drop
 }
 
 // 18e: v after the gap has been seen to, and before ψ is looked at.
+#[tactic(auto, unfolding(crate::specs::Reasons::widened))]
 fn widened(p: &Parameters, size: usize, x: Size, y: Size, t: Shifts) -> Sp
     requires { (size < 3) × Moderate x × Moderate y × ShiftsWithin 8 t }
     ensures { result.0 ≡ rule.widened (parameters_in p.now) size (size_as x) (size_as y) (shifts_as t) }
 {
-    if gap(x, y, t).less(four_rules(p, size)) {
+    if gap(x, y, t) < four_rules(p, size) {
         gap_down(p, size, x, y, t.up)
     } else {
         t.down
@@ -92,15 +91,17 @@ fn widened(p: &Parameters, size: usize, x: Size, y: Size, t: Shifts) -> Sp
 }
 
 // The gap moves the subscript alone, ψ both.
+#[tactic(auto, unfolding(crate::specs::Reasons::pair_reasons))]
 fn pair_reasons(p: &Parameters, style: Style, n: Nucleus, x: Size, y: Size) -> Reasons
     requires { ModerateNucleus n × Moderate x × Moderate y }
     ensures { reasons_as result ≡ rule.pair_reasons (parameters_in p.now) style (nucleus_as n) (size_as x) (size_as y) }
 {
     let up = chosen(superscript_candidates(p, style, n, x));
     let down = chosen(pair_candidates(p, style, n));
-    let u = up.shift;
-    let v = down.shift;
-    let first = Shifts { up: u, down: v };
+    let first = Shifts {
+        up: up.shift,
+        down: down.shift,
+    };
     let apart = widened(p, font_size(style), x, y, first);
     let t = pair_shifts(p, style, n, x, y);
     Reasons {

@@ -23,60 +23,62 @@ use scaled::Sp;
 use scripts::{Candidates, drops, greatest, lifted};
 
 // 18b: a subscript y alone.
+#[tactic(auto, unfolding(scripts::specs::Scripts::subscript_candidates))]
 pub fn subscript_candidates(p: &Parameters, style: Style, n: Nucleus, y: Size) -> Candidates
     requires { ModerateNucleus n × Moderate y }
     ensures { (candidates_as result ≡ subscript_candidates (parameters_in p.now) style (nucleus_as n) (size_as y)) × CandidatesWithin 8 result }
 {
     let size = font_size(style);
-    let dropped = drops(p, style, n).down;
     Candidates {
-        dropped,
+        dropped: drops(p, style, n).down,
         least: parameter(p, size, SUB1),
         free: Some(y.height.minus(four_fifths_x_height(p, size))),
     }
 }
 
 // 18c: a superscript x.
+#[tactic(auto, unfolding(scripts::specs::Scripts::superscript_candidates))]
 pub fn superscript_candidates(p: &Parameters, style: Style, n: Nucleus, x: Size) -> Candidates
     requires { ModerateNucleus n × Moderate x }
     ensures { (candidates_as result ≡ superscript_candidates (parameters_in p.now) style (nucleus_as n) (size_as x)) × CandidatesWithin 8 result }
 {
-    let dropped = drops(p, style, n).up;
     Candidates {
-        dropped,
+        dropped: drops(p, style, n).up,
         least: least_up(p, style),
         free: Some(x.depth.plus(quarter_x_height(p, font_size(style)))),
     }
 }
 
 // 18c: σ15 in cramped styles, σ13 in D, else σ14.
+#[tactic(auto, unfolding(scripts::specs::Scripts::least_up, scaled::specs::Length::pick))]
 fn least_up(p: &Parameters, style: Style) -> Sp
     ensures { (result.0 ≡ least_up (parameters_in p.now) style) × Within (words 1) result.0 }
 {
     let size = font_size(style);
     if style.cramped {
-        return parameter(p, size, SUP3);
+        parameter(p, size, SUP3)
+    } else if is_display(style) {
+        parameter(p, size, SUP1)
+    } else {
+        parameter(p, size, SUP2)
     }
-    if is_display(style) {
-        return parameter(p, size, SUP1);
-    }
-    parameter(p, size, SUP2)
 }
 
 // 18d: the subscript of a pair, at first.
+#[tactic(auto, unfolding(scripts::specs::Scripts::pair_candidates))]
 pub fn pair_candidates(p: &Parameters, style: Style, n: Nucleus) -> Candidates
     requires { ModerateNucleus n }
     ensures { (candidates_as result ≡ pair_candidates (parameters_in p.now) style (nucleus_as n)) × CandidatesWithin 8 result }
 {
-    let dropped = drops(p, style, n).down;
     Candidates {
-        dropped,
+        dropped: drops(p, style, n).down,
         least: parameter(p, font_size(style), SUB2),
         free: None,
     }
 }
 
 // 18c to 18e: superscript x and subscript y.
+#[tactic(auto, unfolding(scripts::specs::Scripts::pair_shifts))]
 pub fn pair_shifts(p: &Parameters, style: Style, n: Nucleus, x: Size, y: Size) -> Shifts
     requires { ModerateNucleus n × Moderate x × Moderate y }
     ensures { (shifts_as result ≡ pair_shifts (parameters_in p.now) style (nucleus_as n) (size_as x) (size_as y)) × ShiftsWithin 24 result }
@@ -89,17 +91,17 @@ pub fn pair_shifts(p: &Parameters, style: Style, n: Nucleus, x: Size, y: Size) -
 }
 
 // 18e: where the gap is too small, the subscript goes down until it is four rules, and then both go up by ψ.
+#[tactic(auto, unfolding(scripts::specs::Scripts::spread))]
 fn spread(p: &Parameters, size: usize, x: Size, y: Size, t: Shifts) -> Shifts
     requires { (size < 3) × Moderate x × Moderate y × ShiftsWithin 8 t }
     ensures { (shifts_as result ≡ rule.spread (parameters_in p.now) size (size_as x) (size_as y) (shifts_as t)) × ShiftsWithin 24 result }
 {
     let least = four_rules(p, size);
-    if gap(x, y, t).less(least) {
-        let up = t.up;
-        let psi = psi_of(p, size, x, up);
+    if gap(x, y, t) < least {
+        let psi = psi_of(p, size, x, t.up);
         let apart = Shifts {
-            up,
-            down: gap_down(p, size, x, y, up),
+            down: gap_down(p, size, x, y, t.up),
+            ..t
         };
         lifted(psi, apart)
     } else {
@@ -116,6 +118,7 @@ pub fn gap(x: Size, y: Size, t: Shifts) -> Sp
 }
 
 // 18e: the v with which the gap is four rules.
+#[tactic(auto, unfolding(scripts::specs::Scripts::gap_down))]
 pub fn gap_down(p: &Parameters, size: usize, x: Size, y: Size, u: Sp) -> Sp
     requires { (size < 3) × Moderate x × Moderate y × Within (words 8) u.0 }
     ensures { (result.0 ≡ gap_down (parameters_in p.now) size (size_as x) (size_as y) u.0) × Within (words 14) result.0 }

@@ -20,6 +20,7 @@ use nucleus::Nucleus;
 use scaled::Sp;
 
 // 18a: the shifts that a nucleus which is no plain symbol asks for, at the size of the superscript's style.
+#[tactic(auto, unfolding(crate::specs::Scripts::drops))]
 pub fn drops(p: &Parameters, style: Style, n: Nucleus) -> Shifts
     requires { ModerateNucleus n }
     ensures { (shifts_as result ≡ rule.drops (parameters_in p.now) style (nucleus_as n)) × ShiftsWithin 8 result }
@@ -48,23 +49,24 @@ pub struct Candidates {
     pub free: Option<Sp>,
 }
 
+#[tactic(auto, unfolding(crate::specs::Scripts::greatest))]
 pub fn greatest(c: Candidates) -> Sp
     ensures { (result.0 ≡ rule.greatest (candidates_as c)) × (CandidatesWithin 8 c → Within (words 8) result.0) }
 {
     let shift = c.dropped.max(c.least);
-    let free = c.free;
-    match free {
+    match c.free {
         None => shift,
         Some(edge) => shift.max(edge),
     }
 }
 
 // 18e: both go up by ψ, if it is positive.
+#[tactic(auto, unfolding(crate::specs::Scripts::lifted))]
 pub fn lifted(psi: Sp, t: Shifts) -> Shifts
     requires { Within (words 10) psi.0 × ShiftsWithin 14 t }
     ensures { (shifts_as result ≡ rule.lifted psi.0 (shifts_as t)) × ShiftsWithin 24 result }
 {
-    if Sp(0).less(psi) {
+    if psi > Sp(0) {
         Shifts {
             up: t.up.plus(psi),
             down: t.down.minus(psi),

@@ -31,6 +31,7 @@ const CHART: [[u8; 8]; 8] = [
 ];
 
 // The space before an atom of class right, none before the first.
+#[tactic(auto, unfolding(crate::specs::Spacing::space_before))]
 pub fn space_before(p: &Parameters, style: Style, left: Option<Class>, right: Class) -> Sp
     ensures { (result.0 ≡ space_before (parameters_in p.now) style (neighbour_as left) right) × Within (2 ^ 32) result.0 }
 {
