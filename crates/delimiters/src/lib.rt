@@ -63,11 +63,14 @@ pub fn sign_for(font: &Font, size: u8, d: Delimiter, needed: Sp) -> Option<Sign>
 }
 
 // Two zero bytes stand for no symbol.
+const NO_SYMBOL: Pair = Pair { family: 0, code: 0 };
+
+// The symbol of a pair, in its sizes.
 #[tactic(auto, unfolding(crate::specs::Delimiters::of_pair, crate::specs::Looking::looked_at))]
 fn search_pair(font: &Font, size: u8, pair: Pair, needed: Sp, far: Search) -> Search
     ensures { search_as result ≡ looked_at needed.0 (search_as far) (of_pair (font_in font.now) size pair) }
 {
-    if pair == (Pair { family: 0, code: 0 }) {
+    if pair == NO_SYMBOL {
         return far;
     }
     search_sizes(font, size, pair.family, pair.code, needed, far)
