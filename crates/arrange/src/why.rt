@@ -7,17 +7,18 @@ ghost use Rattle.delimiters.specs.Values.{signs_as};
 ghost use Rattle.formula.specs.declared.Kind.TheVariants.{Scripted};
 ghost use Rattle.reasons.specs.Values.{item_reasons_as};
 
-use crate::{is_given, nucleus_of, sets_limits};
+use crate::{nucleus_of, sets_limits};
 use boxes::parameters::Parameters;
 use boxes::styles::Style;
 use boxes::{Shape, given, size_of};
 use delimiters::Signs;
 use formula::{Base, Kind};
 use fraction_places::why::fraction_reasons;
-use reasons::ItemReasons;
+use reasons::Reasons;
 use script_reasons::script_reasons;
 
 // Of limits, and of an item without scripts, there is nothing to say.
+#[tactic(auto, unfolding(crate::specs::Reasons::reasons))]
 pub fn why_item(
     p: &Parameters,
     style: Style,
@@ -26,18 +27,17 @@ pub fn why_item(
     x: Shape,
     y: Shape,
     z: Shape,
-) -> ItemReasons
+) -> Option<Reasons>
     requires { ModerateShape x × ModerateShape y × ModerateShape z }
     ensures { item_reasons_as result ≡ reasons (parameters_in p.now) style kind (signs_as signs) (shape_as x) (shape_as y) (shape_as z) }
 {
     match kind {
         Kind::Scripted(base) => why_scripted(p, style, base, signs, x, y, z),
-        Kind::Fraction(bar) => {
-            ItemReasons::By(fraction_reasons(p, style, bar, size_of(x), size_of(y)))
-        }
+        Kind::Fraction(bar) => Some(fraction_reasons(p, style, bar, size_of(x), size_of(y))),
     }
 }
 
+#[tactic(auto, unfolding(crate::specs::Reasons::reasons))]
 fn why_scripted(
     p: &Parameters,
     style: Style,
@@ -46,14 +46,14 @@ fn why_scripted(
     x: Shape,
     y: Shape,
     z: Shape,
-) -> ItemReasons
+) -> Option<Reasons>
     requires { ModerateShape x × ModerateShape y × ModerateShape z }
     ensures { item_reasons_as result ≡ reasons (parameters_in p.now) style (Scripted base) (signs_as signs) (shape_as x) (shape_as y) (shape_as z) }
 {
     if sets_limits(style, base) {
-        return ItemReasons::Nothing;
+        return None;
     }
     let subscript = given(z);
-    let n = nucleus_of(p, style, base, signs, is_given(subscript), x);
+    let n = nucleus_of(p, style, base, signs, subscript.is_some(), x);
     script_reasons(p, style, n, given(y), subscript)
 }
