@@ -57,11 +57,7 @@ pub const DEFAULT_BAR: u8 = 0;
 
 pub const WITHOUT_BAR: u8 = 1;
 
-// The greatest numbers: of a class, of limits, of a kern either way, of a style, of a family.
-pub const GREATEST_CLASS: u8 = 7;
-
-pub const GREATEST_LIMITS: u8 = 2;
-
+// The greatest numbers: of a kern either way, of a style, of a family.
 pub const GREATEST_KERN: i64 = 8_388_607;
 
 pub const GREATEST_STYLE: u8 = 7;
@@ -83,6 +79,10 @@ pub const GREATEST_SHORT: usize = 65_535;
 // How many bytes a list has before its items: its kind and two bytes of length.
 pub const SHORT_OPENING_BYTES: usize = 3;
 
+// A number that no class has, or no limits or no bar.
+#[derive(Clone, Copy, PartialEq, Eq)]
+pub struct UnknownNumber(pub u8);
+
 // The class of an atom, by which it is spaced.
 #[derive(Clone, Copy, PartialEq, Eq)]
 pub enum Class {
@@ -96,7 +96,6 @@ pub enum Class {
     Inner,
 }
 
-// A class by its number.
 impl From<Class> for u8 {
     ghost use Rattle.std.specs.Prelude.{◌≡◌};
     ghost use Rattle.formula.specs.Heads.{class_number};
@@ -108,6 +107,30 @@ impl From<Class> for u8 {
     }
 }
 
+impl TryFrom<u8> for Class {
+    ghost use Rattle.std.specs.Prelude.{◌≡◌};
+    ghost use Rattle.formula.specs.Heads.{classes};
+    ghost use Rattle.formula.specs.Values.{numbered};
+
+    type Error = UnknownNumber;
+
+    ghost try_from_gives = { λ n r. r ≡ numbered classes n };
+
+    fn try_from(n: u8) -> Result<Class, UnknownNumber> {
+        match n {
+            0 => Ok(Class::Ord),
+            1 => Ok(Class::Op),
+            2 => Ok(Class::Bin),
+            3 => Ok(Class::Rel),
+            4 => Ok(Class::Open),
+            5 => Ok(Class::Close),
+            6 => Ok(Class::Punct),
+            7 => Ok(Class::Inner),
+            _ => Err(UnknownNumber(n)),
+        }
+    }
+}
+
 // Where the scripts of a large operator stand as limits.
 #[derive(Clone, Copy, PartialEq, Eq)]
 pub enum Limits {
@@ -116,11 +139,48 @@ pub enum Limits {
     Never,
 }
 
+impl TryFrom<u8> for Limits {
+    ghost use Rattle.std.specs.Prelude.{◌≡◌};
+    ghost use Rattle.formula.specs.Heads.{limit_kinds};
+    ghost use Rattle.formula.specs.Values.{numbered};
+
+    type Error = UnknownNumber;
+
+    ghost try_from_gives = { λ n r. r ≡ numbered limit_kinds n };
+
+    fn try_from(n: u8) -> Result<Limits, UnknownNumber> {
+        match n {
+            0 => Ok(Limits::DisplayOnly),
+            1 => Ok(Limits::Always),
+            2 => Ok(Limits::Never),
+            _ => Err(UnknownNumber(n)),
+        }
+    }
+}
+
 // The bar of a fraction: of the default thickness, or none.
 #[derive(Clone, Copy, PartialEq, Eq)]
 pub enum Bar {
     Default,
     Without,
+}
+
+impl TryFrom<u8> for Bar {
+    ghost use Rattle.std.specs.Prelude.{◌≡◌};
+    ghost use Rattle.formula.specs.Heads.{bars};
+    ghost use Rattle.formula.specs.Values.{numbered};
+
+    type Error = UnknownNumber;
+
+    ghost try_from_gives = { λ n r. r ≡ numbered bars n };
+
+    fn try_from(n: u8) -> Result<Bar, UnknownNumber> {
+        match n {
+            0 => Ok(Bar::Default),
+            1 => Ok(Bar::Without),
+            _ => Err(UnknownNumber(n)),
+        }
+    }
 }
 
 // The family and the code of a symbol of a delimiter; zero and zero where there is none.
