@@ -57,7 +57,9 @@ pub const DEFAULT_BAR: u8 = 0;
 
 pub const WITHOUT_BAR: u8 = 1;
 
-// The greatest numbers: of a kern either way, of a style, of a family.
+// The greatest numbers: of a class, of a kern either way, of a style, of a family.
+pub const GREATEST_CLASS: u8 = 7;
+
 pub const GREATEST_KERN: i64 = 8_388_607;
 
 pub const GREATEST_STYLE: u8 = 7;
