@@ -60,14 +60,5 @@ fn entry(left: Class, right: Class) -> u8
 fn column(class: Class) -> usize
     ensures { (result ≡ class_number class) × (result < 8) }
 {
-    match class {
-        Class::Ord => 0,
-        Class::Op => 1,
-        Class::Bin => 2,
-        Class::Rel => 3,
-        Class::Open => 4,
-        Class::Close => 5,
-        Class::Punct => 6,
-        Class::Inner => 7,
-    }
+    usize::from(u8::from(class))
 }
