@@ -1,7 +1,10 @@
+-- The measure is eight times the levels, and one more for each of the functions upward. The invariant of the loop of `put_row`: of what is
+-- left of a row, the whole follows (`RowLeft`).
+-- Assumes nothing.
 use Prim.Native.Nat.{◌+◌, ◌-◌, ◌*◌}
 use lib.ListN.{length}
 use Rattle.eqn_read.proofs.RowLaws.{RowLeft}
-use Rattle.eqn_read.proofs.making.+put_atom_put_fields_put_item_put_operand_put_over_put_primary_put_row_put_script.Given as goal
+use Rattle.eqn_read.proofs.making.+making.Given as goal
 
 abbrev pub decreases-put_atom : goal.decreases-put_atom
 decreases-put_atom l = 8 * l.levels + 4
@@ -28,7 +31,7 @@ abbrev pub decreases-put_script : goal.decreases-put_script
 decreases-put_script l = 8 * l.levels + 2
 
 abbrev pub invariant-put_row-loop-from : goal.invariant-put_row-loop-from
-invariant-put_row-loop-from l = RowLeft l.names l.firsts l.s l.levels l.at l.initial.out l.from l.end l.out
+invariant-put_row-loop-from l = RowLeft l.index l.s l.levels l.at l.initial.out l.from l.end l.out
 
 abbrev pub decreases-put_row-loop-from : goal.decreases-put_row-loop-from
 decreases-put_row-loop-from l = length l.s - l.from
