@@ -1,11 +1,12 @@
 -- What a lookup in both tables comes to.
+--     found_part    a record that was found, as a part of the records
 --     seen       a lookup in both tables: no bytes and no symbol, or a whole record and what it says
 --     read_none, read_some     the symbol in both, by what a lookup handed back
 --     read_short, read_long    the symbol in both, by the length of the part that holds its record
 --     client_record, our_record     the record and its place, where the client has one, and where not
 --     client_hands, our_hands       what a lookup hands back, likewise
 -- Assumes nothing.
-use Rattle.std.specs.Prelude.{◌≡◌, refl, ℕ, ◌<◌, ◌≤◌}
+use Rattle.std.specs.Prelude.{◌≡◌, refl, ℕ, ◌*◌, ◌<◌, ◌≤◌}
 use Rattle.std.proofs.Common.{sym, ap, ap₂, ◌∙◌, arith}
 use mathlib.Core.List.{List, [], ◌∷◌}
 use Rattle.std.proofs.Math.Option.{Option as OptionOf, none, some}
@@ -15,7 +16,9 @@ use Rattle.font.specs.Font.{Metrics, metrics_of, font_of, font_with, ◌or_ours�
 use Rattle.std.specs.Borrow.{Bor}
 use Rattle.std.specs.Prelude.{Option, Some, None, drop}
 use Rattle.font.specs.Values.{HandsBack}
-use Rattle.font.specs.Table.{SoundTables}
+use Rattle.font.specs.Finding.{FoundAt, lies}
+use Rattle.font.specs.RecordsLaws.{count, numbered, recorded, record_at}
+use Rattle.font.specs.Table.{SoundTables, SoundRecords}
 use Rattle.font.specs.FontLaws.{sound_client, ours_alone}
 use Rattle.font.specs.LookupLaws.{Answers, absent, present, short, long, answers, all_whole, ours, our_part, sound_part}
 
@@ -28,6 +31,19 @@ either (present {r = b ∷ r} e) ours = present e
 same_hands : (o : Option (Bor (List ℕ))) {r q : List ℕ} {m n : ℕ × ℕ} → r ≡ q → m ≡ n → HandsBack o r m → HandsBack o q n
 same_hands None e f h = sym e ∙ h
 same_hands (Some r) e f h = (h.0, h.1 ∙ e, h.2 ∙ f)
+
+-- ---- among some records
+
+-- the record of a number, which was found, as the part that holds it is handed back
+module _ (s : List ℕ) (sound : SoundRecords s) (size family code m : ℕ) (inside : m < count s) where
+  pub found_part : FoundAt size family code (client_records s) (numbered s m) (character_bytes * m) →
+      {r : List ℕ} (p : ℕ × ℕ) {q : ℕ × ℕ} → r ≡ numbered s m → q ≡ past (character_bytes * m) p →
+      (length r ≡ character_bytes)
+      × (r ≡ record_in size family code (client_records s))
+      × (q ≡ past (place_in size family code (client_records s)) p)
+  found_part found p is at =
+      let both = lies size family code found p is in
+      (ap length (is ∙ sym (record_at s m inside)) ∙ all_whole s sound m (omega (arith, recorded s)), both.0, at ∙ both.1)
 
 -- ---- in both tables
 

@@ -10,10 +10,9 @@ use Prim.Native.Nat.{ℕ, suc, ◌+◌}
 use native.Mathlib.Omega.{arith}
 use borrow.Author.Tests.{le-leb}
 use lib.Dec.{leb, eqb}
-use lib.ListN.{get_or, take, drop}
-use Rattle.font.specs.Records.{character_bytes, greatest_size, greatest_family, metric_words, size_byte, family_byte, flag_byte, successor_byte}
+use Rattle.font.specs.Records.{greatest_size, greatest_family, metric_words, size_byte, family_byte, flag_byte, successor_byte}
 use Rattle.font.specs.Records.{every, marked, good_word, good_character, before, rising}
-use Rattle.font.specs.Keys.{key_of, key_in, Bytes, InBytes, AllInBytes, before_key}
+use Rattle.font.specs.Keys.{key_in, Bytes, InBytes, AllInBytes, before_key}
 use Rattle.std.specs.Prelude.{Option, Some, None}
 use Rattle.std.specs.Ordering.{partial_lt}
 use Rattle.std.specs.Option.{option_partial_cmp}

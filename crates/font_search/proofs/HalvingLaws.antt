@@ -19,9 +19,9 @@ use Rattle.font.specs.Keys.{key_of, key_in, Bytes}
 use Rattle.font.specs.RecordsLaws.{count, numbered, recorded, record_at, all_in_bytes, counted}
 use Rattle.font.specs.declared.Key.{Key}
 use Rattle.font.specs.Font.{record_in, place_in, past}
-use Rattle.font.specs.LookupLaws.{all_whole}
+use Rattle.font.proofs.LookupLaws.{found_part}
 use Rattle.font.proofs.KeyLaws.{number}
-use Rattle.font.specs.Finding.{FoundAt, found_there, lies}
+use Rattle.font.specs.Finding.{FoundAt, found_there}
 use Rattle.font_search.proofs.Halving.{Narrowed, narrowed_whole, narrowed_right, narrowed_left, found_nowhere}
 
 -- ---- how many steps are enough
@@ -116,5 +116,4 @@ module _ (s : List ℕ) (sound : SoundRecords s) (byte : bytes.Bytes s) where
         × (q ≡ past (place_in k.size k.family k.code (client_records s)) p)
     handed_back m inside p is at same =
         let found = numbered_there k.size k.family k.code b m inside (ap key_in (sym is) ∙ same) in
-        let both = lies k.size k.family k.code found p is in
-        (ap length (is ∙ sym (record_at s m inside)) ∙ all_whole s sound m (omega (arith, recorded s)), both.0, at ∙ both.1)
+        found_part s sound k.size k.family k.code m inside found p is at

@@ -2,7 +2,7 @@
 -- Assumes nothing.
 use mathlib.Core.Path.{◌≡◌, refl, sym, ap, ◌∙◌}
 use mathlib.Core.Bool.{Bool, ◌&&◌}
-use Prim.Native.Nat.{◌+◌, ◌*◌, ◌<◌, ◌≤◌}
+use Prim.Native.Nat.{◌*◌, ◌<◌}
 use native.Mathlib.Nat.{sub-zero}
 use native.Mathlib.Omega.{arith}
 use lib.ListN.{length, drop}
@@ -11,7 +11,7 @@ use Rattle.font.specs.Font.{font_with}
 use Rattle.font.specs.Table.{seen_ends}
 use Rattle.font.specs.LookupLaws.{all_whole}
 use Rattle.font.specs.Reading.{again, finished}
-use Rattle.font.specs.RecordsLaws.{count, counted, few, recorded, record_at}
+use Rattle.font.specs.RecordsLaws.{count, few, recorded, record_at}
 use Rattle.font_chains.proofs.all_end.Invariants.{ending}
 use Rattle.font_chains.proofs.all_end.Goals as goal
 

@@ -1,6 +1,6 @@
 use mathlib.Core.Bool.{Bool}
 use mathlib.Core.List.{List}
-use Prim.Native.Nat.{ℕ, ◌*◌, ◌-◌}
+use Prim.Native.Nat.{ℕ, ◌*◌}
 use Rattle.font.specs.Records.{character_bytes, pieces, client_records, every}
 use Rattle.font.specs.Font.{Font, font_with}
 use Rattle.font.specs.Table.{seen_ends}

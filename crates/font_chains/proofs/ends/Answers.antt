@@ -1,8 +1,7 @@
 -- `ends` goes by the flag, and with it follows the chain: from the successor on where the record is its own symbol's (`flagged_ends`),
 -- and else from the symbol on.
 -- Assumes nothing.
-use mathlib.Core.Path.{sym, ap, ◌∙◌}
-use mathlib.Core.Bool.{not}
+use mathlib.Core.Path.{sym, ◌∙◌}
 use borrow.Author.Tests.{eqb-true}
 use Rattle.font.specs.Font.{font_with}
 use Rattle.font.specs.Table.{seen_ends}

@@ -1,10 +1,10 @@
 -- `are_characters` tests every CH record and holds its key to the last: the invariant is `Left` of `sound_from`, which is
 -- `sound_characters` at first (`sound_pass`).
 -- Assumes nothing.
-use mathlib.Core.Path.{◌≡◌, refl, sym, ap, ap₂, ◌∙◌}
+use mathlib.Core.Path.{◌≡◌, sym, ap, ap₂, ◌∙◌}
 use mathlib.Core.Bool.{Bool, ◌&&◌}
 use mathlib.Core.List.{List}
-use Prim.Native.Nat.{ℕ, ◌+◌}
+use Prim.Native.Nat.{ℕ}
 use native.Mathlib.Omega.{arith}
 use Rattle.std.specs.Prelude.{Some}
 use Rattle.font.specs.Records.{character_bytes, client_records, client_count}
@@ -39,8 +39,7 @@ loop-r-preserved c =
     let first = first_in_pieces character_bytes r u (omega arith) step.1.0 (step.1.1 ∙ l.invariant.0) in
     let tested : (c.is_character.result && c.lt.result) ≡ (good_character r && leb (least_after l.last) (key_in r)) =
     ap₂ (λ (good less : Bool). good && less) c.is_character.ensures
-    (c.lt.ensures ∙ last_less l.last key l.invariant.1 bytes ∙ ap (leb (least_after l.last)) (number_in c.of.ensures)) in
-    (
+    (c.lt.ensures ∙ last_less l.last key l.invariant.1 bytes ∙ ap (leb (least_after l.last)) (number_in c.of.ensures)) in (
       step.0 ∙ l.invariant.0,
       bytes,
       first_passed l.invariant.2 (sound (Some key)) (c.is_character.result && c.lt.result) u (rw (first, tested, number_in c.of.ensures)),

@@ -1,11 +1,10 @@
 -- `are_parameters` tests every PA record: of those that are left the invariant is `Left`.
 -- Assumes nothing.
-use mathlib.Core.Path.{refl, sym, ap, ◌∙◌}
-use mathlib.Core.Bool.{Bool, ◌&&◌}
+use mathlib.Core.Path.{sym, ap, ◌∙◌}
 use mathlib.Core.List.{List}
 use Prim.Native.Nat.{ℕ}
 use native.Mathlib.Omega.{arith}
-use Rattle.font.specs.Records.{header_bytes, size_count, parameter_bytes, parameter_records, every, good_parameters}
+use Rattle.font.specs.Records.{size_count, parameter_bytes, parameter_records, every, good_parameters}
 use Rattle.font.specs.Reading.{first_passed, none_left}
 use Rattle.font.specs.RecordsLaws.{in_pieces, first_in_pieces, none_in_pieces, front_in_pieces}
 use Rattle.font_records.proofs.are_parameters.Invariants.{all_good}
@@ -26,8 +25,7 @@ loop-r-preserved c =
     let l = c.loop-r in
     let r = c.in-Some.r.now in
     let u = c.next.new.self.rest.now in
-    let first = first_in_pieces parameter_bytes r u (omega arith) step.1.0 (step.1.1 ∙ l.invariant.0) in
-    (
+    let first = first_in_pieces parameter_bytes r u (omega arith) step.1.0 (step.1.1 ∙ l.invariant.0) in (
       step.0 ∙ l.invariant.0,
       first_passed l.invariant.1 all_good c.is_parameters-good.result u (rw (first, c.is_parameters-good.ensures)),
     )

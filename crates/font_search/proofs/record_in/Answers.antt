@@ -1,8 +1,8 @@
 -- `record_in` halves the range in which the symbol's record can be (`Halved`). That its count of steps never falls below 0 says that
 -- twelve are enough (`twelve_enough`, `has_step`); what a step leaves, and what is found, is said in `HalvingLaws`.
 -- Assumes nothing.
-use mathlib.Core.Path.{◌≡◌, sym, ap, ◌∙◌}
-use Prim.Native.Nat.{ℕ, ◌+◌, ◌/◌, ◌<◌}
+use mathlib.Core.Path.{sym, ap, ◌∙◌}
+use Prim.Native.Nat.{◌+◌, ◌/◌, ◌<◌}
 use borrow.Author.Rules.{rules}
 use native.Mathlib.Omega.{arith}
 use Rattle.font.specs.Keys.{Bytes, key_in}

@@ -1,13 +1,8 @@
 -- `record_near` hands back the client's record if it has one (`client_hands`), and else ours (`our_hands`), which stand behind the
 -- PA records (`ours_alone`).
 -- Assumes nothing.
-use mathlib.Core.Path.{subst}
-use mathlib.Core.List.{List}
-use Prim.Native.Nat.{ℕ}
 use native.Mathlib.Omega.{arith}
-use Rattle.font.specs.Font.{record_in, place_in, past}
-use Rattle.font.specs.FontLaws.{whole_records, sound_client, ours_alone, sound_ours}
-use Rattle.font.specs.Values.{HandsBack}
+use Rattle.font.specs.FontLaws.{whole_records, sound_client, sound_ours}
 use Rattle.font.proofs.LookupLaws.{client_hands, our_hands}
 use Rattle.font_search.proofs.record_near.Goals as goal
 

@@ -1,12 +1,12 @@
 -- `record_tried` takes a record that has the symbol's key (`handed_back`), and else looks it up.
 -- Assumes nothing.
-use mathlib.Core.Path.{◌≡◌, sym, ap, ◌∙◌}
+use mathlib.Core.Path.{sym, ◌∙◌}
 use borrow.Author.Rules.{rules}
 use native.Mathlib.Omega.{arith}
 use Prim.Native.Nat.{◌<◌}
-use Rattle.font.specs.Keys.{Bytes, key_in}
+use Rattle.font.specs.Keys.{Bytes}
 use Rattle.font.specs.RecordsLaws.{count}
-use Rattle.font.proofs.KeyLaws.{number, key_is, number_in}
+use Rattle.font.proofs.KeyLaws.{key_is, number_in}
 use Rattle.font_search.proofs.HalvingLaws.{handed_back}
 use Rattle.font_search.proofs.record_tried.Goals as goal
 

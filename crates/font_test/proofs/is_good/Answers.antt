@@ -1,9 +1,7 @@
 -- `is_good` makes the tests of `good-table`, one after the other: the length, the PA records, the CH records, the chains.
-use mathlib.Core.Path.{◌≡◌, sym, ap, ◌∙◌}
-use mathlib.Core.Bool.{true}
-use mathlib.Core.List.{List, []}
-use Prim.Native.Nat.{ℕ}
-use Rattle.font.specs.Records.{header_bytes, parameter_records, client_records, every, good_parameters, good_length, good_records}
+use mathlib.Core.Path.{sym, ap, ◌∙◌}
+use mathlib.Core.List.{[]}
+use Rattle.font.specs.Records.{every, good_records}
 use Rattle.font.specs.Font.{font_with}
 use Rattle.font.specs.Table.{good_table, seen_ends}
 use Rattle.font.specs.FontLaws.{sound_alone, sound_ours, ours_alone}

@@ -2,13 +2,12 @@
 -- An empty one is good (`empty_client`).
 -- Assumes nothing.
 use mathlib.Core.Path.{◌≡◌, refl, sym, ap, ◌∙◌}
-use mathlib.Core.Bool.{Bool, ◌&&◌}
 use mathlib.Core.List.{List, [], ◌∷◌}
 use Prim.Native.Nat.{ℕ}
 use native.Mathlib.Omega.{arith}
 use borrow.Author.Tests.{eqb-true}
 use lib.ListN.{length}
-use Rattle.font.specs.Records.{character_records, client_records, every}
+use Rattle.font.specs.Records.{client_records, every}
 use Rattle.font.specs.Font.{font_with}
 use Rattle.font.specs.Table.{seen_ends, SoundTables}
 use Rattle.font.specs.FontLaws.{good_records_lem, good_header, empty_client, sound_client, sound_ours, ours_alone}

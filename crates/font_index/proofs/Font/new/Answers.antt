@@ -1,7 +1,6 @@
 -- A good table is long enough for its parameters, and those taken out of it are those of the font.
 -- Assumes nothing.
-use Rattle.std.proofs.Common.{◌≡◌, ◌≤◌, arith, length}
-use Rattle.font.specs.Records.{header_bytes}
+use Rattle.std.proofs.Common.{arith}
 use Rattle.font.specs.Font.{font_with}
 use Rattle.font.specs.FontLaws.{whole_records}
 use Rattle.font.specs.ValueLaws.{taken_out}
