@@ -12,7 +12,7 @@ pub const FORMULA_LIMIT: usize = 131_072;
 // The greatest depth of a list; the formula itself is at depth 1.
 pub const DEPTH_LIMIT: usize = 32;
 
-// The letters with which items open; those of an atom and of a fraction by name too.
+// The letters with which an atom and a fraction open.
 pub const ATOM_FIRST: u8 = b'A';
 
 pub const ATOM_SECOND: u8 = b'T';
@@ -20,18 +20,6 @@ pub const ATOM_SECOND: u8 = b'T';
 pub const FRACTION_FIRST: u8 = b'F';
 
 pub const FRACTION_SECOND: u8 = b'R';
-
-pub const LETTERS: [[u8; 2]; 9] = [
-    [ATOM_FIRST, ATOM_SECOND],
-    [b'O', b'V'],
-    [b'U', b'N'],
-    [FRACTION_FIRST, FRACTION_SECOND],
-    [b'K', b'N'],
-    [b'S', b'T'],
-    [b'C', b'4'],
-    [b'R', b'D'],
-    [b'F', b'E'],
-];
 
 // A kern's mark and its four bytes.
 pub const KERN_BYTES: usize = 6;

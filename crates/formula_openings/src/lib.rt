@@ -2,36 +2,36 @@
 
 #![tactic(auto)]
 
-ghost use Rattle.std.specs.Prelude.{◌≡◌, ◌&&◌, eqb};
+ghost use Rattle.std.specs.Prelude.{◌≡◌};
 ghost use Rattle.formula.specs.Marks.{mark_of};
 ghost use Rattle.formula.specs.Heads.{opens, opening_of};
 
-use formula::{Base, Kind, LETTERS, Mark, Opening};
+use formula::{Base, Kind, Mark, Opening};
 use formula_atoms::atom_opening;
 use formula_delimiters::{fence_opening, root_opening};
 use formula_numbers::{fraction_opening, kern_opening, style_opening};
 
-// The marks, in the order of their letters.
-const MARKS: [Mark; 9] = [
-    Mark::AT,
-    Mark::OV,
-    Mark::UN,
-    Mark::FR,
-    Mark::KN,
-    Mark::ST,
-    Mark::C4,
-    Mark::RD,
-    Mark::FE,
+// The letters of each mark.
+const MARKS: [([u8; 2], Mark); 9] = [
+    (*b"AT", Mark::AT),
+    (*b"OV", Mark::OV),
+    (*b"UN", Mark::UN),
+    (*b"FR", Mark::FR),
+    (*b"KN", Mark::KN),
+    (*b"ST", Mark::ST),
+    (*b"C4", Mark::C4),
+    (*b"RD", Mark::RD),
+    (*b"FE", Mark::FE),
 ];
 
 // What opens with the first byte of s.
 pub fn opening(s: &[u8]) -> Opening
     ensures { result ≡ opening_of s.now }
 {
-    if s.len() < 2 {
+    let [a, b, rest @ ..] = s else {
         return Opening::NoItem;
-    }
-    opened(mark(s[0], s[1]), &s[2..])
+    };
+    opened(mark(*a, *b), rest)
 }
 
 // What opens behind a mark.
@@ -52,22 +52,13 @@ fn opened(mark: Mark, s: &[u8]) -> Opening
     }
 }
 
-fn both(a: u8, b: u8, x: u8, y: u8) -> bool
-    ensures { result ≡ (eqb a x && eqb b y) }
-{
-    if a == x { b == y } else { false }
-}
-
 fn mark(a: u8, b: u8) -> Mark
     ensures { result ≡ mark_of a b }
 {
-    let mut i: usize = 0;
-    while i < MARKS.len() {
-        let found = MARKS[i];
-        if both(a, b, LETTERS[i][0], LETTERS[i][1]) {
-            return found;
+    for (letters, mark) in &MARKS {
+        if [a, b] == *letters {
+            return *mark;
         }
-        i += 1;
     }
     Mark::Unknown
 }

@@ -1,11 +1,7 @@
-use mathlib.Core.Path.{◌≡◌}
-use Prim.Native.Nat.{◌-◌, ◌≤◌}
-use lib.ListN.{length, drop}
+-- The rows from `letters-index` on have the mark. Assumes nothing.
+use Rattle.std.proofs.Common.{◌≡◌, drop}
 use Rattle.formula.specs.Marks.{rows, mark_in, mark_of}
 use Rattle.formula_openings.proofs.mark.Given as goal
 
-abbrev pub invariant-loop-i : goal.invariant-loop-i
-invariant-loop-i l = (l.i ≤ length rows) × (mark_in (drop l.i rows) l.a l.b ≡ mark_of l.a l.b)
-
-abbrev pub decreases-loop-i : goal.decreases-loop-i
-decreases-loop-i l = length rows - l.i
+abbrev pub invariant-loop-letters : goal.invariant-loop-letters
+invariant-loop-letters l = mark_in (drop l.letters-index rows) l.a l.b ≡ mark_of l.a l.b
