@@ -16,10 +16,10 @@ ghost use Rattle.boxes.specs.Bounds.{ModerateShape, Bounded};
 ghost use Rattle.nucleus.specs.Bounds.{ModerateNucleus};
 
 use arrange_rules::{fence_nucleus, root_nucleus};
-use boxes::parameters::{AXIS_HEIGHT, Parameters, parameter, rule_thickness};
+use boxes::parameters::{Dimension, Parameters, parameter, rule_thickness};
 use boxes::styles::{
-    Style, cramped_style, denominator_style, font_size, is_display, numerator_style,
-    subscript_style, superscript_style,
+    Style, cramped_style, denominator_style, is_display, numerator_style, subscript_style,
+    superscript_style,
 };
 use boxes::{Arranged, Shape, given, size_of};
 use delimiters::{HasSigns, Signs, sign_size};
@@ -107,7 +107,7 @@ pub fn arrange(
             let subscript = given(z);
             let n = nucleus_of(p, style, base, signs, subscript.is_some(), x);
             if sets_limits(style, base) {
-                limited(p, font_size(style), n, superscript, subscript)
+                limited(p, style, n, superscript, subscript)
             } else {
                 scripted(p, style, n, superscript, subscript)
             }
@@ -141,7 +141,7 @@ fn nucleus_of(
 {
     match base {
         Base::Atom(class, limits) => {
-            let axis = parameter(p, font_size(style), AXIS_HEIGHT);
+            let axis = parameter(p, style, Dimension::AxisHeight);
             let as_limits = has_limits(style, class, limits);
             atom_nucleus(axis, is_op(class), as_limits, subscript, x)
         }
@@ -174,7 +174,7 @@ pub fn own_counts(p: &Parameters, style: Style, kind: Kind, found: HasSigns) -> 
         Kind::Scripted(base) => base_counts(base, found),
         Kind::Fraction(bar) => OwnCounts {
             before: 0,
-            behind: usize::from(has_bar(bar_thickness(p, font_size(style), bar))),
+            behind: usize::from(has_bar(bar_thickness(p, style, bar))),
         },
     }
 }

@@ -1,11 +1,13 @@
 -- What the values of the code stand for in the definitions: each struct and enum is read by a function of its own.
 -- Assumes nothing.
-use Rattle.std.specs.Prelude.{List, [], ◌∷◌, ◌++◌, Option, Some, None}
+use Rattle.std.specs.Prelude.{List, [], ◌∷◌, ◌++◌, ℕ, Option, Some, None}
 use Rattle.std.proofs.Math.Option.{none, some}
 use Rattle.std.proofs.Math.Option.{Option as OptionOf}
 use Rattle.font.specs.Values.{metrics_as}
 unfoldable pub use Rattle.font.specs.Values.{parameters_in}
 use Rattle.boxes.specs.declared.styles.Style.{Style}
+use Rattle.boxes.specs.declared.parameters.Dimension.{Dimension}
+use Rattle.boxes.specs.declared.parameters.Dimension.TheVariants.{XHeight, Quad, Num1, Num2, Num3, Denom1, Denom2, Sup1, Sup2, Sup3, Sub1, Sub2, SupDrop, SubDrop, AxisHeight, RuleThickness, BigOpSpacing1, BigOpSpacing2, BigOpSpacing3, BigOpSpacing4, BigOpSpacing5}
 use Rattle.boxes.specs.declared.Size.{Size}
 use Rattle.boxes.specs.declared.Shape.{Shape}
 use Rattle.boxes.specs.declared.Shape.TheVariants.{Nothing, Char, Box}
@@ -22,6 +24,30 @@ use Rattle.boxes.specs.Boxes.{Size as SizeOf, Shape as ShapeOf, Offset as Offset
 abbrev pub numbered_as : Option Style → OptionOf Style
 numbered_as None = none
 numbered_as (Some s) = some s
+
+-- the number of a parameter in its row
+abbrev pub number_of : Dimension → ℕ
+number_of XHeight = 4
+number_of Quad = 5
+number_of Num1 = 7
+number_of Num2 = 8
+number_of Num3 = 9
+number_of Denom1 = 10
+number_of Denom2 = 11
+number_of Sup1 = 12
+number_of Sup2 = 13
+number_of Sup3 = 14
+number_of Sub1 = 15
+number_of Sub2 = 16
+number_of SupDrop = 17
+number_of SubDrop = 18
+number_of AxisHeight = 21
+number_of RuleThickness = 29
+number_of BigOpSpacing1 = 30
+number_of BigOpSpacing2 = 31
+number_of BigOpSpacing3 = 32
+number_of BigOpSpacing4 = 33
+number_of BigOpSpacing5 = 34
 
 abbrev pub size_as : Size → SizeOf
 size_as z = record { width = z.width.0; height = z.height.0; depth = z.depth.0 }

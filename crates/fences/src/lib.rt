@@ -15,8 +15,8 @@ ghost use Rattle.fences.specs.Fences as rule;
 ghost use Rattle.fences.specs.Values.{fence_as};
 ghost use Rattle.fences.specs.Bounds.{ModerateFence};
 
-use boxes::parameters::{AXIS_HEIGHT, Parameters, parameter};
-use boxes::styles::{Style, font_size};
+use boxes::parameters::{Dimension, Parameters, parameter};
+use boxes::styles::Style;
 use boxes::{Offset, Size};
 use scaled::Sp;
 
@@ -55,7 +55,7 @@ pub fn fence_of(p: &Parameters, style: Style, y: Size, x: Size, z: Size) -> Fenc
 fn axis_height(p: &Parameters, style: Style) -> Sp
     ensures { (result.0 ≡ axis_height (parameters_in p.now) (font_size style)) × Within (words 1) result.0 }
 {
-    parameter(p, font_size(style), AXIS_HEIGHT)
+    parameter(p, style, Dimension::AxisHeight)
 }
 
 // δ: how far a list extends away from the axis.

@@ -4,17 +4,16 @@
 
 pub mod why;
 
-ghost use Rattle.std.specs.Prelude.{◌≡◌, ◌<◌};
+ghost use Rattle.std.specs.Prelude.{◌≡◌};
 ghost use Rattle.scaled.specs.Signed.{Within};
 ghost use Rattle.fractions.specs.Fractions.{bar_thickness, numerator_up, denominator_down, fraction_shifts, shifts_without_bar, least_from_bar, shifts_with_bar, final_shifts, across_of};
 ghost use Rattle.fractions.specs.Fractions as rule;
+ghost use Rattle.boxes.specs.Styles.{font_size};
 ghost use Rattle.boxes.specs.Values.{parameters_in, size_as, shifts_as, own_as, arranged_as};
 ghost use Rattle.boxes.specs.Bounds.{words, item_words, Moderate, ShiftsWithin, OwnWithin, Bounded};
 
-use boxes::parameters::{
-    AXIS_HEIGHT, DENOM1, DENOM2, NUM1, NUM2, NUM3, Parameters, RULE_THICKNESS, parameter,
-};
-use boxes::styles::{Style, font_size, is_display};
+use boxes::parameters::{Dimension, Parameters, parameter};
+use boxes::styles::{Style, is_display};
 use boxes::{Arranged, NULL_DELIMITER_WIDTH, Offset, Own, Shifts, Size, centred, origin};
 use formula::Bar;
 use fractions::{bar_of, cleared, enclosed, has_bar, least_clearance, rules_clear};
@@ -25,8 +24,7 @@ pub fn fraction(p: &Parameters, style: Style, bar: Bar, x: Size, z: Size) -> Arr
     requires { Moderate x × Moderate z }
     ensures { (arranged_as result ≡ rule.fraction (parameters_in p.now) style bar (size_as x) (size_as z)) × Bounded result }
 {
-    let size = font_size(style);
-    let theta = bar_thickness(p, size, bar);
+    let theta = bar_thickness(p, style, bar);
     let t = final_shifts(p, style, theta, x, z);
     let w = x.width.max(z.width);
     stacked(
@@ -34,17 +32,16 @@ pub fn fraction(p: &Parameters, style: Style, bar: Bar, x: Size, z: Size) -> Arr
         z,
         w,
         t,
-        bar_of(parameter(p, size, AXIS_HEIGHT), theta, w),
+        bar_of(parameter(p, style, Dimension::AxisHeight), theta, w),
     )
 }
 
 // 15: with thickness 0 there is no bar.
-pub fn bar_thickness(p: &Parameters, size: usize, bar: Bar) -> Sp
-    requires { size < 3 }
-    ensures { (result.0 ≡ bar_thickness (parameters_in p.now) size bar) × Within (words 1) result.0 }
+pub fn bar_thickness(p: &Parameters, style: Style, bar: Bar) -> Sp
+    ensures { (result.0 ≡ bar_thickness (parameters_in p.now) (font_size style) bar) × Within (words 1) result.0 }
 {
     match bar {
-        Bar::Default => parameter(p, size, RULE_THICKNESS),
+        Bar::Default => parameter(p, style, Dimension::RuleThickness),
         Bar::Without => Sp(0),
     }
 }
@@ -55,7 +52,7 @@ fn final_shifts(p: &Parameters, style: Style, theta: Sp, x: Size, z: Size) -> Sh
 {
     let t = fraction_shifts(p, style, theta);
     if has_bar(theta) {
-        let axis = parameter(p, font_size(style), AXIS_HEIGHT);
+        let axis = parameter(p, style, Dimension::AxisHeight);
         shifts_with_bar(axis, theta, least_from_bar(style, theta), x, z, t)
     } else {
         shifts_without_bar(p, style, x, z, t)
@@ -77,13 +74,12 @@ fn fraction_shifts(p: &Parameters, style: Style, theta: Sp) -> Shifts
 fn numerator_up(p: &Parameters, style: Style, theta: Sp) -> Sp
     ensures { (result.0 ≡ numerator_up (parameters_in p.now) style theta.0) × Within (words 1) result.0 }
 {
-    let size = font_size(style);
     if is_display(style) {
-        parameter(p, size, NUM1)
+        parameter(p, style, Dimension::Num1)
     } else if has_bar(theta) {
-        parameter(p, size, NUM2)
+        parameter(p, style, Dimension::Num2)
     } else {
-        parameter(p, size, NUM3)
+        parameter(p, style, Dimension::Num3)
     }
 }
 
@@ -91,11 +87,10 @@ fn numerator_up(p: &Parameters, style: Style, theta: Sp) -> Sp
 fn denominator_down(p: &Parameters, style: Style) -> Sp
     ensures { (result.0 ≡ denominator_down (parameters_in p.now) style) × Within (words 1) result.0 }
 {
-    let size = font_size(style);
     if is_display(style) {
-        parameter(p, size, DENOM1)
+        parameter(p, style, Dimension::Denom1)
     } else {
-        parameter(p, size, DENOM2)
+        parameter(p, style, Dimension::Denom2)
     }
 }
 

@@ -2,10 +2,11 @@
 
 #![tactic(auto)]
 
-ghost use Rattle.std.specs.Prelude.{◌≡◌, ◌<◌};
+ghost use Rattle.std.specs.Prelude.{◌≡◌};
 ghost use Rattle.scaled.specs.Signed.{Within};
 ghost use Rattle.limits.specs.Limits.{limits_in, has_limits, width_of};
 ghost use Rattle.limits.specs.Limits as rule;
+ghost use Rattle.boxes.specs.Styles.{font_size};
 ghost use Rattle.boxes.specs.Values.{parameters_in, script_as, arranged_as};
 ghost use Rattle.nucleus.specs.Values.{nucleus_as};
 ghost use Rattle.limits.specs.Values.{distances_as, side_as};
@@ -13,10 +14,7 @@ ghost use Rattle.boxes.specs.Bounds.{words, ModerateScript, Bounded};
 ghost use Rattle.nucleus.specs.Bounds.{ModerateNucleus};
 ghost use Rattle.limits.specs.Bounds.{RoomWithin, DistancesWithin, SideWithin};
 
-use boxes::parameters::{
-    BIG_OP_SPACING1, BIG_OP_SPACING2, BIG_OP_SPACING3, BIG_OP_SPACING4, BIG_OP_SPACING5,
-    Parameters, parameter,
-};
+use boxes::parameters::{Dimension, Parameters, parameter};
 use boxes::styles::{Style, is_display};
 use boxes::{Arranged, Offset, Size, centred};
 use formula::{Class, Limits};
@@ -44,26 +42,26 @@ fn limits_in(style: Style, limits: Limits) -> bool
 #[tactic(auto, unfolding(crate::specs::Limits::limited))]
 pub fn limited(
     p: &Parameters,
-    size: usize,
+    style: Style,
     n: Nucleus,
     superscript: Option<Size>,
     subscript: Option<Size>,
 ) -> Arranged
-    requires { (size < 3) × ModerateNucleus n × ModerateScript superscript × ModerateScript subscript }
-    ensures { (arranged_as result ≡ rule.limited (parameters_in p.now) size (nucleus_as n) (script_as superscript) (script_as subscript)) × Bounded result }
+    requires { ModerateNucleus n × ModerateScript superscript × ModerateScript subscript }
+    ensures { (arranged_as result ≡ rule.limited (parameters_in p.now) (font_size style) (nucleus_as n) (script_as superscript) (script_as subscript)) × Bounded result }
 {
     let w = widest(n.size.width, superscript, subscript);
     let right = n.delta.half();
-    let blank = parameter(p, size, BIG_OP_SPACING5);
+    let blank = parameter(p, style, Dimension::BigOpSpacing5);
     let above = Room {
-        gap: parameter(p, size, BIG_OP_SPACING1),
-        distance: parameter(p, size, BIG_OP_SPACING3),
+        gap: parameter(p, style, Dimension::BigOpSpacing1),
+        distance: parameter(p, style, Dimension::BigOpSpacing3),
         blank,
     };
     let over = one_side(above, n.size.height, w, right, superscript);
     let below = Room {
-        gap: parameter(p, size, BIG_OP_SPACING2),
-        distance: parameter(p, size, BIG_OP_SPACING4),
+        gap: parameter(p, style, Dimension::BigOpSpacing2),
+        distance: parameter(p, style, Dimension::BigOpSpacing4),
         blank,
     };
     let under = one_side(below, n.size.depth, w, right.negated(), turned(subscript));

@@ -11,8 +11,8 @@ ghost use Rattle.roots.specs.Roots as rule;
 ghost use Rattle.roots.specs.Values.{radical_as};
 ghost use Rattle.roots.specs.Bounds.{ModerateRadical};
 
-use boxes::parameters::{Parameters, RULE_THICKNESS, X_HEIGHT, parameter};
-use boxes::styles::{Style, font_size, is_display};
+use boxes::parameters::{Dimension, Parameters, parameter};
+use boxes::styles::{Style, is_display};
 use boxes::{Offset, Rule, Size};
 use scaled::Sp;
 
@@ -33,7 +33,7 @@ pub fn sign_extent(p: &Parameters, style: Style, x: Size) -> Sp
     x.height
         .plus(x.depth)
         .plus(least_clearance(p, style))
-        .plus(parameter(p, font_size(style), RULE_THICKNESS))
+        .plus(parameter(p, style, Dimension::RuleThickness))
 }
 
 #[tactic(auto, unfolding(crate::specs::Roots::root))]
@@ -49,10 +49,9 @@ pub fn root(p: &Parameters, style: Style, x: Size, y: Size) -> Radical
 fn least_clearance(p: &Parameters, style: Style) -> Sp
     ensures { (result.0 ≡ least_clearance (parameters_in p.now) style) × Within (words 2) result.0 }
 {
-    let size = font_size(style);
-    let theta = parameter(p, size, RULE_THICKNESS);
+    let theta = parameter(p, style, Dimension::RuleThickness);
     if is_display(style) {
-        theta.plus(parameter(p, size, X_HEIGHT).quarter())
+        theta.plus(parameter(p, style, Dimension::XHeight).quarter())
     } else {
         theta.plus(theta.quarter())
     }

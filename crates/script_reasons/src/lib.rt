@@ -2,20 +2,21 @@
 
 #![tactic(auto)]
 
-ghost use Rattle.std.specs.Prelude.{◌≡◌, ◌<◌};
+ghost use Rattle.std.specs.Prelude.{◌≡◌};
 ghost use Rattle.scaled.specs.Signed.{Within};
 ghost use Rattle.reasons.specs.Values.{shift_reason_as, reasons_as, item_reasons_as};
 ghost use Rattle.scripts.specs.Scripts.{greatest as greatestOf};
 ghost use Rattle.script_reasons.specs.Reasons as rule;
 ghost use Rattle.scripts.specs.Values.{candidates_as};
 ghost use Rattle.scripts.specs.Bounds.{CandidatesWithin};
+ghost use Rattle.boxes.specs.Styles.{font_size};
 ghost use Rattle.boxes.specs.Values.{parameters_in, size_as, script_as, shifts_as};
 ghost use Rattle.nucleus.specs.Values.{nucleus_as};
 ghost use Rattle.boxes.specs.Bounds.{words, Moderate, ModerateScript, ShiftsWithin};
 ghost use Rattle.nucleus.specs.Bounds.{ModerateNucleus};
 
 use boxes::parameters::Parameters;
-use boxes::styles::{Style, font_size};
+use boxes::styles::Style;
 use boxes::{Shifts, Size};
 use nucleus::Nucleus;
 use reasons::{Reason, Reasons, ShiftReason, corrected, unshifted};
@@ -79,12 +80,12 @@ fn first_greatest(c: Candidates, most: Sp) -> Reason
 
 // 18e: v after the gap has been seen to, and before ψ is looked at.
 #[tactic(auto, unfolding(crate::specs::Reasons::widened))]
-fn widened(p: &Parameters, size: usize, x: Size, y: Size, t: Shifts) -> Sp
-    requires { (size < 3) × Moderate x × Moderate y × ShiftsWithin 8 t }
-    ensures { result.0 ≡ rule.widened (parameters_in p.now) size (size_as x) (size_as y) (shifts_as t) }
+fn widened(p: &Parameters, style: Style, x: Size, y: Size, t: Shifts) -> Sp
+    requires { Moderate x × Moderate y × ShiftsWithin 8 t }
+    ensures { result.0 ≡ rule.widened (parameters_in p.now) (font_size style) (size_as x) (size_as y) (shifts_as t) }
 {
-    if gap(x, y, t) < four_rules(p, size) {
-        gap_down(p, size, x, y, t.up)
+    if gap(x, y, t) < four_rules(p, style) {
+        gap_down(p, style, x, y, t.up)
     } else {
         t.down
     }
@@ -102,7 +103,7 @@ fn pair_reasons(p: &Parameters, style: Style, n: Nucleus, x: Size, y: Size) -> R
         up: up.shift,
         down: down.shift,
     };
-    let apart = widened(p, font_size(style), x, y, first);
+    let apart = widened(p, style, x, y, first);
     let t = pair_shifts(p, style, n, x, y);
     Reasons {
         up: corrected(Reason::Psi, t.up, up),

@@ -2,21 +2,20 @@
 
 #![tactic(auto)]
 
-ghost use Rattle.std.specs.Prelude.{◌≡◌, ◌<◌};
+ghost use Rattle.std.specs.Prelude.{◌≡◌};
 ghost use Rattle.scaled.specs.Signed.{Within};
 ghost use Rattle.scripts.specs.Scripts.{quarter_xheight, four_fifths_xheight, subscript_candidates, least_up, superscript_candidates, pair_candidates, four_rules, gap_down, ψ_of, pair_shifts};
 ghost use Rattle.scripts.specs.Scripts as rule;
 ghost use Rattle.scripts.specs.Values.{candidates_as};
 ghost use Rattle.scripts.specs.Bounds.{CandidatesWithin};
+ghost use Rattle.boxes.specs.Styles.{font_size};
 ghost use Rattle.boxes.specs.Values.{parameters_in, size_as, shifts_as};
 ghost use Rattle.nucleus.specs.Values.{nucleus_as};
 ghost use Rattle.boxes.specs.Bounds.{words, Moderate, ShiftsWithin};
 ghost use Rattle.nucleus.specs.Bounds.{ModerateNucleus};
 
-use boxes::parameters::{
-    Parameters, RULE_THICKNESS, SUB1, SUB2, SUP1, SUP2, SUP3, X_HEIGHT, parameter,
-};
-use boxes::styles::{Style, font_size, is_display};
+use boxes::parameters::{Dimension, Parameters, parameter};
+use boxes::styles::{Style, is_display};
 use boxes::{Shifts, Size};
 use nucleus::Nucleus;
 use scaled::Sp;
@@ -28,11 +27,10 @@ pub fn subscript_candidates(p: &Parameters, style: Style, n: Nucleus, y: Size) -
     requires { ModerateNucleus n × Moderate y }
     ensures { (candidates_as result ≡ subscript_candidates (parameters_in p.now) style (nucleus_as n) (size_as y)) × CandidatesWithin 8 result }
 {
-    let size = font_size(style);
     Candidates {
         dropped: drops(p, style, n).down,
-        least: parameter(p, size, SUB1),
-        free: Some(y.height.minus(four_fifths_x_height(p, size))),
+        least: parameter(p, style, Dimension::Sub1),
+        free: Some(y.height.minus(four_fifths_x_height(p, style))),
     }
 }
 
@@ -45,7 +43,7 @@ pub fn superscript_candidates(p: &Parameters, style: Style, n: Nucleus, x: Size)
     Candidates {
         dropped: drops(p, style, n).up,
         least: least_up(p, style),
-        free: Some(x.depth.plus(quarter_x_height(p, font_size(style)))),
+        free: Some(x.depth.plus(quarter_x_height(p, style))),
     }
 }
 
@@ -54,13 +52,12 @@ pub fn superscript_candidates(p: &Parameters, style: Style, n: Nucleus, x: Size)
 fn least_up(p: &Parameters, style: Style) -> Sp
     ensures { (result.0 ≡ least_up (parameters_in p.now) style) × Within (words 1) result.0 }
 {
-    let size = font_size(style);
     if style.cramped {
-        parameter(p, size, SUP3)
+        parameter(p, style, Dimension::Sup3)
     } else if is_display(style) {
-        parameter(p, size, SUP1)
+        parameter(p, style, Dimension::Sup1)
     } else {
-        parameter(p, size, SUP2)
+        parameter(p, style, Dimension::Sup2)
     }
 }
 
@@ -72,7 +69,7 @@ pub fn pair_candidates(p: &Parameters, style: Style, n: Nucleus) -> Candidates
 {
     Candidates {
         dropped: drops(p, style, n).down,
-        least: parameter(p, font_size(style), SUB2),
+        least: parameter(p, style, Dimension::Sub2),
         free: None,
     }
 }
@@ -87,20 +84,20 @@ pub fn pair_shifts(p: &Parameters, style: Style, n: Nucleus, x: Size, y: Size) -
         up: greatest(superscript_candidates(p, style, n, x)),
         down: greatest(pair_candidates(p, style, n)),
     };
-    spread(p, font_size(style), x, y, first)
+    spread(p, style, x, y, first)
 }
 
 // 18e: where the gap is too small, the subscript goes down until it is four rules, and then both go up by ψ.
 #[tactic(auto, unfolding(scripts::specs::Scripts::spread))]
-fn spread(p: &Parameters, size: usize, x: Size, y: Size, t: Shifts) -> Shifts
-    requires { (size < 3) × Moderate x × Moderate y × ShiftsWithin 8 t }
-    ensures { (shifts_as result ≡ rule.spread (parameters_in p.now) size (size_as x) (size_as y) (shifts_as t)) × ShiftsWithin 24 result }
+fn spread(p: &Parameters, style: Style, x: Size, y: Size, t: Shifts) -> Shifts
+    requires { Moderate x × Moderate y × ShiftsWithin 8 t }
+    ensures { (shifts_as result ≡ rule.spread (parameters_in p.now) (font_size style) (size_as x) (size_as y) (shifts_as t)) × ShiftsWithin 24 result }
 {
-    let least = four_rules(p, size);
+    let least = four_rules(p, style);
     if gap(x, y, t) < least {
-        let psi = psi_of(p, size, x, t.up);
+        let psi = psi_of(p, style, x, t.up);
         let apart = Shifts {
-            down: gap_down(p, size, x, y, t.up),
+            down: gap_down(p, style, x, y, t.up),
             ..t
         };
         lifted(psi, apart)
@@ -119,38 +116,35 @@ pub fn gap(x: Size, y: Size, t: Shifts) -> Sp
 
 // 18e: the v with which the gap is four rules.
 #[tactic(auto, unfolding(scripts::specs::Scripts::gap_down))]
-pub fn gap_down(p: &Parameters, size: usize, x: Size, y: Size, u: Sp) -> Sp
-    requires { (size < 3) × Moderate x × Moderate y × Within (words 8) u.0 }
-    ensures { (result.0 ≡ gap_down (parameters_in p.now) size (size_as x) (size_as y) u.0) × Within (words 14) result.0 }
+pub fn gap_down(p: &Parameters, style: Style, x: Size, y: Size, u: Sp) -> Sp
+    requires { Moderate x × Moderate y × Within (words 8) u.0 }
+    ensures { (result.0 ≡ gap_down (parameters_in p.now) (font_size style) (size_as x) (size_as y) u.0) × Within (words 14) result.0 }
 {
-    four_rules(p, size).minus(u.minus(x.depth)).plus(y.height)
+    four_rules(p, style).minus(u.minus(x.depth)).plus(y.height)
 }
 
 // 18e: how far the superscript's bottom lies below four fifths of the x-height.
-fn psi_of(p: &Parameters, size: usize, x: Size, u: Sp) -> Sp
-    requires { (size < 3) × Moderate x × Within (words 8) u.0 }
-    ensures { (result.0 ≡ ψ_of (parameters_in p.now) size (size_as x) u.0) × Within (words 10) result.0 }
+fn psi_of(p: &Parameters, style: Style, x: Size, u: Sp) -> Sp
+    requires { Moderate x × Within (words 8) u.0 }
+    ensures { (result.0 ≡ ψ_of (parameters_in p.now) (font_size style) (size_as x) u.0) × Within (words 10) result.0 }
 {
-    four_fifths_x_height(p, size).minus(u.minus(x.depth))
+    four_fifths_x_height(p, style).minus(u.minus(x.depth))
 }
 
-fn quarter_x_height(p: &Parameters, size: usize) -> Sp
-    requires { size < 3 }
-    ensures { (result.0 ≡ quarter_xheight (parameters_in p.now) size) × Within (words 1) result.0 }
+fn quarter_x_height(p: &Parameters, style: Style) -> Sp
+    ensures { (result.0 ≡ quarter_xheight (parameters_in p.now) (font_size style)) × Within (words 1) result.0 }
 {
-    parameter(p, size, X_HEIGHT).quarter()
+    parameter(p, style, Dimension::XHeight).quarter()
 }
 
-fn four_fifths_x_height(p: &Parameters, size: usize) -> Sp
-    requires { size < 3 }
-    ensures { (result.0 ≡ four_fifths_xheight (parameters_in p.now) size) × Within (words 1) result.0 }
+fn four_fifths_x_height(p: &Parameters, style: Style) -> Sp
+    ensures { (result.0 ≡ four_fifths_xheight (parameters_in p.now) (font_size style)) × Within (words 1) result.0 }
 {
-    parameter(p, size, X_HEIGHT).times(4).fifth()
+    parameter(p, style, Dimension::XHeight).times(4).fifth()
 }
 
-pub fn four_rules(p: &Parameters, size: usize) -> Sp
-    requires { size < 3 }
-    ensures { (result.0 ≡ four_rules (parameters_in p.now) size) × Within (words 4) result.0 }
+pub fn four_rules(p: &Parameters, style: Style) -> Sp
+    ensures { (result.0 ≡ four_rules (parameters_in p.now) (font_size style)) × Within (words 4) result.0 }
 {
-    parameter(p, size, RULE_THICKNESS).times(4)
+    parameter(p, style, Dimension::RuleThickness).times(4)
 }

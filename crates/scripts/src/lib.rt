@@ -14,8 +14,8 @@ ghost use Rattle.boxes.specs.Bounds.{words, ShiftsWithin};
 ghost use Rattle.nucleus.specs.Bounds.{ModerateNucleus};
 
 use boxes::Shifts;
-use boxes::parameters::{Parameters, SUB_DROP, SUP_DROP, parameter};
-use boxes::styles::{Style, font_size, superscript_style};
+use boxes::parameters::{Dimension, Parameters, parameter};
+use boxes::styles::{Style, superscript_style};
 use nucleus::Nucleus;
 use scaled::Sp;
 
@@ -31,10 +31,10 @@ pub fn drops(p: &Parameters, style: Style, n: Nucleus) -> Shifts
             down: Sp(0),
         };
     }
-    let size = font_size(superscript_style(style));
+    let style = superscript_style(style);
     Shifts {
-        up: n.size.height.minus(parameter(p, size, SUP_DROP)),
-        down: n.size.depth.plus(parameter(p, size, SUB_DROP)),
+        up: n.size.height.minus(parameter(p, style, Dimension::SupDrop)),
+        down: n.size.depth.plus(parameter(p, style, Dimension::SubDrop)),
     }
 }
 

@@ -12,8 +12,8 @@ ghost use Rattle.spacing.specs.Spacing.{chart, space_before};
 ghost use Rattle.boxes.specs.Values.{parameters_in};
 ghost use Rattle.spacing.specs.Values.{neighbour_as, Digits};
 
-use boxes::parameters::{Parameters, QUAD, parameter};
-use boxes::styles::{Style, font_size, is_large};
+use boxes::parameters::{Dimension, Parameters, parameter};
+use boxes::styles::{Style, is_large};
 use formula::Class;
 use scaled::{Mu, Sp};
 
@@ -38,7 +38,7 @@ pub fn space_before(p: &Parameters, style: Style, left: Option<Class>, right: Cl
     match left {
         None => Sp(0),
         Some(class) => {
-            let quad = parameter(p, font_size(style), QUAD);
+            let quad = parameter(p, style, Dimension::Quad);
             Mu(units(is_large(style), class, right) as i64).at(quad)
         }
     }
