@@ -88,7 +88,7 @@ fn search_sizes(font: &Font, size: u8, family: u8, code: u8, needed: Sp, far: Se
     seen
 }
 
-// The chain is followed symbol by symbol, until one suffices or no step is left.
+// The chain is followed symbol by symbol, until one suffices or no step is left. Document 01 names this recursion for a chain.
 #[tactic(auto, using(crate::proofs::ChainLaws::chain_ways, crate::proofs::LookingLaws::looked_enough), unfolding(crate::specs::Looking::looked_at))]
 fn follow(
     font: &Font,
