@@ -43,8 +43,6 @@ pub const ALWAYS: u8 = 1;
 
 pub const DEFAULT_BAR: u8 = 0;
 
-pub const WITHOUT_BAR: u8 = 1;
-
 // The greatest numbers: of a class, of a kern either way, of a style, of a family.
 pub const GREATEST_CLASS: u8 = 7;
 

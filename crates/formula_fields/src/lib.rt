@@ -78,9 +78,10 @@ pub fn fields_end(s: &[u8], kind: Kind) -> usize
     let second = field_end(s, opening_bytes(kind));
     let third = field_end(s, second);
     if has_third(kind) {
-        return field_end(s, third);
+        field_end(s, third)
+    } else {
+        third
     }
-    third
 }
 
 // Where the list of a choice stands that has n before it; with all four before it, where the choice ends.

@@ -24,8 +24,7 @@ fn base_bytes(base: Base) -> usize
 {
     match base {
         Base::Atom(_, _) => 4,
-        Base::Over => 2,
-        Base::Under => 2,
+        Base::Over | Base::Under => 2,
         Base::Root(_) => 6,
         Base::Fence(_, _) => 10,
     }
