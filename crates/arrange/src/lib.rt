@@ -5,7 +5,7 @@
 pub mod why;
 
 ghost use Rattle.std.specs.Prelude.{◌≡◌};
-ghost use Rattle.arrange.specs.Arrange.{base_style, first_style, second_style, third_style, first_manner};
+ghost use Rattle.arrange.specs.Arrange.{first_style, second_style, third_style, first_manner};
 ghost use Rattle.arrange_rules.specs.Arrange.{sets_limits, nucleus_of, base_counts};
 ghost use Rattle.arrange_rules.specs.Arrange as rule;
 ghost use Rattle.boxes.specs.Values.{parameters_in, shape_as, arranged_as};
@@ -39,17 +39,9 @@ pub fn first_style(kind: Kind, style: Style) -> Style
     ensures { result ≡ first_style kind style }
 {
     match kind {
-        Kind::Scripted(base) => base_style(base, style),
+        Kind::Scripted(Base::Over | Base::Root(_)) => cramped_style(style),
+        Kind::Scripted(_) => style,
         Kind::Fraction(_) => numerator_style(style),
-    }
-}
-
-fn base_style(base: Base, style: Style) -> Style
-    ensures { result ≡ base_style base style }
-{
-    match base {
-        Base::Over | Base::Root(_) => cramped_style(style),
-        Base::Atom(_, _) | Base::Under | Base::Fence(_, _) => style,
     }
 }
 
