@@ -6,8 +6,8 @@ pub returns : goal.returns
 returns c =
     record {
       class_is = rw c.class_of.ensures at c.changed_class-class.ensures;
-      space = rw c.space_before.ensures.0 at c.space_before.ensures.1;
-      x_is = rw c.space_before.ensures.0 at c.plus-across.ensures.is;
-      arranged_is = c.arrange-arranged.ensures.0;
-      bounded = c.arrange-arranged.ensures.1;
+      space = rw c.space_before-space.ensures.0 at c.space_before-space.ensures.1;
+      x_is = rw c.space_before-space.ensures.0 at c.plus.ensures.is;
+      arranged_is = c.arrange.ensures.0;
+      bounded = c.arrange.ensures.1;
     }

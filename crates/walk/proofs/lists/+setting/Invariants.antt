@@ -2,10 +2,10 @@
 -- so far is `Along`; of the loop from choice to choice: whatever had been set before it, more of that has been by now.
 -- Assumes nothing.
 use Rattle.std.proofs.Common.{ℕ, ◌+◌, ◌-◌, ◌*◌, List, length}
-use Rattle.font.specs.Font.{font_with}
+use Rattle.font.specs.Font.{font_in}
 use Rattle.spacing.specs.Values.{neighbour_as}
 use Rattle.walk.specs.Walked.{Along, StopsAt}
-use Rattle.walk.proofs.lists.+set_choice_set_field_set_given_set_item_set_items_set_noad_set_onward_set_second_set_stretch_set_third.Given as goal
+use Rattle.walk.proofs.lists.+setting.Given as goal
 
 abbrev pub decreases-set_choice : goal.decreases-set_choice
 decreases-set_choice l = 10 * length l.s.now + 2
@@ -39,14 +39,14 @@ decreases-set_third l = 10 * length l.s.now + 2
 
 abbrev pub invariant-set_stretch-loop-at : goal.invariant-set_stretch-loop-at
 invariant-set_stretch-loop-at l =
-    Along (font_with l.table l.client) (neighbour_as l.beyond) l.s l.line l.initial.buf l.at l.l l.buf
+    Along (font_in l.font) (neighbour_as l.beyond) l.s l.line l.initial.buf l.at l.l l.buf
 
 abbrev pub decreases-set_stretch-loop-at : goal.decreases-set_stretch-loop-at
 decreases-set_stretch-loop-at l = length l.s - l.at
 
 abbrev pub invariant-set_items-loop-at : goal.invariant-set_items-loop-at
 invariant-set_items-loop-at l =
-    ((b : List ℕ) → Along (font_with l.table l.client) (neighbour_as l.beyond) l.s l.line b l.initial.at l.initial.l l.initial.buf → Along (font_with l.table l.client) (neighbour_as l.beyond) l.s l.line b l.at l.l l.buf)
+    ((b : List ℕ) → Along (font_in l.font) (neighbour_as l.beyond) l.s l.line b l.initial.at l.initial.l l.initial.buf → Along (font_in l.font) (neighbour_as l.beyond) l.s l.line b l.at l.l l.buf)
     × StopsAt l.s l.at
 
 abbrev pub decreases-set_items-loop-at : goal.decreases-set_items-loop-at

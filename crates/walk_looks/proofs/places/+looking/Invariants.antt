@@ -3,7 +3,7 @@
 use Rattle.std.proofs.Common.{◌+◌, ◌-◌, ◌*◌, length}
 use Rattle.spacing.specs.Values.{neighbour_as}
 use Rattle.walk_looks.specs.PlaceLaws.{Looked}
-use Rattle.walk_looks.proofs.places.+look_at_look_over.Given as goal
+use Rattle.walk_looks.proofs.places.+looking.Given as goal
 
 abbrev pub decreases-look_at : goal.decreases-look_at
 decreases-look_at l = 2 * length l.s.now
