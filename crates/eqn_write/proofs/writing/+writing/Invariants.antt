@@ -1,7 +1,7 @@
 use Prim.Native.Nat.{◌+◌, ◌-◌, ◌*◌}
 use lib.ListN.{length}
 use Rattle.eqn_write.proofs.ListLaws.{Reached}
-use Rattle.eqn_write.proofs.writing.+put_behind_put_fraction_put_group_put_item_put_list_put_operand_put_script_put_scripted.Given as goal
+use Rattle.eqn_write.proofs.writing.+writing.Given as goal
 
 abbrev pub decreases-put_behind : goal.decreases-put_behind
 decreases-put_behind l = 8 * length l.s.now + 3

@@ -18,12 +18,11 @@ use Rattle.formula.specs.Heads.{field_head}
 use Rattle.formula.specs.HeadLaws.{head_fits, contents_shorter, list_opening_lem, opening_some}
 use Rattle.formula.specs.Places.{head_bytes, contents, GoodField, field_end}
 use Rattle.formula.specs.PlacesLaws.{good_some}
-use Rattle.eqn_write.specs.Values.{PutWithin}
 use Rattle.eqn_write.proofs.NameLaws.{text_size}
-use Rattle.eqn_write.proofs.FieldsLaws.{lent_at, lent_length, ends_at, behind_put, script_none, script_there, scripted_nucleus, scripted_below, scripted_done, fraction_above, fraction_done, field_empty, field_barred, field_symbol, field_list, group_textless, list_size_lem, group_done}
+use Rattle.eqn_write.proofs.FieldsLaws.{lent_at, lent_length, behind_put, script_none, script_there, scripted_nucleus, scripted_below, scripted_done, fraction_above, fraction_done, field_other, field_empty, field_barred, field_symbol, field_list, group_textless, list_size_lem, group_done}
 use Rattle.eqn_write.proofs.KindLaws.{fields_within, atom_asked, atom_done, operator_asked, operator_done, limitless_done, barred_asked, barred_done, unmade_done}
 use Rattle.eqn_write.proofs.ListLaws.{reached_start, reached_done, reached_other, item_size_lem, reached_asked, reached_stop, reached_next}
-use Rattle.eqn_write.proofs.writing.+put_behind_put_fraction_put_group_put_item_put_list_put_operand_put_script_put_scripted.Goals as goal
+use Rattle.eqn_write.proofs.writing.+writing.Goals as goal
 
 -- ---- put_behind
 
@@ -43,23 +42,23 @@ put_behind-returns t c =
 
 -- ---- put_fraction
 
-pub put_fraction-put_operand-numerator-requires : goal.put_fraction-put_operand-numerator-requires
-put_fraction-put_operand-numerator-requires t c =
+pub put_fraction-put_operand-requires : goal.put_fraction-put_operand-requires
+put_fraction-put_operand-requires t c =
     let asked = c.requires in (
       omega (arith, lent_length c.args.s.now c.args.first),
       rw rest_lent (record { has = asked.has; good = asked.x; room = omega arith }),
     )
 
-pub put_fraction-returns-in_default : goal.put_fraction-returns-in_default
-put_fraction-returns-in_default t c =
+pub put_fraction-returns-in_err-next : goal.put_fraction-returns-in_err-next
+put_fraction-returns-in_err-next t c =
     let a = c.args in
-    fraction_above a.names.now a.s.now a.first a.at c.in_default.is (rw rest_lent at c.put_operand-numerator.ensures)
+    rw c.from_residual.ensures (fraction_above a.names.now a.s.now a.first a.at (rw rest_lent at c.in_err-next.ensures))
 
 pub put_fraction-put_behind-requires : goal.put_fraction-put_behind-requires
 put_fraction-put_behind-requires t c =
     let s = c.args.s.now in
     let asked = c.requires in
-    let above = ends_at c.in-Next.is (rw rest_lent at c.put_operand-numerator.ensures).ends in (
+    let above = (rw rest_lent at c.in_ok-next.ensures).ends in (
       omega (arith, lent_length s c.field_end-second.result),
       rw (lent_at s c.field_end-second.ensures.0) (record { has = asked.has; good = asked.y; short = omega arith; later = omega arith; room = omega arith }),
     )
@@ -68,40 +67,41 @@ pub put_fraction-returns : goal.put_fraction-returns
 unfolding keyword_of same
 put_fraction-returns t c =
     let a = c.args in
-    fraction_done a.names.now a.s.now a.first a.at c.in-Next.is (rw rest_lent at c.put_operand-numerator.ensures)
+    fraction_done a.names.now a.s.now a.first a.at (rw rest_lent at c.in_ok-next.ensures)
     (rw (lent_at a.s.now c.field_end-second.ensures.0) at c.put_behind.ensures)
 
 -- ---- put_group
 
-pub put_group-put_list-put-requires : goal.put_group-put_list-put-requires
-put_group-put_list-put-requires t c =
+pub put_group-put_list-requires : goal.put_group-put_list-requires
+put_group-put_list-requires t c =
     let size = text_size c.args.at (123 ∷ []) in
     (omega arith, (c.requires.has, c.requires.readable, omega arith))
 
-pub put_group-returns-in_default : goal.put_group-returns-in_default
-put_group-returns-in_default t c =
+pub put_group-returns-in_err-behind : goal.put_group-returns-in_err-behind
+put_group-returns-in_err-behind t c =
     let a = c.args in
     let put = c.put_token-inside.ensures in
-    group_textless a.names.now a.s.now a.at c.put_token-inside.result a.out.now c.put_token-inside.new.out put.value put.out_after
-    c.in_default.is c.put_list-put.ensures.list_put
+    rw c.from_residual.ensures
+    (group_textless a.names.now a.s.now a.at c.put_token-inside.result a.out.now c.put_token-inside.new.out put.value put.out_after
+    c.in_err-behind.ensures.list_put)
 
 pub put_group-put_token-requires : goal.put_group-put_token-requires
 put_group-put_token-requires t c =
     let a = c.args in
     let put = c.put_token-inside.ensures in
-    let list = c.put_list-put.ensures in
+    let list = c.in_ok-behind.ensures in
     let size =
     list_size_lem a.names.now a.s.now a.at c.put_token-inside.result a.out.now c.put_token-inside.new.out put.value put.out_after
-    c.requires.has c.put_list-put.new.out c.in-Next.is list.list_put list.put_within in
+    c.requires.has c.put_list.new.out list.list_put list.put_within in
     omega arith
 
 pub put_group-returns : goal.put_group-returns
 put_group-returns t c =
     let a = c.args in
     let put = c.put_token-inside.ensures in
-    let list = c.put_list-put.ensures in
+    let list = c.in_ok-behind.ensures in
     group_done a.names.now a.s.now a.at c.put_token-inside.result a.out.now c.put_token-inside.new.out put.value put.out_after
-    c.requires.has c.put_list-put.new.out c.in-Next.is list.list_put list.put_within c.put_token.ensures.value c.put_token.ensures.out_after
+    c.requires.has c.put_list.new.out list.list_put list.put_within c.put_token.ensures.value c.put_token.ensures.out_after
 
 -- ---- put_item
 
@@ -113,7 +113,7 @@ put_item-put_scripted-requires t c =
 pub put_item-returns-in-PlainAtom : goal.put_item-returns-in-PlainAtom
 put_item-returns-in-PlainAtom t c =
     let a = c.args in
-    atom_done a.names.now a.s.now a.kind a.at c.requires c.opening_bytes-first.ensures (sym c.in-PlainAtom.ensures) c.put_scripted.ensures
+    atom_done a.names.now a.s.now a.kind a.at c.requires c.opening_bytes-first.ensures (sym c.in-PlainAtom.ensures) (rw c.from.ensures at c.put_scripted.ensures)
 
 pub put_item-has_no_scripts-requires : goal.put_item-has_no_scripts-requires
 put_item-has_no_scripts-requires t c =
@@ -167,11 +167,11 @@ put_list-returns-in_default t c =
     let turn = c.loop-from.invariant in
     record {
       put_within = tt;
-      list_put = reached_other a.names.now a.s.now a.at a.out.now turn c.loop-from-test.true (rw rest_lent at c.opening-o.ensures) c.in_default.not-Fields;
+      list_put = reached_other a.names.now a.s.now a.at a.out.now turn c.loop-from-test.true (rw rest_lent at c.opening.ensures) c.in_default.not-Fields;
     }
 
-pub put_list-put_item-put-requires : goal.put_list-put_item-put-requires
-put_list-put_item-put-requires t c =
+pub put_list-put_item-requires : goal.put_list-put_item-requires
+put_list-put_item-requires t c =
     let a = c.args in
     let loop = c.loop-from in
     let opens = sym (rw rest_lent at c.in-Fields.ensures) in (
@@ -179,18 +179,15 @@ put_list-put_item-put-requires t c =
       rw rest_lent (reached_asked a.names.now a.s.now a.at a.out.now loop.invariant c.loop-from-test.true opens c.requires.0 c.requires.2),
     )
 
-pub put_list-shape_of-out-in_default-put : goal.put_list-shape_of-out-in_default-put
-put_list-shape_of-out-in_default-put t c = c.put_item-put.auto.out ∙ c.loop-from.invariant.as_long
+pub put_list-shape_of-out-in_err-end : goal.put_list-shape_of-out-in_err-end
+put_list-shape_of-out-in_err-end t c = c.put_item.auto.out ∙ c.loop-from.invariant.as_long
 
-pub put_list-returns-in_default-put : goal.put_list-returns-in_default-put
-put_list-returns-in_default-put t c =
+pub put_list-returns-in_err-end-clause-list_put : goal.put_list-returns-in_err-end-clause-list_put
+put_list-returns-in_err-end-clause-list_put t c =
     let a = c.args in
     let opens = sym (rw rest_lent at c.in-Fields.ensures) in
-    let told = c.in_default-put.is in
-    record {
-      put_within = subst (PutWithin a.at (length a.s.now)) (sym told) tt;
-      list_put = reached_stop a.names.now a.s.now a.at a.out.now c.loop-from.invariant c.loop-from-test.true opens told (rw rest_lent at c.put_item-put.ensures);
-    }
+    rw c.from_residual.ensures
+    (reached_stop a.names.now a.s.now a.at a.out.now c.loop-from.invariant c.loop-from-test.true opens (rw rest_lent at c.in_err-end.ensures))
 
 pub put_list-fields_end-from-requires : goal.put_list-fields_end-from-requires
 put_list-fields_end-from-requires t c = sym c.in-Fields.ensures
@@ -220,8 +217,8 @@ put_list-loop-from-preserved t c =
     let opens = sym (rw rest_lent at c.in-Fields.ensures) in
     let is = rw rest_lent at c.fields_end-from.ensures in
     rw is
-    (reached_next a.names.now a.s.now a.at a.out.now loop.invariant c.loop-from-test.true opens c.in-Next.is c.put_item-put.auto.out
-    (rw rest_lent at c.put_item-put.ensures))
+    (reached_next a.names.now a.s.now a.at a.out.now loop.invariant c.loop-from-test.true opens c.put_item.auto.out
+    (rw rest_lent at c.in_ok-end.ensures))
 
 pub put_list-shape_of-out : goal.put_list-shape_of-out
 put_list-shape_of-out t c = c.loop-from.invariant.as_long
@@ -253,21 +250,6 @@ listed s opening n is =
       long = (contents_shorter s opening n is).0;
       lent = ap (λ (k : ℕ). take k (drop opening s)) size;
     }
-
-pub put_operand-returns-in-NoField : goal.put_operand-returns-in-NoField
-put_operand-returns-in-NoField t c =
-    let a = c.args in
-    field_empty a.names.now a.s.now a.at a.out.now (asked_as a.class) (sym c.in-NoField.ensures) refl
-
-pub put_operand-returns-in-Empty : goal.put_operand-returns-in-Empty
-put_operand-returns-in-Empty t c =
-    let a = c.args in
-    field_empty a.names.now a.s.now a.at a.out.now (asked_as a.class) (sym c.in-Empty.ensures) refl
-
-pub put_operand-returns-in-CutSublist : goal.put_operand-returns-in-CutSublist
-put_operand-returns-in-CutSublist t c =
-    let a = c.args in
-    field_empty a.names.now a.s.now a.at a.out.now (asked_as a.class) (sym c.in-CutSublist.ensures) refl
 
 pub put_operand-put_name-requires : goal.put_operand-put_name-requires
 put_operand-put_name-requires t c =
@@ -317,17 +299,22 @@ put_operand-put_group-requires t c =
       rw l.lent (record { has = c.requires.has; readable = subst (GoodField a.s.now) is c.requires.good; room = omega arith }),
     )
 
-pub put_operand-returns-then-class : goal.put_operand-returns-then-class
-put_operand-returns-then-class t c =
+pub put_operand-returns-then-not-takes_group : goal.put_operand-returns-then-not-takes_group
+put_operand-returns-then-not-takes_group t c =
+    let a = c.args in
+    field_barred a.names.now a.s.now a.at a.out.now a.class (sym c.in-Sublist.ensures) (sym c.takes_group.ensures ∙ c.if-not-takes_group.true)
+
+pub put_operand-returns-else-not-takes_group : goal.put_operand-returns-else-not-takes_group
+put_operand-returns-else-not-takes_group t c =
     let a = c.args in
     let is = sym c.in-Sublist.ensures in
     let l = listed a.s.now c.in-Sublist.opening c.in-Sublist.n is in
-    field_list a.names.now a.s.now a.at a.out.now a.class is c.if-class.true l.long (rw l.lent at c.put_group.ensures)
+    field_list a.names.now a.s.now a.at a.out.now a.class is (sym c.takes_group.ensures ∙ c.if-not-takes_group.false) l.long (rw l.lent at c.put_group.ensures)
 
-pub put_operand-returns-else-class : goal.put_operand-returns-else-class
-put_operand-returns-else-class t c =
+pub put_operand-returns-in_default : goal.put_operand-returns-in_default
+put_operand-returns-in_default t c =
     let a = c.args in
-    field_barred a.names.now a.s.now a.at a.out.now a.class (sym c.in-Sublist.ensures) c.if-class.false
+    field_empty a.names.now a.s.now a.at a.out.now (asked_as a.class) (sym c.field_head.ensures) (field_other a.s.now _ c.in_default.not-Symbol c.in_default.not-Sublist)
 
 -- ---- put_script
 
@@ -346,44 +333,46 @@ put_script-returns t c =
 
 -- ---- put_scripted
 
-pub put_scripted-put_operand-nucleus-requires : goal.put_scripted-put_operand-nucleus-requires
-put_scripted-put_operand-nucleus-requires t c =
+pub put_scripted-put_operand-requires : goal.put_scripted-put_operand-requires
+put_scripted-put_operand-requires t c =
     let asked = c.requires in (
       omega (arith, lent_length c.args.s.now c.args.first),
       rw rest_lent (record { has = asked.has; good = asked.x; room = omega arith }),
     )
 
-pub put_scripted-returns-in_default : goal.put_scripted-returns-in_default
-put_scripted-returns-in_default t c =
+pub put_scripted-returns-in_err-behind : goal.put_scripted-returns-in_err-behind
+put_scripted-returns-in_err-behind t c =
     let a = c.args in
-    scripted_nucleus a.names.now a.s.now a.first a.at (keyword_of a.lower.now) (keyword_of a.upper.now) (asked_as a.class)
-    c.in_default.is (rw rest_lent at c.put_operand-nucleus.ensures)
-
-pub put_scripted-put_script-below-requires : goal.put_scripted-put_script-below-requires
-put_scripted-put_script-below-requires t c =
-    let s = c.args.s.now in
-    let asked = c.requires in
-    let third = c.field_end-third.ensures.0 ∙ ap (field_end c.args.s.now) c.field_end-second.ensures.0 in
-    let first = ends_at c.in-Next.is (rw rest_lent at c.put_operand-nucleus.ensures).ends in (
-      omega (arith, lent_length s c.field_end-third.result),
-      rw (lent_at s third) (record { has = asked.has; good = asked.z; short = asked.short.0; later = omega arith; room = omega arith }),
-    )
-
-pub put_scripted-returns-in_default-below : goal.put_scripted-returns-in_default-below
-put_scripted-returns-in_default-below t c =
-    let a = c.args in
-    let third = c.field_end-third.ensures.0 ∙ ap (field_end c.args.s.now) c.field_end-second.ensures.0 in
-    scripted_below a.names.now a.s.now a.first a.at (keyword_of a.lower.now) (keyword_of a.upper.now) (asked_as a.class)
-    c.in-Next.is (rw rest_lent at c.put_operand-nucleus.ensures) c.in_default-below.is (rw (lent_at a.s.now third) at c.put_script-below.ensures)
+    rw c.from_residual.ensures
+    (scripted_nucleus a.names.now a.s.now a.first a.at (keyword_of a.lower.now) (keyword_of a.upper.now) (asked_as a.class)
+    (rw rest_lent at c.in_err-behind.ensures))
 
 pub put_scripted-put_script-requires : goal.put_scripted-put_script-requires
 put_scripted-put_script-requires t c =
     let s = c.args.s.now in
     let asked = c.requires in
+    let third = c.field_end-third.ensures.0 ∙ ap (field_end c.args.s.now) c.field_end-second.ensures.0 in
+    let first = (rw rest_lent at c.in_ok-behind.ensures).ends in (
+      omega (arith, lent_length s c.field_end-third.result),
+      rw (lent_at s third) (record { has = asked.has; good = asked.z; short = asked.short.0; later = omega arith; room = omega arith }),
+    )
+
+pub put_scripted-returns-in_err-next : goal.put_scripted-returns-in_err-next
+put_scripted-returns-in_err-next t c =
+    let a = c.args in
+    let third = c.field_end-third.ensures.0 ∙ ap (field_end c.args.s.now) c.field_end-second.ensures.0 in
+    rw c.from_residual-in_err-next.ensures
+    (scripted_below a.names.now a.s.now a.first a.at (keyword_of a.lower.now) (keyword_of a.upper.now) (asked_as a.class)
+    (rw rest_lent at c.in_ok-behind.ensures) (rw (lent_at a.s.now third) at c.in_err-next.ensures))
+
+pub put_scripted-put_script-requires-2 : goal.put_scripted-put_script-requires-2
+put_scripted-put_script-requires-2 t c =
+    let s = c.args.s.now in
+    let asked = c.requires in
     let second = c.field_end-second.ensures.0 in
     let third = c.field_end-third.ensures.0 ∙ ap (field_end c.args.s.now) c.field_end-second.ensures.0 in
-    let first = ends_at c.in-Next.is (rw rest_lent at c.put_operand-nucleus.ensures).ends in
-    let below = ends_at c.in-Next-below.is (rw (lent_at s third) at c.put_script-below.ensures).ends in (
+    let first = (rw rest_lent at c.in_ok-behind.ensures).ends in
+    let below = (rw (lent_at s third) at c.in_ok-next.ensures).ends in (
       omega (arith, lent_length s c.field_end-second.result),
       rw (lent_at s second) (record { has = asked.has; good = asked.y; short = asked.short.1; later = omega arith; room = omega arith }),
     )
@@ -394,5 +383,4 @@ put_scripted-returns t c =
     let second = c.field_end-second.ensures.0 in
     let third = c.field_end-third.ensures.0 ∙ ap (field_end c.args.s.now) c.field_end-second.ensures.0 in
     scripted_done a.names.now a.s.now a.first a.at (keyword_of a.lower.now) (keyword_of a.upper.now) (asked_as a.class)
-    c.in-Next.is (rw rest_lent at c.put_operand-nucleus.ensures) c.in-Next-below.is (rw (lent_at a.s.now third) at c.put_script-below.ensures)
-    (rw (lent_at a.s.now second) at c.put_script.ensures)
+    (rw rest_lent at c.in_ok-behind.ensures) (rw (lent_at a.s.now third) at c.in_ok-next.ensures) (rw (lent_at a.s.now second) at c.put_script-2.ensures)
