@@ -16,6 +16,8 @@ ghost use Rattle.boxes.specs.Bounds.{words, item_words, Moderate, ModerateShape,
 use font::Metrics;
 use scaled::Sp;
 
+// A field's size is moderate, which contracts say and this type can't: a nucleus and an item are larger, and `size_of`, `given` and
+// `atom_nucleus` answer for shapes of any size.
 #[derive(Clone, Copy)]
 pub struct Size {
     pub width: Sp,

@@ -15,21 +15,21 @@ pub type Parameters = [[u32; 35]; 3];
 // The parameters that the rules use, by the names of Appendix G's table, with their numbers.
 #[derive(Clone, Copy, PartialEq, Eq)]
 pub enum Dimension {
-    XHeight = 4,        // σ5
-    Quad = 5,           // σ6
-    Num1 = 7,           // σ8
-    Num2 = 8,           // σ9
-    Num3 = 9,           // σ10
-    Denom1 = 10,        // σ11
-    Denom2 = 11,        // σ12
-    Sup1 = 12,          // σ13
-    Sup2 = 13,          // σ14
-    Sup3 = 14,          // σ15
-    Sub1 = 15,          // σ16
-    Sub2 = 16,          // σ17
-    SupDrop = 17,       // σ18
-    SubDrop = 18,       // σ19
-    AxisHeight = 21,    // σ22
+    XHeight = 4, // σ5
+    Quad = 5, // σ6
+    Num1 = 7, // σ8
+    Num2 = 8, // σ9
+    Num3 = 9, // σ10
+    Denom1 = 10, // σ11
+    Denom2 = 11, // σ12
+    Sup1 = 12, // σ13
+    Sup2 = 13, // σ14
+    Sup3 = 14, // σ15
+    Sub1 = 15, // σ16
+    Sub2 = 16, // σ17
+    SupDrop = 17, // σ18
+    SubDrop = 18, // σ19
+    AxisHeight = 21, // σ22
     RuleThickness = 29, // ξ8
     BigOpSpacing1 = 30, // ξ9
     BigOpSpacing2 = 31, // ξ10

@@ -15,7 +15,8 @@ use boxes::{Offset, Own, Size, no_own};
 use font::Metrics;
 use scaled::Sp;
 
-// A nucleus as the limits and the scripts see it.
+// A nucleus as the limits and the scripts see it. That it is moderate stands in contracts and not in the type, since `atom_nucleus` makes one
+// of a shape of any size.
 #[derive(Clone, Copy)]
 pub struct Nucleus {
     pub size: Size,

@@ -74,6 +74,7 @@ fn symbol_nucleus(m: Metrics, subscript: bool) -> Nucleus
     }
 }
 
+// Rules 9 and 10 stay two functions, as the definitions are: one for both would ask at each line which it is.
 // Rule 9: 3θ between the nucleus and the line, θ beyond the line.
 pub fn overline(theta: Sp, x: Size) -> Nucleus
     requires { Within (words 1) theta.0 × Moderate x }

@@ -8,6 +8,7 @@ ghost use Rattle.reasons.specs.Values.{shift_reason_as};
 
 use scaled::Sp;
 
+// None stands here and not in an Option, since the definitions of reasons and of their stages take it as one of the quantities.
 #[derive(Clone, Copy)]
 pub enum Reason {
     None,
