@@ -11,19 +11,6 @@ use formula_atoms::atom_opening;
 use formula_delimiters::{fence_opening, root_opening};
 use formula_numbers::{fraction_opening, kern_opening, style_opening};
 
-// The letters of each mark.
-const MARKS: [([u8; 2], Mark); 9] = [
-    (*b"AT", Mark::AT),
-    (*b"OV", Mark::OV),
-    (*b"UN", Mark::UN),
-    (*b"FR", Mark::FR),
-    (*b"KN", Mark::KN),
-    (*b"ST", Mark::ST),
-    (*b"C4", Mark::C4),
-    (*b"RD", Mark::RD),
-    (*b"FE", Mark::FE),
-];
-
 // What opens with the first byte of s.
 pub fn opening(s: &[u8]) -> Opening
     ensures { result ≡ opening_of s.now }
@@ -35,6 +22,7 @@ pub fn opening(s: &[u8]) -> Opening
 }
 
 // What opens behind a mark.
+#[tactic(auto, unfolding(formula::specs::Heads::opens))]
 fn opened(mark: Mark, s: &[u8]) -> Opening
     ensures { result ≡ opens mark s.now }
 {
@@ -52,13 +40,20 @@ fn opened(mark: Mark, s: &[u8]) -> Opening
     }
 }
 
+#[tactic(auto, unfolding(formula::specs::Marks::mark_of, formula::specs::Marks::mark_in))]
 fn mark(a: u8, b: u8) -> Mark
     ensures { result ≡ mark_of a b }
 {
-    for (letters, mark) in &MARKS {
-        if [a, b] == *letters {
-            return *mark;
-        }
+    match (a, b) {
+        (b'A', b'T') => Mark::AT,
+        (b'O', b'V') => Mark::OV,
+        (b'U', b'N') => Mark::UN,
+        (b'F', b'R') => Mark::FR,
+        (b'K', b'N') => Mark::KN,
+        (b'S', b'T') => Mark::ST,
+        (b'C', b'4') => Mark::C4,
+        (b'R', b'D') => Mark::RD,
+        (b'F', b'E') => Mark::FE,
+        _ => Mark::Unknown,
     }
-    Mark::Unknown
 }
