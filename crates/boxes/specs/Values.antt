@@ -7,7 +7,7 @@ use Rattle.font.specs.Values.{metrics_as}
 unfoldable pub use Rattle.font.specs.Values.{parameters_in}
 use Rattle.boxes.specs.declared.styles.Style.{Style}
 use Rattle.boxes.specs.declared.parameters.Dimension.{Dimension}
-use Rattle.boxes.specs.declared.parameters.Dimension.TheVariants.{XHeight, Quad, Num1, Num2, Num3, Denom1, Denom2, Sup1, Sup2, Sup3, Sub1, Sub2, SupDrop, SubDrop, AxisHeight, RuleThickness, BigOpSpacing1, BigOpSpacing2, BigOpSpacing3, BigOpSpacing4, BigOpSpacing5}
+use Rattle.boxes.specs.declared.parameters.Dimension.TheVariants.{Slant, Space, Stretch, Shrink, XHeight, Quad, ExtraSpace, Num1, Num2, Num3, Denom1, Denom2, Sup1, Sup2, Sup3, Sub1, Sub2, SupDrop, SubDrop, Delim1, Delim2, AxisHeight, ExtensionSlant, ExtensionSpace, ExtensionStretch, ExtensionShrink, ExtensionXHeight, ExtensionQuad, ExtensionExtraSpace, RuleThickness, BigOpSpacing1, BigOpSpacing2, BigOpSpacing3, BigOpSpacing4, BigOpSpacing5}
 use Rattle.boxes.specs.declared.Size.{Size}
 use Rattle.boxes.specs.declared.Shape.{Shape}
 use Rattle.boxes.specs.declared.Shape.TheVariants.{Nothing, Char, Box}
@@ -27,8 +27,13 @@ numbered_as (Some s) = some s
 
 -- the number of a parameter in its row
 abbrev pub number_of : Dimension → ℕ
+number_of Slant = 0
+number_of Space = 1
+number_of Stretch = 2
+number_of Shrink = 3
 number_of XHeight = 4
 number_of Quad = 5
+number_of ExtraSpace = 6
 number_of Num1 = 7
 number_of Num2 = 8
 number_of Num3 = 9
@@ -41,7 +46,16 @@ number_of Sub1 = 15
 number_of Sub2 = 16
 number_of SupDrop = 17
 number_of SubDrop = 18
+number_of Delim1 = 19
+number_of Delim2 = 20
 number_of AxisHeight = 21
+number_of ExtensionSlant = 22
+number_of ExtensionSpace = 23
+number_of ExtensionStretch = 24
+number_of ExtensionShrink = 25
+number_of ExtensionXHeight = 26
+number_of ExtensionQuad = 27
+number_of ExtensionExtraSpace = 28
 number_of RuleThickness = 29
 number_of BigOpSpacing1 = 30
 number_of BigOpSpacing2 = 31

@@ -12,11 +12,16 @@ use scaled::Sp;
 
 pub type Parameters = [[u32; 35]; 3];
 
-// The parameters that the rules use, by the names of Appendix G's table, with their numbers.
+// All parameters, by the names of Appendix G's table and of the fonts' own, each with its number in a row.
 #[derive(Clone, Copy, PartialEq, Eq)]
 pub enum Dimension {
+    Slant = 0, // σ1
+    Space = 1, // σ2
+    Stretch = 2, // σ3
+    Shrink = 3, // σ4
     XHeight = 4, // σ5
     Quad = 5, // σ6
+    ExtraSpace = 6, // σ7
     Num1 = 7, // σ8
     Num2 = 8, // σ9
     Num3 = 9, // σ10
@@ -29,7 +34,16 @@ pub enum Dimension {
     Sub2 = 16, // σ17
     SupDrop = 17, // σ18
     SubDrop = 18, // σ19
+    Delim1 = 19, // σ20
+    Delim2 = 20, // σ21
     AxisHeight = 21, // σ22
+    ExtensionSlant = 22, // ξ1
+    ExtensionSpace = 23, // ξ2
+    ExtensionStretch = 24, // ξ3
+    ExtensionShrink = 25, // ξ4
+    ExtensionXHeight = 26, // ξ5
+    ExtensionQuad = 27, // ξ6
+    ExtensionExtraSpace = 28, // ξ7
     RuleThickness = 29, // ξ8
     BigOpSpacing1 = 30, // ξ9
     BigOpSpacing2 = 31, // ξ10
