@@ -8,6 +8,8 @@ ghost use Rattle.eqn_names.specs.Names.{Name, table_of, front_name, named, first
 ghost use Rattle.eqn_names.specs.Names.{Records, asked_as};
 ghost use Rattle.eqn_names.specs.Names.{names as ofNames};
 ghost use Rattle.eqn_names.specs.Firsts.{From, Listed, places, mix, hash_of, kept};
+ghost use denote.Ref.{Bor};
+ghost use Rattle.eqn_names.specs.Search.{Search};
 ghost use Rattle.eqn_names.specs.Values.{Stepped, RecordRead, front_as, found_as, NameFound, table_told, UnknownFound};
 
 use eqn_tokens::bytes::{are_same, are_word_bytes};
@@ -125,13 +127,26 @@ fn next_record(s: &[u8]) -> Option<Record>
 fn find_from(names: &[u8], from: usize, word: &[u8]) -> Option<Symbol>
     ensures { (ns : List Name) → From names.now ns word.now from → found_as word.now result ≡ named ns word.now }
 {
+    let found = first_record(names, from, |name, _| are_same(name, word))?;
+    Some(found.1)
+}
+
+// The first record from a place on that a test of its name and symbol picks: where its name stands, and the symbol.
+fn first_record<F: Fn(&[u8], Symbol) -> bool>(
+    names: &[u8],
+    from: usize,
+    picks: F,
+) -> Option<(Range, Symbol)>
+    requires { F.IsAlwaysCallable picks }
+    ensures { Search (λ w symbol b. (x : Bor (List ℕ)) × (x.now ≡ w) × F.post picks x symbol b) names.now from result }
+{
     let mut at = from;
     while at < names.len() {
         let record = next_record(&names[at..])?;
         let start = at + 1;
         let end = start + record.bytes;
-        if are_same(&names[start..end], word) {
-            return Some(record.symbol);
+        if picks(&names[start..end], record.symbol) {
+            return Some((Range { start, end }, record.symbol));
         }
         at = end + 3;
     }
@@ -160,17 +175,8 @@ fn mixed(h: usize, b: u8) -> usize
 pub fn first_for(names: &[u8], family: u8, code: u8, class: Option<u8>) -> Option<Range>
     ensures { (ns : List Name) → Records names.now ns → NameFound names.now (first_for family code (asked_as class) ns) (first_place family code (asked_as class) 0 ns) result }
 {
-    let mut at: usize = 0;
-    while at < names.len() {
-        let record = next_record(&names[at..])?;
-        let start = at + 1;
-        let end = start + record.bytes;
-        if fits(record.symbol, family, code, class) {
-            return Some(Range { start, end });
-        }
-        at = end + 3;
-    }
-    None
+    let found = first_record(names, 0, |_, symbol| fits(symbol, family, code, class))?;
+    Some(found.0)
 }
 
 // Whether a symbol is the one asked for.
