@@ -217,8 +217,9 @@ pub enum Mark {
     Unknown,
 }
 
-// What an item says before its fields. A choice has four fields, each a list.
-#[derive(Clone, Copy)]
+// What an item says before its fields. A choice has four fields, each a list. That there is no item is a variant, as in the
+// definition `opening_of`, and one match has all cases.
+#[derive(Clone, Copy, PartialEq, Eq)]
 pub enum Opening {
     NoItem,
     Fields(Kind),
@@ -228,7 +229,8 @@ pub enum Opening {
 }
 
 // What a field says at its kind byte. A list has the number of bytes before its items and that of its items, or its
-// length is cut off, passes the end, or is too short for its kind.
+// length is cut off, passes the end, or is too short for its kind. That there is no field is a variant, as in the definition
+// `field_head`.
 #[derive(Clone, Copy, PartialEq, Eq)]
 pub enum FieldHead {
     NoField,

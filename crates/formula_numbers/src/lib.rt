@@ -25,6 +25,7 @@ pub fn fraction_opening(s: &[u8]) -> Opening
 pub fn kern_opening(s: &[u8]) -> Opening
     ensures { result ≡ kern_opening s.now }
 {
+    // A test of the length, since `word` reads at a place.
     if s.len() < 4 {
         Opening::NoItem
     } else {

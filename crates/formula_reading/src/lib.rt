@@ -40,6 +40,7 @@ pub fn read_list(s: &[u8], levels: usize) -> Result<(), FaultAt>
     ensures { result ≡ told (read levels s.now) }
 {
     let mut at: usize = 0;
+    // No count: only the reading of an item says where the next one stands.
     while at < s.len() {
         match read_item(&s[at..], levels) {
             Ok(size) => at += size,
