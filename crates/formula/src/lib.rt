@@ -32,7 +32,7 @@ pub const CHOICE_OPENING_BYTES: usize = 2;
 
 pub const CHOICE_LISTS: usize = 4;
 
-// Numbers of classes, of limits and of bars.
+// Numbers of classes, of limits and of bars as bytes of the format, for those who write a formula.
 pub const ORD: u8 = 0;
 
 pub const OP: u8 = 1;
@@ -202,7 +202,7 @@ pub enum Kind {
     Fraction(Bar),
 }
 
-// The two letters with which an item opens.
+// The two letters with which an item opens. Two that open nothing are a variant, as in the definition `opens`.
 #[derive(Clone, Copy, PartialEq, Eq)]
 pub enum Mark {
     AT,

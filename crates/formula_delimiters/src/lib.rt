@@ -11,6 +11,7 @@ use formula::{Base, Delimiter, GREATEST_FAMILY, Kind, Opening, Pair};
 pub fn root_opening(s: &[u8]) -> Opening
     ensures { result ≡ root_opening s.now }
 {
+    // A test of the length, since a delimiter is read at a place.
     if s.len() < 4 {
         return Opening::NoItem;
     }
