@@ -25,10 +25,8 @@ pub fn test(text: &[u8]) -> Result<(), StuckAt>
 {
     let first = pass(text, 0);
     let mut least = first.fault;
-    let mut base = LEVELS;
-    while base <= first.deepest {
+    for base in (LEVELS..first.deepest + 1).step_by(LEVELS) {
         least = earlier(least, pass(text, base).fault);
-        base += LEVELS;
     }
     least
 }

@@ -50,6 +50,7 @@ pub struct Range {
 }
 
 // A table, and for each hash the place from which a name of that hash is looked for.
+// `Listed` is no invariant of it, since `find`, `first_unknown` and `put_row`, which docs/PROOFS.md names, take any names and places.
 #[derive(Clone, Copy)]
 pub struct NameIndex<'a> {
     pub names: &'a [u8],
