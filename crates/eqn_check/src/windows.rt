@@ -52,6 +52,7 @@ pub fn pass(text: &[u8], base: usize) -> PassResult
     let mut depth: usize = 0;
     let mut deepest: usize = 0;
     let mut at: usize = 0;
+    // No count: a token ends where the look for the next one starts.
     loop {
         let token = token_at(text, at);
         match token_step(token.kind, stage, depth) {

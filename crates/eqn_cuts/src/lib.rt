@@ -24,6 +24,7 @@ pub fn last_outside(s: &[u8], keyword: Keyword) -> Split
     let mut level: usize = 0;
     let mut start = s.len();
     let mut end = s.len();
+    // No count: a token ends where the look for the next one starts.
     while at < s.len() {
         let token = token_at(s, at);
         if (level == 0) & is_this_keyword(token.kind, keyword) {
@@ -44,6 +45,7 @@ pub fn expression_end(s: &[u8], from: usize) -> usize
     let mut at = from;
     let mut level: usize = 0;
     let mut ended = false;
+    // No count: a token ends where the look for the next one starts.
     while at < s.len() {
         let token = token_at(s, at);
         if ended & begins_operand(token.kind) {
@@ -62,6 +64,7 @@ pub fn last_token(s: &[u8]) -> usize
 {
     let mut at: usize = 0;
     let mut last: usize = 0;
+    // No count: a token ends where the look for the next one starts.
     while at < s.len() {
         let token = token_at(s, at);
         if token.kind == TokenKind::End {

@@ -71,6 +71,7 @@ impl<'a> NameIndex<'a> {
         ensures { (ns : List Name) → Listed self.now.names.now self.now.firsts.now ns → UnknownFound ns text.now result }
     {
         let mut at: usize = 0;
+        // No count: a token ends where the look for the next one starts.
         while at < text.len() {
             let token = token_at(text, at);
             if token.kind == TokenKind::Word && self.find(&text[token.start..token.end]).is_none() {
@@ -142,6 +143,7 @@ fn first_record<F: Fn(&[u8], Symbol) -> bool>(
     ensures { Search (λ w symbol b. (x : Bor (List ℕ)) × (x.now ≡ w) × F.post picks x symbol b) names.now from result }
 {
     let mut at = from;
+    // No count: a record says how far the next one is.
     while at < names.len() {
         let record = next_record(&names[at..])?;
         let start = at + 1;
@@ -203,6 +205,7 @@ pub fn index(names: &[u8], firsts: &mut [usize; PLACES]) -> Result<(), BadRecord
 {
     firsts.fill(names.len());
     let mut at: usize = 0;
+    // No count: a record says how far the next one is.
     while at < names.len() {
         let record = front_record(&names[at..]).ok_or(BadRecord { place: at })?;
         let start = at + 1;

@@ -31,6 +31,7 @@ pub fn put_row(
 {
     let mut from: usize = 0;
     let mut end = at;
+    // No count: an expression ends where the next one starts.
     while from < s.len() {
         if token_at(s, from).kind == TokenKind::End {
             return up_to(end);
