@@ -16,7 +16,7 @@ const GREATEST_SIZE: u8 = 2;
 
 const GREATEST_FAMILY: u8 = 15;
 
-#[derive(Clone, Copy)]
+#[derive(Clone, Copy, PartialEq, Eq)]
 pub struct Glyph {
     pub x: Sp,
     pub y: Sp,
@@ -25,7 +25,7 @@ pub struct Glyph {
     pub code: u8,
 }
 
-#[derive(Clone, Copy)]
+#[derive(Clone, Copy, PartialEq, Eq)]
 pub struct Rule {
     pub x: Sp,
     pub y: Sp,
@@ -33,7 +33,7 @@ pub struct Rule {
     pub thickness: Sp,
 }
 
-#[derive(Clone, Copy)]
+#[derive(Clone, Copy, PartialEq, Eq)]
 pub enum Node {
     Glyph(Glyph),
     Rule(Rule),
