@@ -18,13 +18,6 @@ pub struct Sp(pub i64);
 pub struct Mu(pub i64);
 
 impl Sp {
-    // A length from a table's word.
-    pub fn of_word(w: u32) -> Sp
-        ensures { FromWord w result.0 }
-    {
-        Sp::from(w)
-    }
-
     pub fn plus(self, o: Sp) -> Sp
         requires { Within reach self.0 × Within reach o.0 }
         ensures { Sum self.0 o.0 result.0 }
