@@ -65,6 +65,7 @@ fn set_items(
     let first = set_stretch(font, beyond, s, line, buf)?;
     let mut at = first.bytes;
     let mut l = first.line;
+    // Each step is as long as what it sets. The arms say what a closure in a cycle of calls would have to say in clauses.
     while at < s.len() {
         let j = room(l.run.count - line.run.count, buf.len());
         match set_onward(font, beyond, &s[at..], l, &mut buf[j..]) {
@@ -117,6 +118,7 @@ fn set_stretch(
 {
     let mut at: usize = 0;
     let mut l = line;
+    // Each step is as long as what it sets.
     while at < s.len() {
         let j = room(l.run.count - line.run.count, buf.len());
         match set_item(font, beyond, &s[at..], l, &mut buf[j..]) {
