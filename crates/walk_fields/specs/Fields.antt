@@ -15,7 +15,7 @@ use Rattle.boxes.specs.Bounds.{ModerateShape}
 use Rattle.nodes.specs.Bounds.{greatest_length}
 use Rattle.nodes.specs.Drawn.{Drawn}
 use Rattle.nodes.specs.Kept.{Kept}
-use Rattle.nodes.specs.Hull.{hull, HullWithin}
+use Rattle.nodes.specs.Hull.{HullWithin}
 use Rattle.nodes.specs.Values.{hull_of, is_large, EmptyRun}
 use Rattle.setting.specs.Setting.{set_field}
 use Rattle.setting.specs.Missing.{missing_field}

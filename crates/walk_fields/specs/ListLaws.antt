@@ -21,7 +21,7 @@ use Rattle.boxes.specs.Values.{size_as}
 use Rattle.nodes.specs.Nodes.{Node}
 use Rattle.nodes.specs.Bounds.{nodes_fit}
 use Rattle.nodes.specs.Drawn.{Drawn}
-use Rattle.nodes.specs.Hull.{hull_fits, joined, hull}
+use Rattle.nodes.specs.Hull.{hull_fits, joined}
 use Rattle.nodes.specs.HullLaws.{fits_hull, within_more}
 use Rattle.nodes.specs.Values.{hull_of, is_large, RunIs}
 use Rattle.setting.specs.Setting.{Box, Line, Sides, no_sides, start, style_after, closed, set_items, set_list}

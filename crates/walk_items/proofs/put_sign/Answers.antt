@@ -18,11 +18,6 @@ use Rattle.walk_items.specs.Items.{own_put}
 use Rattle.walk_items.specs.ItemLaws.{sign_moved}
 use Rattle.walk_items.proofs.put_sign.Goals as goal
 
-pub plus-dx-requires : goal.plus-dx-requires
-plus-dx-requires c =
-    let small = rw c.in-Some.is at c.requires.sign in
-    (omega arith, omega arith)
-
 pub returns-in-None : goal.returns-in-None
 unfolding own_put own_nodes moved hull
 returns-in-None c =

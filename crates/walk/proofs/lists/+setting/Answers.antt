@@ -7,7 +7,7 @@
 -- Assumes nothing.
 use Rattle.std.specs.Prelude.{Ok, Err}
 use Rattle.std.proofs.lemmas.Result.{err_from_is_err_and}
-use Rattle.std.proofs.Common.{◌≡◌, ℕ, ◌+◌, ◌-◌, ◌≤◌, ◌<◌, List, length, take, drop, refl, sym, ap, ap₂, ◌∙◌, arith}
+use Rattle.std.proofs.Common.{◌≡◌, ℕ, ◌+◌, ◌<◌, List, length, refl, sym, ap, ap₂, ◌∙◌, arith}
 use Rattle.font.specs.Font.{Font, font_in}
 use Rattle.formula.specs.declared.Kind.{Kind}
 use Rattle.formula.specs.declared.Opening.TheVariants.{NoItem, Choice}
@@ -26,7 +26,6 @@ use Rattle.delimiters.specs.Values.{signs_as}
 use Rattle.setting.specs.Setting.{has_signs}
 use Rattle.nodes.specs.Buffer.{room_for}
 use Rattle.walk_looks.specs.PlaceLaws.{tail_given, right_alike}
-use Rattle.walk_fields.specs.declared.fields.FieldBox as fields
 use Rattle.walk_fields.specs.declared.lines.Line as lines
 use Rattle.walk_fields.specs.FieldLaws.{head_at_lem, head_short, empty_is, head_empty, field_given, list_given, list_goes, head_list}
 use Rattle.walk_fields.specs.ListLaws.{line_more}

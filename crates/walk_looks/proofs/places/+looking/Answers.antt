@@ -2,7 +2,7 @@
 -- shorter one.
 -- Assumes nothing.
 use Rattle.std.specs.Prelude.{Some}
-use Rattle.std.proofs.Common.{◌≡◌, refl, sym, ap, ◌∙◌, arith}
+use Rattle.std.proofs.Common.{refl, sym, ap, ◌∙◌, arith}
 use Rattle.formula.specs.declared.Opening.TheVariants.{NoItem}
 use Rattle.formula.specs.Places.{choice_lists}
 use Rattle.formula.specs.PlacesLaws.{step, choice_at_lem}
