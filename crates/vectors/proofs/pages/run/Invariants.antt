@@ -2,5 +2,5 @@
 use Rattle.std.proofs.Common.{◌≡◌, length}
 use Rattle.vectors.proofs.pages.run.Given as goal
 
-abbrev pub invariant-loop-_ : goal.invariant-loop-_
-invariant-loop-_ g l = (length l.bytes ≡ length l.initial.bytes) × (length l.res ≡ length l.initial.res)
+abbrev pub invariant-loop : goal.invariant-loop
+invariant-loop g l = (length l.bytes ≡ length l.initial.bytes) × (length l.res ≡ length l.initial.res)
