@@ -24,6 +24,7 @@ pub fn put_list(names: &[u8], s: &[u8], out: &mut [u8], at: usize) -> Option<usi
     ensures put_within { PutWithin at (length s.now) result }
     ensures list_put { ListPut names.now s.now at out.old out.new result }
 {
+    // No `for`: an item's size is known once it has been read.
     let mut from: usize = 0;
     let mut end = at;
     while from < s.len() {

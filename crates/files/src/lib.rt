@@ -40,6 +40,7 @@ pub fn read_needed(rt: &impl Files, name: &[u8], buffer: &mut [u8]) -> usize
 pub fn read_full(input: &mut impl Read, buffer: &mut [u8]) -> usize
     ensures { IsPrefixLen result buffer.new }
 {
+    // No `for`: a read gives as many bytes as it likes.
     let mut done = 0;
     while done < buffer.len() {
         let got = read_some(input, &mut buffer[done..]);
