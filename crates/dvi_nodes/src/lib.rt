@@ -12,6 +12,7 @@ pub mod stored;
 use nodes::run::within;
 use scaled::Sp;
 
+// The greatest numbers of a node on a page. A font's table has the same, of which this crate knows nothing.
 const GREATEST_SIZE: u8 = 2;
 
 const GREATEST_FAMILY: u8 = 15;
