@@ -27,7 +27,6 @@ pub fn put_list(names: &[u8], s: &[u8], out: &mut [u8], at: usize) -> Option<usi
     // No `for`: an item's size is known once it has been read.
     let mut from: usize = 0;
     let mut end = at;
-    // No count: an item ends where the next one starts.
     while from < s.len() {
         let Opening::Fields(kind) = opening(&s[from..]) else {
             return None;

@@ -42,7 +42,6 @@ pub fn read_full(input: &mut impl Read, buffer: &mut [u8]) -> usize
 {
     // No `for`: a read gives as many bytes as it likes.
     let mut done = 0;
-    // No count: only a read says how many bytes it gives.
     while done < buffer.len() {
         let got = read_some(input, &mut buffer[done..]);
         if got == 0 {
