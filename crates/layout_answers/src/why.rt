@@ -48,7 +48,8 @@ impl WhyRefusal {
     }
 }
 
-// An answer in numbers, for those who show it or hand it on: a shift that is not there is 0, and so are both on a refusal.
+// An answer in numbers, for those who hand it on: a shift that is not there is 0, and so are both on a refusal. They are the words that C
+// gets, so no Result.
 #[derive(Clone, Copy)]
 pub struct WhyReport {
     pub number: u8,

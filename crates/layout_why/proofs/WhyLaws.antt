@@ -7,7 +7,7 @@ use mathlib.Core.Path.{◌≡◌, refl, sym, ap, ap₂, ◌∙◌}
 use mathlib.Core.List.{List}
 use mathlib.Core.Option.{Option as OptionOf}
 use Prim.Native.Nat.{ℕ}
-use Rattle.std.specs.Prelude.{Option, Some, None, Err}
+use Rattle.std.specs.Prelude.{Option, Some, None, Err, ok_or}
 use Rattle.font.specs.Font.{font_with}
 use Rattle.formula.specs.Reading.{Read, read_formula}
 use Rattle.formula.specs.Places.{tree_of}
@@ -16,7 +16,6 @@ use Rattle.boxes.specs.declared.Size.{Size}
 use Rattle.boxes.specs.Styles.{style_of}
 use Rattle.reasons.specs.declared.Reasons.{Reasons as CodeReasons}
 use Rattle.reasons.specs.Values.{item_reasons_as}
-use Rattle.core.specs.Option.{ok_or}
 use Rattle.answers.specs.Lent.{Lent}
 use Rattle.answers.specs.Answers.{Result, result_of, Answered}
 use Rattle.answers.specs.Why.{why_refusal, if_picked, why_by, reasons_in, why_of}

@@ -3,7 +3,7 @@ use native.Mathlib.Omega.{arith}
 use lib.ListN.{length}
 use Rattle.std.proofs.lemmas.Result.{err_from_is_err_and}
 use Rattle.layout_find.specs.FoundLaws.{given_list}
-use Rattle.layout.proofs.EntryLaws.{setting_is, no_room_is, none_lacks, written_is, refused_is}
+use Rattle.layout.proofs.EntryLaws.{setting_is, no_room_is, written_is, refused_is}
 use Rattle.layout.proofs.set.Goals as goal
 
 pub returns-in_err-found-clause-result_value : goal.returns-in_err-found-clause-result_value
@@ -25,12 +25,6 @@ new-font-requires c = c.in_ok-found.ensures.found_of.0.indexed
 
 pub set_list-requires : goal.set_list-requires
 set_list-requires c = given_list c.in_ok-found.ensures.found_of.0
-
-pub returns-in_err-set_list : goal.returns-in_err-set_list
-returns-in_err-set_list c =
-    let f = c.in_ok-found.ensures.found_of in
-    let done = rw c.new-font.ensures at c.in_err-set_list.ensures in
-    absurd (none_lacks _ _ _ _ _ _ _ _ f.0 _ f.1 _ done.0)
 
 pub returns-clause-result_value : goal.returns-clause-result_value
 returns-clause-result_value c =
