@@ -4,11 +4,11 @@
 
 pub mod why;
 
-ghost use Rattle.std.specs.Prelude.{◌≡◌, ◌≤◌};
-ghost use Rattle.arrange.specs.Arrange.{base_style, first_style, second_style, third_style, op_manner, base_manner, first_manner};
-ghost use Rattle.arrange_rules.specs.Arrange.{is_given, sets_limits, nucleus_of, counts_behind, counts_before, root_counts, sign_count, base_counts, bar_counts};
+ghost use Rattle.std.specs.Prelude.{◌≡◌};
+ghost use Rattle.arrange.specs.Arrange.{first_style, second_style, third_style, first_manner};
+ghost use Rattle.arrange_rules.specs.Arrange.{sets_limits, nucleus_of, base_counts};
 ghost use Rattle.arrange_rules.specs.Arrange as rule;
-ghost use Rattle.boxes.specs.Values.{parameters_in, shape_as, script_as, arranged_as};
+ghost use Rattle.boxes.specs.Values.{parameters_in, shape_as, arranged_as};
 ghost use Rattle.delimiters.specs.Values.{signs_as};
 ghost use Rattle.nucleus.specs.Values.{nucleus_as};
 ghost use Rattle.arrange.specs.Values.{CountsAre, OwnCountsAre};
@@ -16,15 +16,15 @@ ghost use Rattle.boxes.specs.Bounds.{ModerateShape, Bounded};
 ghost use Rattle.nucleus.specs.Bounds.{ModerateNucleus};
 
 use arrange_rules::{fence_nucleus, root_nucleus};
-use boxes::parameters::{AXIS_HEIGHT, Parameters, parameter, rule_thickness};
+use boxes::parameters::{Dimension, Parameters, parameter, rule_thickness};
 use boxes::styles::{
-    Style, cramped_style, denominator_style, font_size, is_display, numerator_style,
-    subscript_style, superscript_style,
+    Style, cramped_style, denominator_style, is_display, numerator_style, subscript_style,
+    superscript_style,
 };
-use boxes::{Arranged, Script, Shape, given, size_of};
+use boxes::{Arranged, Shape, given, size_of};
 use delimiters::{HasSigns, Signs, sign_size};
 use fences::fence_of;
-use formula::{Base, Kind};
+use formula::{Base, Class, Kind};
 use formula_kinds::is_op;
 use fraction_places::{bar_thickness, fraction};
 use fractions::has_bar;
@@ -39,20 +39,9 @@ pub fn first_style(kind: Kind, style: Style) -> Style
     ensures { result ≡ first_style kind style }
 {
     match kind {
-        Kind::Scripted(base) => base_style(base, style),
+        Kind::Scripted(Base::Over | Base::Root(_)) => cramped_style(style),
+        Kind::Scripted(_) => style,
         Kind::Fraction(_) => numerator_style(style),
-    }
-}
-
-fn base_style(base: Base, style: Style) -> Style
-    ensures { result ≡ base_style base style }
-{
-    match base {
-        Base::Atom(_, _) => style,
-        Base::Over => cramped_style(style),
-        Base::Under => style,
-        Base::Root(_) => cramped_style(style),
-        Base::Fence(_, _) => style,
     }
 }
 
@@ -72,53 +61,26 @@ pub fn third_style(style: Style) -> Style
 }
 
 // How a field is set: as it is, with a symbol that gives way to its successor, or with a list between a fence's delimiters.
-#[derive(Clone, Copy)]
+#[derive(Clone, Copy, PartialEq, Eq)]
 pub enum Manner {
     Plain,
     Enlarged,
     Fenced,
 }
 
-// The manner of the first field; the others are set plainly.
+// The manner of the first field; the others are set plainly. Rule 13: in display styles the symbol of an Op gives way to its successor.
 pub fn first_manner(kind: Kind, style: Style) -> Manner
     ensures { result ≡ first_manner kind style }
 {
     match kind {
-        Kind::Scripted(base) => base_manner(base, style),
-        Kind::Fraction(_) => Manner::Plain,
-    }
-}
-
-fn base_manner(base: Base, style: Style) -> Manner
-    ensures { result ≡ base_manner base style }
-{
-    match base {
-        Base::Atom(class, _) => {
-            if is_op(class) {
-                op_manner(is_display(style))
-            } else {
-                Manner::Plain
-            }
-        }
-        Base::Over => Manner::Plain,
-        Base::Under => Manner::Plain,
-        Base::Root(_) => Manner::Plain,
-        Base::Fence(_, _) => Manner::Fenced,
-    }
-}
-
-// Rule 13: in display styles the symbol of an Op gives way to its successor.
-fn op_manner(display: bool) -> Manner
-    ensures { result ≡ op_manner display }
-{
-    if display {
-        Manner::Enlarged
-    } else {
-        Manner::Plain
+        Kind::Scripted(Base::Atom(Class::Op, _)) if is_display(style) => Manner::Enlarged,
+        Kind::Scripted(Base::Fence(_, _)) => Manner::Fenced,
+        _ => Manner::Plain,
     }
 }
 
 // The signs are those that were found for a root or a fence.
+#[tactic(auto, unfolding(arrange_rules::specs::Arrange::arrange))]
 pub fn arrange(
     p: &Parameters,
     style: Style,
@@ -135,9 +97,9 @@ pub fn arrange(
         Kind::Scripted(base) => {
             let superscript = given(y);
             let subscript = given(z);
-            let n = nucleus_of(p, style, base, signs, is_given(subscript), x);
+            let n = nucleus_of(p, style, base, signs, subscript.is_some(), x);
             if sets_limits(style, base) {
-                limited(p, font_size(style), n, superscript, subscript)
+                limited(p, style, n, superscript, subscript)
             } else {
                 scripted(p, style, n, superscript, subscript)
             }
@@ -152,14 +114,12 @@ fn sets_limits(style: Style, base: Base) -> bool
 {
     match base {
         Base::Atom(class, limits) => has_limits(style, class, limits),
-        Base::Over => false,
-        Base::Under => false,
-        Base::Root(_) => false,
-        Base::Fence(_, _) => false,
+        _ => false,
     }
 }
 
 // What the scripts are set to; the test is whether there is a subscript.
+#[tactic(auto, unfolding(arrange_rules::specs::Arrange::nucleus_of))]
 fn nucleus_of(
     p: &Parameters,
     style: Style,
@@ -173,31 +133,20 @@ fn nucleus_of(
 {
     match base {
         Base::Atom(class, limits) => {
-            let axis = parameter(p, font_size(style), AXIS_HEIGHT);
+            let axis = parameter(p, style, Dimension::AxisHeight);
             let as_limits = has_limits(style, class, limits);
             atom_nucleus(axis, is_op(class), as_limits, subscript, x)
         }
         Base::Over => overline(rule_thickness(p, style), size_of(x)),
         Base::Under => underline(rule_thickness(p, style), size_of(x)),
         Base::Root(_) => {
-            let before = signs.before;
-            root_nucleus(root(p, style, size_of(x), sign_size(before)), signs)
+            root_nucleus(root(p, style, size_of(x), sign_size(signs.before)), signs)
         }
         Base::Fence(_, _) => {
-            let before = signs.before;
-            let behind = signs.behind;
-            let fence = fence_of(p, style, sign_size(before), size_of(x), sign_size(behind));
-            fence_nucleus(fence, signs)
+            let left = sign_size(signs.before);
+            let right = sign_size(signs.behind);
+            fence_nucleus(fence_of(p, style, left, size_of(x), right), signs)
         }
-    }
-}
-
-fn is_given(script: Script) -> bool
-    ensures { result ≡ is_given (script_as script) }
-{
-    match script {
-        Script::Absent => false,
-        Script::Given(_) => true,
     }
 }
 
@@ -208,83 +157,40 @@ pub struct OwnCounts {
     pub behind: usize,
 }
 
-// The tests are on which side a sign was found for the item.
+// The tests are on which side a sign was found for the item. A fraction has a bar where it has a thickness.
+#[tactic(auto, unfolding(arrange_rules::specs::Arrange::own_counts))]
 pub fn own_counts(p: &Parameters, style: Style, kind: Kind, found: HasSigns) -> OwnCounts
     ensures { OwnCountsAre (parameters_in p.now) style kind found result }
 {
     match kind {
         Kind::Scripted(base) => base_counts(base, found),
-        Kind::Fraction(bar) => bar_counts(has_bar(bar_thickness(p, font_size(style), bar))),
+        Kind::Fraction(bar) => OwnCounts {
+            before: 0,
+            behind: usize::from(has_bar(bar_thickness(p, style, bar))),
+        },
     }
 }
 
-// A line always.
+// A line always; of a root a sign where one was found, and a rule always; of a fence a sign on each side where one was found.
 fn base_counts(base: Base, found: HasSigns) -> OwnCounts
     ensures { CountsAre (base_counts base found) result }
 {
     match base {
-        Base::Atom(_, _) => counts_behind(0),
-        Base::Over => counts_behind(1),
-        Base::Under => counts_behind(1),
-        Base::Root(_) => root_counts(found.before),
-        Base::Fence(_, _) => fence_counts(found),
-    }
-}
-
-// A sign where one was found, and a rule always.
-fn root_counts(found: bool) -> OwnCounts
-    ensures { CountsAre (root_counts found) result }
-{
-    if found {
-        counts_before(2)
-    } else {
-        counts_before(1)
-    }
-}
-
-// A sign on each side where one was found.
-fn fence_counts(found: HasSigns) -> OwnCounts
-    ensures { CountsAre (record { before = sign_count found.before; behind = sign_count found.behind }) result }
-{
-    OwnCounts {
-        before: sign_count(found.before),
-        behind: sign_count(found.behind),
-    }
-}
-
-fn sign_count(found: bool) -> usize
-    ensures { (result ≡ sign_count found) × (result ≤ 1) }
-{
-    if found { 1 } else { 0 }
-}
-
-// A bar where it has a thickness.
-fn bar_counts(thick: bool) -> OwnCounts
-    ensures { CountsAre (bar_counts thick) result }
-{
-    if thick {
-        counts_behind(1)
-    } else {
-        counts_behind(0)
-    }
-}
-
-fn counts_before(n: usize) -> OwnCounts
-    requires { n ≤ 2 }
-    ensures { CountsAre (counts_before n) result }
-{
-    OwnCounts {
-        before: n,
-        behind: 0,
-    }
-}
-
-fn counts_behind(n: usize) -> OwnCounts
-    requires { n ≤ 2 }
-    ensures { CountsAre (counts_behind n) result }
-{
-    OwnCounts {
-        before: 0,
-        behind: n,
+        Base::Atom(_, _) => OwnCounts {
+            before: 0,
+            behind: 0,
+        },
+        Base::Over | Base::Under => OwnCounts {
+            before: 0,
+            behind: 1,
+        },
+        Base::Root(_) => OwnCounts {
+            before: usize::from(found.before) + 1,
+            behind: 0,
+        },
+        Base::Fence(_, _) => OwnCounts {
+            before: usize::from(found.before),
+            behind: usize::from(found.behind),
+        },
     }
 }

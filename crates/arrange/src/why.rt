@@ -4,20 +4,20 @@ ghost use Rattle.arrange.specs.Reasons.{reasons};
 ghost use Rattle.boxes.specs.Values.{parameters_in, shape_as};
 ghost use Rattle.boxes.specs.Bounds.{ModerateShape};
 ghost use Rattle.delimiters.specs.Values.{signs_as};
-ghost use Rattle.formula.specs.declared.Kind.TheVariants.{Scripted};
 ghost use Rattle.reasons.specs.Values.{item_reasons_as};
 
-use crate::{is_given, nucleus_of, sets_limits};
+use crate::{nucleus_of, sets_limits};
 use boxes::parameters::Parameters;
 use boxes::styles::Style;
 use boxes::{Shape, given, size_of};
 use delimiters::Signs;
-use formula::{Base, Kind};
+use formula::Kind;
 use fraction_places::why::fraction_reasons;
-use reasons::ItemReasons;
+use reasons::Reasons;
 use script_reasons::script_reasons;
 
 // Of limits, and of an item without scripts, there is nothing to say.
+#[tactic(auto, unfolding(crate::specs::Reasons::reasons))]
 pub fn why_item(
     p: &Parameters,
     style: Style,
@@ -26,34 +26,19 @@ pub fn why_item(
     x: Shape,
     y: Shape,
     z: Shape,
-) -> ItemReasons
+) -> Option<Reasons>
     requires { ModerateShape x × ModerateShape y × ModerateShape z }
     ensures { item_reasons_as result ≡ reasons (parameters_in p.now) style kind (signs_as signs) (shape_as x) (shape_as y) (shape_as z) }
 {
     match kind {
-        Kind::Scripted(base) => why_scripted(p, style, base, signs, x, y, z),
-        Kind::Fraction(bar) => {
-            ItemReasons::By(fraction_reasons(p, style, bar, size_of(x), size_of(y)))
+        Kind::Scripted(base) => {
+            if sets_limits(style, base) {
+                return None;
+            }
+            let subscript = given(z);
+            let n = nucleus_of(p, style, base, signs, subscript.is_some(), x);
+            script_reasons(p, style, n, given(y), subscript)
         }
+        Kind::Fraction(bar) => Some(fraction_reasons(p, style, bar, size_of(x), size_of(y))),
     }
-}
-
-fn why_scripted(
-    p: &Parameters,
-    style: Style,
-    base: Base,
-    signs: Signs,
-    x: Shape,
-    y: Shape,
-    z: Shape,
-) -> ItemReasons
-    requires { ModerateShape x × ModerateShape y × ModerateShape z }
-    ensures { item_reasons_as result ≡ reasons (parameters_in p.now) style (Scripted base) (signs_as signs) (shape_as x) (shape_as y) (shape_as z) }
-{
-    if sets_limits(style, base) {
-        return ItemReasons::Nothing;
-    }
-    let subscript = given(z);
-    let n = nucleus_of(p, style, base, signs, is_given(subscript), x);
-    script_reasons(p, style, n, given(y), subscript)
 }

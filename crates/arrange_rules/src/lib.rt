@@ -24,15 +24,12 @@ pub fn root_nucleus(radical: Radical, signs: Signs) -> Nucleus
     requires { ModerateRadical radical }
     ensures { (nucleus_as result ≡ root_nucleus (radical_as radical) (signs_as signs)) × ModerateNucleus result }
 {
-    let size = radical.size;
-    let first = radical.nucleus;
-    let before = signs.before;
     Nucleus {
-        size,
-        first,
+        size: radical.size,
+        first: radical.nucleus,
         delta: Sp(0),
         plain: false,
-        own: signed_before(sign_at(radical.sign, before), radical.rule),
+        own: signed_before(sign_at(radical.sign, signs.before), radical.rule),
     }
 }
 
@@ -41,15 +38,14 @@ pub fn fence_nucleus(fence: Fence, signs: Signs) -> Nucleus
     requires { ModerateFence fence }
     ensures { (nucleus_as result ≡ fence_nucleus (fence_as fence) (signs_as signs)) × ModerateNucleus result }
 {
-    let size = fence.size;
-    let first = fence.inside;
-    let before = signs.before;
-    let behind = signs.behind;
     Nucleus {
-        size,
-        first,
+        size: fence.size,
+        first: fence.inside,
         delta: Sp(0),
         plain: false,
-        own: signed_around(sign_at(fence.left, before), sign_at(fence.right, behind)),
+        own: signed_around(
+            sign_at(fence.left, signs.before),
+            sign_at(fence.right, signs.behind),
+        ),
     }
 }

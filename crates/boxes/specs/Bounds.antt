@@ -5,20 +5,15 @@
 --     OffsetWithin, ShiftsWithin, OwnWithin     places, shifts and own nodes within so many words
 --     Bounded            an item
 -- Assumes nothing.
-use Rattle.std.specs.Prelude.{ℕ, ◌*◌, ◌^◌}
+use Rattle.std.specs.Prelude.{ℕ, ◌*◌, ◌^◌, Option, Some, None}
 use Rattle.scaled.specs.Signed.{Within}
 use Rattle.boxes.specs.declared.Size.{Size}
 use Rattle.boxes.specs.declared.Shape.{Shape}
 use Rattle.boxes.specs.declared.Shape.TheVariants.{Nothing, Char, Box}
-use Rattle.boxes.specs.declared.Script.{Script}
-use Rattle.boxes.specs.declared.Script.TheVariants.{Absent, Given}
 use Rattle.boxes.specs.declared.Offset.{Offset}
 use Rattle.boxes.specs.declared.Shifts.{Shifts}
 use Rattle.boxes.specs.declared.Rule.{Rule}
-use Rattle.boxes.specs.declared.Ruling.{Ruling}
-use Rattle.boxes.specs.declared.Ruling.TheVariants.{Unruled, Ruled}
-use Rattle.boxes.specs.declared.Signing.{Signing}
-use Rattle.boxes.specs.declared.Signing.TheVariants.{Unsigned, Signed}
+use Rattle.boxes.specs.declared.Glyph.{Glyph}
 use Rattle.boxes.specs.declared.Owned.{Owned}
 use Rattle.boxes.specs.declared.Own.{Own}
 use Rattle.boxes.specs.declared.Arranged.{Arranged}
@@ -40,9 +35,9 @@ ModerateShape Nothing = Unit {0}
 ModerateShape (Char m) = Unit {0}
 ModerateShape (Box z) = Moderate z
 
-abbrev pub ModerateScript : Script → Type 0
-ModerateScript Absent = Unit {0}
-ModerateScript (Given z) = Moderate z
+abbrev pub ModerateScript : Option Size → Type 0
+ModerateScript None = Unit {0}
+ModerateScript (Some z) = Moderate z
 
 pub record OffsetWithin (k : ℕ) (p : Offset) : Type 0 where
   pub across : Within (words k) p.across.0
@@ -57,13 +52,13 @@ pub record RuleWithin (k : ℕ) (r : Rule) : Type 0 where
   pub width : Within (words k) r.width.0
   pub thickness : Within (words k) r.thickness.0
 
-abbrev pub RulingWithin : ℕ → Ruling → Type 0
-RulingWithin k Unruled = Unit {0}
-RulingWithin k (Ruled r) = RuleWithin k r
+abbrev pub RulingWithin : ℕ → Option Rule → Type 0
+RulingWithin k None = Unit {0}
+RulingWithin k (Some r) = RuleWithin k r
 
-abbrev pub SigningWithin : ℕ → Signing → Type 0
-SigningWithin k Unsigned = Unit {0}
-SigningWithin k (Signed g) = OffsetWithin k g.place
+abbrev pub SigningWithin : ℕ → Option Glyph → Type 0
+SigningWithin k None = Unit {0}
+SigningWithin k (Some g) = OffsetWithin k g.place
 
 pub record OwnedWithin (k : ℕ) (o : Owned) : Type 0 where
   pub sign : SigningWithin k o.sign

@@ -4,5 +4,4 @@ pub mod Parameters
 pub mod Boxes
 pub mod Holding
 pub mod Values
-pub mod ValueLaws
 pub mod Bounds

@@ -16,6 +16,8 @@ ghost use Rattle.boxes.specs.Bounds.{words, item_words, Moderate, ModerateShape,
 use font::Metrics;
 use scaled::Sp;
 
+// A field's size is moderate, which contracts say and this type can't: a nucleus and an item are larger, and `size_of`, `given` and
+// `atom_nucleus` answer for shapes of any size.
 #[derive(Clone, Copy)]
 pub struct Size {
     pub width: Sp,
@@ -29,13 +31,6 @@ pub enum Shape {
     Nothing,
     Char(Metrics),
     Box(Size),
-}
-
-// A superscript or a subscript, if there is one.
-#[derive(Clone, Copy)]
-pub enum Script {
-    Absent,
-    Given(Size),
 }
 
 // Across to the right and up, from the item's reference point.
@@ -69,25 +64,11 @@ pub struct Glyph {
     pub code: u8,
 }
 
-// A line or a bar, if there is one.
-#[derive(Clone, Copy)]
-pub enum Ruling {
-    Unruled,
-    Ruled(Rule),
-}
-
-// A delimiter's symbol, if there is one.
-#[derive(Clone, Copy)]
-pub enum Signing {
-    Unsigned,
-    Signed(Glyph),
-}
-
 // Own nodes that stand together: a sign, and behind it a rule.
 #[derive(Clone, Copy)]
 pub struct Owned {
-    pub sign: Signing,
-    pub ruling: Ruling,
+    pub sign: Option<Glyph>,
+    pub ruling: Option<Rule>,
 }
 
 // An item's own nodes: before its first field, and behind it.
@@ -117,14 +98,14 @@ pub fn size_of(x: Shape) -> Size
     }
 }
 
-// A script that is there.
-pub fn given(x: Shape) -> Script
+// A superscript or a subscript, if there is one.
+pub fn given(x: Shape) -> Option<Size>
     ensures { (script_as result ≡ boxes.given (shape_as x)) × (ModerateShape x → ModerateScript result) }
 {
     match x {
-        Shape::Nothing => Script::Absent,
-        Shape::Char(m) => Script::Given(char_size(m)),
-        Shape::Box(z) => Script::Given(z),
+        Shape::Nothing => None,
+        Shape::Char(m) => Some(char_size(m)),
+        Shape::Box(z) => Some(z),
     }
 }
 
@@ -133,9 +114,9 @@ pub fn char_size(m: Metrics) -> Size
     ensures { (size_as result ≡ boxes.char_size (metrics_as m)) × Moderate result }
 {
     Size {
-        width: Sp::of_word(m.width).plus(Sp::of_word(m.italic)),
-        height: Sp::of_word(m.height),
-        depth: Sp::of_word(m.depth),
+        width: Sp::from(m.width).plus(Sp::from(m.italic)),
+        height: Sp::from(m.height),
+        depth: Sp::from(m.depth),
     }
 }
 
@@ -173,8 +154,8 @@ pub fn origin() -> Offset
 }
 
 const NONE_OWNED: Owned = Owned {
-    sign: Signing::Unsigned,
-    ruling: Ruling::Unruled,
+    sign: None,
+    ruling: None,
 };
 
 pub fn no_own() -> Own
@@ -190,45 +171,44 @@ pub fn ruled_behind(rule: Rule) -> Own
     requires { RuleWithin item_words rule }
     ensures { (own_as result ≡ boxes.ruled_behind (rule_as rule)) × OwnWithin item_words result }
 {
-    let behind = Owned {
-        sign: Signing::Unsigned,
-        ruling: Ruling::Ruled(rule),
-    };
     Own {
         before: NONE_OWNED,
-        behind,
+        behind: Owned {
+            sign: None,
+            ruling: Some(rule),
+        },
     }
 }
 
 // A delimiter's symbol, if there is one, and a rule.
-pub fn signed_before(sign: Signing, rule: Rule) -> Own
+pub fn signed_before(sign: Option<Glyph>, rule: Rule) -> Own
     requires { SigningWithin item_words sign × RuleWithin item_words rule }
     ensures { (own_as result ≡ boxes.signed_before (signing_as sign) (rule_as rule)) × OwnWithin item_words result }
 {
-    let before = Owned {
-        sign,
-        ruling: Ruling::Ruled(rule),
-    };
     Own {
-        before,
+        before: Owned {
+            sign,
+            ruling: Some(rule),
+        },
         behind: NONE_OWNED,
     }
 }
 
 // A delimiter's symbol on either side, if there is one.
-pub fn signed_around(left: Signing, right: Signing) -> Own
+pub fn signed_around(left: Option<Glyph>, right: Option<Glyph>) -> Own
     requires { SigningWithin item_words left × SigningWithin item_words right }
     ensures { (own_as result ≡ boxes.signed_around (signing_as left) (signing_as right)) × OwnWithin item_words result }
 {
-    let before = Owned {
-        sign: left,
-        ruling: Ruling::Unruled,
-    };
-    let behind = Owned {
-        sign: right,
-        ruling: Ruling::Unruled,
-    };
-    Own { before, behind }
+    Own {
+        before: Owned {
+            sign: left,
+            ruling: None,
+        },
+        behind: Owned {
+            sign: right,
+            ruling: None,
+        },
+    }
 }
 
 // How far a box of width w is moved right to stand in the middle of the width all.

@@ -3,7 +3,7 @@ ghost use Rattle.std.specs.Prelude.{◌≡◌, ◌<◌};
 ghost use Rattle.boxes.specs.Styles.{style_of, font_size, is_display, is_large, script_level, fraction_level, superscript_style, subscript_style, numerator_style, denominator_style, cramped_style};
 ghost use Rattle.boxes.specs.Values.{numbered_as};
 
-#[derive(Clone, Copy)]
+#[derive(Clone, Copy, PartialEq, Eq)]
 pub enum Level {
     Display,
     Text,
@@ -12,49 +12,35 @@ pub enum Level {
 }
 
 // One of the eight styles. Cramped is what document 01 writes with a prime.
-#[derive(Clone, Copy)]
+#[derive(Clone, Copy, PartialEq, Eq)]
 pub struct Style {
     pub level: Level,
     pub cramped: bool,
 }
 
-// The style of a number, if it has one.
-#[derive(Clone, Copy)]
-pub enum Numbered {
-    Styled(Style),
-    Unstyled,
-}
-
-pub fn style_of(number: u8) -> Numbered
+// The style of a number, if it has one: each level is there twice, and cramped the second time.
+pub fn style_of(number: u8) -> Option<Style>
     ensures { numbered_as result ≡ style_of number }
 {
-    match number {
-        0 => styled(Level::Display, false),
-        1 => styled(Level::Display, true),
-        2 => styled(Level::Text, false),
-        3 => styled(Level::Text, true),
-        4 => styled(Level::Script, false),
-        5 => styled(Level::Script, true),
-        6 => styled(Level::Scriptscript, false),
-        7 => styled(Level::Scriptscript, true),
-        _ => Numbered::Unstyled,
-    }
-}
-
-fn styled(level: Level, cramped: bool) -> Numbered
-    ensures { result ≡ Numbered.Styled (record { level = level; cramped = cramped }) }
-{
-    Numbered::Styled(Style { level, cramped })
+    let level = match number / 2 {
+        0 => Level::Display,
+        1 => Level::Text,
+        2 => Level::Script,
+        3 => Level::Scriptscript,
+        _ => return None,
+    };
+    Some(Style {
+        level,
+        cramped: number % 2 == 1,
+    })
 }
 
 // The size in which symbols and parameters are taken.
 pub fn font_size(style: Style) -> usize
     ensures { (result ≡ font_size style) × (result < 3) }
 {
-    let level = style.level;
-    match level {
-        Level::Display => 0,
-        Level::Text => 0,
+    match style.level {
+        Level::Display | Level::Text => 0,
         Level::Script => 1,
         Level::Scriptscript => 2,
     }
@@ -63,35 +49,22 @@ pub fn font_size(style: Style) -> usize
 pub fn is_display(style: Style) -> bool
     ensures { result ≡ is_display style.level }
 {
-    let level = style.level;
-    match level {
-        Level::Display => true,
-        Level::Text => false,
-        Level::Script => false,
-        Level::Scriptscript => false,
-    }
+    style.level == Level::Display
 }
 
 // D, D', T, T'.
 pub fn is_large(style: Style) -> bool
     ensures { result ≡ is_large style.level }
 {
-    let level = style.level;
-    match level {
-        Level::Display => true,
-        Level::Text => true,
-        Level::Script => false,
-        Level::Scriptscript => false,
-    }
+    matches!(style.level, Level::Display | Level::Text)
 }
 
 pub fn superscript_style(style: Style) -> Style
     ensures { result ≡ superscript_style style }
 {
-    let level = style.level;
     Style {
-        level: script_level(level),
-        cramped: style.cramped,
+        level: script_level(style.level),
+        ..style
     }
 }
 
@@ -105,10 +78,9 @@ pub fn subscript_style(style: Style) -> Style
 pub fn numerator_style(style: Style) -> Style
     ensures { result ≡ numerator_style style }
 {
-    let level = style.level;
     Style {
-        level: fraction_level(level),
-        cramped: style.cramped,
+        level: fraction_level(style.level),
+        ..style
     }
 }
 
@@ -122,10 +94,9 @@ pub fn denominator_style(style: Style) -> Style
 pub fn cramped_style(style: Style) -> Style
     ensures { result ≡ cramped_style style }
 {
-    let level = style.level;
     Style {
-        level,
         cramped: true,
+        ..style
     }
 }
 
@@ -133,10 +104,8 @@ fn script_level(level: Level) -> Level
     ensures { result ≡ script_level level }
 {
     match level {
-        Level::Display => Level::Script,
-        Level::Text => Level::Script,
-        Level::Script => Level::Scriptscript,
-        Level::Scriptscript => Level::Scriptscript,
+        Level::Display | Level::Text => Level::Script,
+        Level::Script | Level::Scriptscript => Level::Scriptscript,
     }
 }
 
@@ -146,7 +115,6 @@ fn fraction_level(level: Level) -> Level
     match level {
         Level::Display => Level::Text,
         Level::Text => Level::Script,
-        Level::Script => Level::Scriptscript,
-        Level::Scriptscript => Level::Scriptscript,
+        Level::Script | Level::Scriptscript => Level::Scriptscript,
     }
 }

@@ -13,9 +13,10 @@ ghost use Rattle.c_set.specs.AnswerWords.{answer_words};
 
 use c_words::{ANSWER_SPACE, NO_ANSWER, count_word};
 use layout_answers::Answer;
-use layout_answers::report::report_of;
+use layout_answers::report::SetReport;
 
 // Measures a formula.
+#[tactic(auto, using(c_words::specs::WordsLaws::enough, c_words::specs::WordsLaws::short))]
 pub fn torfianka_measure<'a>(
     style: u8,
     table: &'a [u8],
@@ -40,6 +41,7 @@ pub fn torfianka_measure<'a>(
 }
 
 // Sets a formula into the front of the node buffer.
+#[tactic(auto, using(c_words::specs::WordsLaws::enough, c_words::specs::WordsLaws::short))]
 pub fn torfianka_set<'a>(
     style: u8,
     table: &'a [u8],
@@ -70,17 +72,11 @@ fn report(answer: Answer, words: &mut [i64]) -> u8
     requires { (answer_space ≤ length words.old) × Small (answered_as answer) }
     ensures { (result ≡ (answered_as answer).number) × (words.new ≡ answer_words (answered_as answer) words.old) }
 {
-    let report = report_of(answer);
-    let size = report.size;
-    let place = count_word(report.place);
-    let count = count_word(report.count);
-    let width = size.width.0;
-    let height = size.height.0;
-    let depth = size.depth.0;
-    words[0] = place;
-    words[1] = width;
-    words[2] = height;
-    words[3] = depth;
-    words[4] = count;
+    let report = SetReport::from(answer);
+    words[0] = count_word(report.place);
+    words[1] = report.size.width.0;
+    words[2] = report.size.height.0;
+    words[3] = report.size.depth.0;
+    words[4] = count_word(report.count);
     report.number
 }

@@ -11,11 +11,12 @@ ghost use Rattle.c_words.specs.Words.{no_answer, answer_space, if_space};
 ghost use Rattle.c_why.specs.ReasonWords.{reason_word, reason_words};
 
 use c_words::{ANSWER_SPACE, NO_ANSWER, count_word};
-use layout_answers::why::{WhyAnswer, why_report};
+use layout_answers::why::{WhyAnswer, WhyReport};
 use layout_why::why;
 use reasons::Reason;
 
 // What decided the shifts of the item that starts at a place.
+#[tactic(auto, using(c_words::specs::WordsLaws::enough, c_words::specs::WordsLaws::short))]
 pub fn torfianka_why<'a>(
     style: u8,
     table: &'a [u8],
@@ -45,21 +46,14 @@ fn report_reasons(answer: WhyAnswer, words: &mut [i64]) -> u8
     requires { (answer_space ≤ length words.old) × ((why_answer_as answer).place ≤ formula_limit) }
     ensures { (result ≡ (why_answer_as answer).number) × (words.new ≡ reason_words (why_answer_as answer) words.old) }
 {
-    let report = why_report(answer);
-    let up = report.up;
-    let down = report.down;
-    let raising = up.by;
-    let lowering = down.by;
-    let place = count_word(report.place);
-    let raised = reason_word(raising);
-    let lowered = reason_word(lowering);
-    let above = up.shift.0;
-    let below = down.shift.0;
-    words[0] = place;
-    words[1] = raised;
-    words[2] = above;
-    words[3] = lowered;
-    words[4] = below;
+    let report = WhyReport::from(answer);
+    let up = report.reasons.up;
+    let down = report.reasons.down;
+    words[0] = count_word(report.place);
+    words[1] = reason_word(up.by);
+    words[2] = up.shift.0;
+    words[3] = reason_word(down.by);
+    words[4] = down.shift.0;
     report.number
 }
 
@@ -67,13 +61,5 @@ fn report_reasons(answer: WhyAnswer, words: &mut [i64]) -> u8
 fn reason_word(by: Reason) -> i64
     ensures { result ≡ reason_word by }
 {
-    match by {
-        Reason::None => 0,
-        Reason::Drop => 1,
-        Reason::Sigma => 2,
-        Reason::XHeight => 3,
-        Reason::Gap => 4,
-        Reason::Psi => 5,
-        Reason::Clearance => 6,
-    }
+    by as i64
 }

@@ -1,10 +1,10 @@
 -- What the values of the code stand for in the definitions.
 -- Assumes nothing.
-use Rattle.std.proofs.Math.Option.{Option, none, some}
+use Rattle.std.specs.Prelude.{Option, Some, None}
+use Rattle.std.proofs.Math.Option.{none, some}
+use Rattle.std.proofs.Math.Option.{Option as OptionOf}
 use Rattle.font.specs.Values.{metrics_as}
 use Rattle.delimiters.specs.declared.Sign as declared
-use Rattle.delimiters.specs.declared.Chosen.{Chosen}
-use Rattle.delimiters.specs.declared.Chosen.TheVariants as chosen
 use Rattle.delimiters.specs.declared.Search.{Search}
 use Rattle.delimiters.specs.declared.Search.TheVariants.{Nothing, Short, Enough}
 use Rattle.delimiters.specs.declared.Signs.{Signs}
@@ -14,9 +14,9 @@ use Rattle.delimiters.specs.Looking.{Looked, nothing, short, enough}
 abbrev pub sign_as : declared.Sign → Sign
 sign_as s = record { size = s.size; family = s.family; code = s.code; metrics = metrics_as s.metrics }
 
-abbrev pub chosen_as : Chosen → Option Sign
-chosen_as (chosen.Sign s) = some (sign_as s)
-chosen_as chosen.Blank = none
+abbrev pub chosen_as : Option declared.Sign → OptionOf Sign
+chosen_as None = none
+chosen_as (Some s) = some (sign_as s)
 
 abbrev pub signs_as : Signs → SignsOf
 signs_as s = record { before = chosen_as s.before; behind = chosen_as s.behind }

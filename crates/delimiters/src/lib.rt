@@ -2,20 +2,19 @@
 
 #![tactic(auto)]
 
-ghost use Rattle.std.specs.Prelude.{◌≡◌, ◌&&◌, eqb};
-ghost use Rattle.font_index.specs.Index.{Indexed};
-ghost use Rattle.font.specs.Font.{font_with};
+ghost use Rattle.std.specs.Prelude.{◌≡◌};
+ghost use Rattle.font.specs.Font.{font_in};
 ghost use Rattle.boxes.specs.Values.{size_as, offset_as, signing_as};
 ghost use Rattle.boxes.specs.Bounds.{item_words, Moderate, OffsetWithin, SigningWithin};
 ghost use Rattle.delimiters.specs.Delimiters as definition;
-ghost use Rattle.delimiters.specs.Delimiters.{chain, in_sizes, of_pair, sign_for, sign_size, sign_nodes, has_any, has_sign};
+ghost use Rattle.delimiters.specs.Delimiters.{chain, in_sizes, of_pair, sign_for, sign_size, sign_nodes, has_sign};
 ghost use Rattle.delimiters.specs.Looking.{looked_at};
 ghost use Rattle.delimiters.specs.Looking as looking;
 ghost use Rattle.delimiters.specs.Values.{sign_as, chosen_as, search_as};
 
-use boxes::{Glyph, Offset, Signing, Size, blank_size, char_size};
-use font::{Found, LONGEST_CHAIN, Metrics, Successor};
-use font_index::symbol;
+use boxes::{Glyph, Offset, Size, blank_size, char_size};
+use font::{LONGEST_CHAIN, Metrics};
+use font_index::Font;
 use formula::{Delimiter, Pair};
 use scaled::Sp;
 
@@ -28,18 +27,12 @@ pub struct Sign {
     pub metrics: Metrics,
 }
 
-// What stands for a delimiter: a symbol, or a blank where none of its symbols is present.
-#[derive(Clone, Copy)]
-pub enum Chosen {
-    Sign(Sign),
-    Blank,
-}
-
-// What stands for the delimiters of an item: before its first field, and behind it.
+// What stands for the delimiters of an item, before its first field and behind it: a symbol, or a blank where none of a delimiter's
+// symbols is present.
 #[derive(Clone, Copy)]
 pub struct Signs {
-    pub before: Chosen,
-    pub behind: Chosen,
+    pub before: Option<Sign>,
+    pub behind: Option<Sign>,
 }
 
 // On which side an item has a sign.
@@ -58,126 +51,47 @@ enum Search {
 }
 
 // The small symbol, then the large, each in sizes from the current one up to text.
-pub fn sign_for<'a>(
-    table: &'a [u8],
-    client: &'a [u8],
-    index: &[u64],
-    client_index: &[u64],
-    size: u8,
-    d: Delimiter,
-    needed: Sp,
-) -> Chosen
-    requires { Indexed table.now client.now index.now client_index.now }
-    ensures { chosen_as result ≡ sign_for (font_with table.now client.now) size d needed.0 }
+pub fn sign_for(font: &Font, size: u8, d: Delimiter, needed: Sp) -> Option<Sign>
+    ensures { chosen_as result ≡ sign_for (font_in font.now) size d needed.0 }
 {
-    let small = d.small;
-    let large = d.large;
-    let first = search_pair(
-        table,
-        client,
-        index,
-        client_index,
-        size,
-        small,
-        needed,
-        Search::Nothing,
-    );
-    let second = search_pair(
-        table,
-        client,
-        index,
-        client_index,
-        size,
-        large,
-        needed,
-        first,
-    );
+    let first = search_pair(font, size, d.small, needed, Search::Nothing);
+    let second = search_pair(font, size, d.large, needed, first);
     match second {
-        Search::Nothing => Chosen::Blank,
-        Search::Short(t) => Chosen::Sign(t),
-        Search::Enough(s) => Chosen::Sign(s),
+        Search::Nothing => None,
+        Search::Short(s) | Search::Enough(s) => Some(s),
     }
 }
 
 // Two zero bytes stand for no symbol.
-fn search_pair<'a>(
-    table: &'a [u8],
-    client: &'a [u8],
-    index: &[u64],
-    client_index: &[u64],
-    size: u8,
-    pair: Pair,
-    needed: Sp,
-    far: Search,
-) -> Search
-    requires { Indexed table.now client.now index.now client_index.now }
-    ensures { search_as result ≡ looked_at needed.0 (search_as far) (of_pair (font_with table.now client.now) size pair) }
+const NO_SYMBOL: Pair = Pair { family: 0, code: 0 };
+
+// The symbol of a pair, in its sizes.
+#[tactic(auto, unfolding(crate::specs::Delimiters::of_pair, crate::specs::Looking::looked_at))]
+fn search_pair(font: &Font, size: u8, pair: Pair, needed: Sp, far: Search) -> Search
+    ensures { search_as result ≡ looked_at needed.0 (search_as far) (of_pair (font_in font.now) size pair) }
 {
-    if is_zero(pair) {
+    if pair == NO_SYMBOL {
         return far;
     }
-    search_sizes(
-        table,
-        client,
-        index,
-        client_index,
-        size,
-        pair.family,
-        pair.code,
-        needed,
-        far,
-    )
+    search_sizes(font, size, pair.family, pair.code, needed, far)
 }
 
 // A symbol in sizes from this one up to text.
-fn search_sizes<'a>(
-    table: &'a [u8],
-    client: &'a [u8],
-    index: &[u64],
-    client_index: &[u64],
-    size: u8,
-    family: u8,
-    code: u8,
-    needed: Sp,
-    far: Search,
-) -> Search
-    requires { Indexed table.now client.now index.now client_index.now }
-    ensures { search_as result ≡ looked_at needed.0 (search_as far) (in_sizes (font_with table.now client.now) family code size) }
+#[tactic(auto, using(crate::proofs::ChainLaws::size_ways, crate::proofs::LookingLaws::looked_both))]
+fn search_sizes(font: &Font, size: u8, family: u8, code: u8, needed: Sp, far: Search) -> Search
+    ensures { search_as result ≡ looked_at needed.0 (search_as far) (in_sizes (font_in font.now) family code size) }
 {
-    let here = follow(
-        table,
-        client,
-        index,
-        client_index,
-        size,
-        family,
-        code,
-        needed,
-        far,
-        LONGEST_CHAIN,
-    );
-    if size == 0 {
-        return here;
+    let mut seen = far;
+    for at in (0..=size).rev() {
+        seen = follow(font, at, family, code, needed, seen, LONGEST_CHAIN);
     }
-    search_sizes(
-        table,
-        client,
-        index,
-        client_index,
-        size - 1,
-        family,
-        code,
-        needed,
-        here,
-    )
+    seen
 }
 
-// The chain is followed symbol by symbol, until one suffices or no step is left.
-fn follow<'a>(
-    table: &'a [u8],
-    client: &'a [u8],
-    index: &[u64],
-    client_index: &[u64],
+// The chain is followed symbol by symbol, until one suffices or no step is left. Document 01 names this recursion for a chain.
+#[tactic(auto, using(crate::proofs::ChainLaws::chain_ways, crate::proofs::LookingLaws::looked_enough), unfolding(crate::specs::Looking::looked_at))]
+fn follow(
+    font: &Font,
     size: u8,
     family: u8,
     code: u8,
@@ -185,14 +99,12 @@ fn follow<'a>(
     far: Search,
     steps: usize,
 ) -> Search
-    requires { Indexed table.now client.now index.now client_index.now }
-    ensures { search_as result ≡ looked_at needed.0 (search_as far) (chain (font_with table.now client.now) size family steps code) }
+    ensures { search_as result ≡ looked_at needed.0 (search_as far) (chain (font_in font.now) size family steps code) }
 {
     if let Search::Enough(_) = far {
         return far;
     }
-    let Found::Symbol(metrics) = symbol(table, client, index, client_index, size, family, code)
-    else {
+    let Some(metrics) = font.symbol(size, family, code) else {
         return far;
     };
     let sign = Sign {
@@ -202,28 +114,17 @@ fn follow<'a>(
         metrics,
     };
     let seen = look(needed, far, sign);
-    let next = metrics.successor;
-    let Successor::Code(c) = next else {
+    let Some(next) = metrics.successor else {
         return seen;
     };
     if steps == 0 {
         return seen;
     }
-    follow(
-        table,
-        client,
-        index,
-        client_index,
-        size,
-        family,
-        c,
-        needed,
-        seen,
-        steps - 1,
-    )
+    follow(font, size, family, next, needed, seen, steps - 1)
 }
 
 // One symbol more.
+#[tactic(auto, unfolding(crate::specs::Looking::look))]
 fn look(needed: Sp, far: Search, s: Sign) -> Search
     ensures { search_as result ≡ looking.look needed.0 (search_as far) (sign_as s) }
 {
@@ -235,10 +136,11 @@ fn look(needed: Sp, far: Search, s: Sign) -> Search
 }
 
 // The symbol s suffices if it is at least as tall as needed; t is the tallest so far.
+#[tactic(auto, unfolding(crate::specs::Looking::judged))]
 fn judged(needed: Sp, s: Sign, t: Sign) -> Search
     ensures { search_as result ≡ looking.judged needed.0 (sign_as s) (sign_as t) }
 {
-    if extent(s).less(needed) {
+    if extent(s) < needed {
         Search::Short(t)
     } else {
         Search::Enough(s)
@@ -246,114 +148,48 @@ fn judged(needed: Sp, s: Sign, t: Sign) -> Search
 }
 
 // Of two the taller, the first of equals.
+#[tactic(auto, unfolding(crate::specs::Delimiters::taller))]
 fn taller(a: Sign, b: Sign) -> Sign
     ensures { sign_as result ≡ definition.taller (sign_as a) (sign_as b) }
 {
-    if extent(a).less(extent(b)) { b } else { a }
+    if extent(a) < extent(b) { b } else { a }
 }
 
 // Height plus depth.
+#[tactic(auto, unfolding(crate::specs::Delimiters::extent))]
 fn extent(s: Sign) -> Sp
     ensures { result.0 ≡ definition.extent (sign_as s) }
 {
     let m = s.metrics;
-    Sp::of_word(m.height).plus(Sp::of_word(m.depth))
-}
-
-fn is_zero(pair: Pair) -> bool
-    ensures { result ≡ (eqb pair.family 0 && eqb pair.code 0) }
-{
-    (pair.family == 0) & (pair.code == 0)
+    Sp::from(m.height).plus(Sp::from(m.depth))
 }
 
 // The box of a sign has its italic correction in its width.
-pub fn sign_size(chosen: Chosen) -> Size
+pub fn sign_size(chosen: Option<Sign>) -> Size
     ensures { (size_as result ≡ sign_size (chosen_as chosen)) × Moderate result }
 {
     match chosen {
-        Chosen::Sign(s) => char_size(s.metrics),
-        Chosen::Blank => blank_size(),
+        Some(s) => char_size(s.metrics),
+        None => blank_size(),
     }
 }
 
 // The node of a sign at a place, with the size in which it was found.
-pub fn sign_at(place: Offset, chosen: Chosen) -> Signing
+pub fn sign_at(place: Offset, chosen: Option<Sign>) -> Option<Glyph>
     requires { OffsetWithin item_words place }
     ensures { (signing_as result ≡ sign_nodes (offset_as place) (chosen_as chosen)) × SigningWithin item_words result }
 {
-    match chosen {
-        Chosen::Sign(s) => Signing::Signed(Glyph {
-            place,
-            size: s.size,
-            family: s.family,
-            code: s.code,
-        }),
-        Chosen::Blank => Signing::Unsigned,
-    }
+    chosen.map(|s| Glyph {
+        place,
+        size: s.size,
+        family: s.family,
+        code: s.code,
+    })
 }
 
-// Whether the search finds anything, however tall it has to be. It ends at the first symbol present.
-pub fn has_sign<'a>(
-    table: &'a [u8],
-    client: &'a [u8],
-    index: &[u64],
-    client_index: &[u64],
-    size: u8,
-    d: Delimiter,
-) -> bool
-    requires { Indexed table.now client.now index.now client_index.now }
-    ensures { result ≡ has_sign (font_with table.now client.now) size d }
+// Whether the search finds anything, however tall it has to be. Every symbol is as tall as nothing, so it ends at the first one present.
+pub fn has_sign(font: &Font, size: u8, d: Delimiter) -> bool
+    ensures { result ≡ has_sign (font_in font.now) size d }
 {
-    let small = d.small;
-    let large = d.large;
-    if has_pair(table, client, index, client_index, size, small) {
-        return true;
-    }
-    has_pair(table, client, index, client_index, size, large)
-}
-
-fn has_pair<'a>(
-    table: &'a [u8],
-    client: &'a [u8],
-    index: &[u64],
-    client_index: &[u64],
-    size: u8,
-    pair: Pair,
-) -> bool
-    requires { Indexed table.now client.now index.now client_index.now }
-    ensures { result ≡ has_any (of_pair (font_with table.now client.now) size pair) }
-{
-    if is_zero(pair) {
-        return false;
-    }
-    is_in_sizes(
-        table,
-        client,
-        index,
-        client_index,
-        size,
-        pair.family,
-        pair.code,
-    )
-}
-
-fn is_in_sizes<'a>(
-    table: &'a [u8],
-    client: &'a [u8],
-    index: &[u64],
-    client_index: &[u64],
-    size: u8,
-    family: u8,
-    code: u8,
-) -> bool
-    requires { Indexed table.now client.now index.now client_index.now }
-    ensures { result ≡ has_any (in_sizes (font_with table.now client.now) family code size) }
-{
-    if let Found::Symbol(_) = symbol(table, client, index, client_index, size, family, code) {
-        return true;
-    }
-    if size == 0 {
-        return false;
-    }
-    is_in_sizes(table, client, index, client_index, size - 1, family, code)
+    sign_for(font, size, d, Sp(0)).is_some()
 }

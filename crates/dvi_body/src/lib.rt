@@ -14,7 +14,7 @@ ghost use Rattle.dvi.specs.Profile.{greatest_size, greatest_family, writable};
 ghost use Rattle.dvi.specs.Forms.{bytes_in, body_number, body_glyph, body_rule, front_in};
 ghost use Rattle.dvi_nodes.specs.Values.{node_as, front_as, Stands};
 
-use dvi_nodes::{Front, Node, found};
+use dvi_nodes::{Glyph, Node, Rule, found};
 use scaled::Sp;
 
 const SET1: u8 = 128;
@@ -43,17 +43,17 @@ pub fn size(node: Node) -> usize
     ensures { result ≡ length (bytes_in Body (node_as node)) }
 {
     match node {
-        Node::Glyph(_, _, _, _, _) => BYTES_IN_GLYPH,
-        Node::Rule(_, _, _, _) => BYTES_IN_RULE,
+        Node::Glyph(_) => BYTES_IN_GLYPH,
+        Node::Rule(_) => BYTES_IN_RULE,
     }
 }
 
 // The node at the front of some bytes: a rule opens with push, a glyph with its font.
-pub fn front(s: &[u8]) -> Front
+pub fn front(s: &[u8]) -> Option<Node>
     ensures { front_as result ≡ front_in Body s.now }
 {
     if s.len() < BYTES_IN_GLYPH {
-        return Front::Nothing;
+        return None;
     }
     if s[0] == PUSH {
         return rule_front(s);
@@ -61,34 +61,39 @@ pub fn front(s: &[u8]) -> Front
     glyph_front(s)
 }
 
-fn rule_front(s: &[u8]) -> Front
+fn rule_front(s: &[u8]) -> Option<Node>
     requires { get_or s.now 0 0 ≡ push_opcode }
     ensures { front_as result ≡ front_in Body s.now }
 {
     if s.len() < BYTES_IN_RULE {
-        return Front::Nothing;
+        return None;
     }
-    let y = number(s, 7).negated();
-    found(
-        is_rule(s),
-        Node::Rule(number(s, 2), y, number(s, 16), number(s, 12)),
-    )
+    let rule = Rule {
+        x: number(s, 2),
+        y: number(s, 7).negated(),
+        width: number(s, 16),
+        thickness: number(s, 12),
+    };
+    found(is_rule(s), Node::Rule(rule))
 }
 
-fn glyph_front(s: &[u8]) -> Front
+fn glyph_front(s: &[u8]) -> Option<Node>
     requires bytes_in_glyph_in_bounds { bytes_in_glyph ≤ length s.now }
     requires fact { get_or s.now 0 0 ≡ push_opcode → ⊥ }
     ensures { front_as result ≡ front_in Body s.now }
 {
     if s[0] < FNT_NUM_0 {
-        return Front::Nothing;
+        return None;
     }
     let font = s[0] - FNT_NUM_0;
-    let y = number(s, 8).negated();
-    found(
-        is_glyph(s),
-        Node::Glyph(number(s, 3), y, font / FAMILIES, font % FAMILIES, s[13]),
-    )
+    let glyph = Glyph {
+        x: number(s, 3),
+        y: number(s, 8).negated(),
+        size: font / FAMILIES,
+        family: font % FAMILIES,
+        code: s[13],
+    };
+    found(is_glyph(s), Node::Glyph(glyph))
 }
 
 // The commands of a rule.
@@ -113,30 +118,30 @@ pub fn put(node: Node, out: &mut [u8])
     ensures { out.new ≡ sets out.old 0 (bytes_in Body (node_as node)) }
 {
     match node {
-        Node::Glyph(x, y, size, family, code) => put_glyph(x, y, size, family, code, out),
-        Node::Rule(x, y, width, thickness) => put_rule(x, y, width, thickness, out),
+        Node::Glyph(g) => put_glyph(g, out),
+        Node::Rule(r) => put_rule(r, out),
     }
 }
 
-fn put_glyph(x: Sp, y: Sp, size: u8, family: u8, code: u8, out: &mut [u8])
-    requires { (bytes_in_glyph ≤ length out.old) × (size ≤ greatest_size) × (family ≤ greatest_family) × Within reach y.0 }
-    ensures { out.new ≡ sets out.old 0 (body_bytes (glyph x.0 y.0 size family code)) }
+fn put_glyph(g: Glyph, out: &mut [u8])
+    requires { (bytes_in_glyph ≤ length out.old) × (g.size ≤ greatest_size) × (g.family ≤ greatest_family) × Within reach g.y.0 }
+    ensures { out.new ≡ sets out.old 0 (body_bytes (glyph g.x.0 g.y.0 g.size g.family g.code)) }
 {
-    out[0] = FNT_NUM_0 + FAMILIES * size + family;
-    put_place(x, y, out, 1);
+    out[0] = FNT_NUM_0 + FAMILIES * g.size + g.family;
+    put_place(g.x, g.y, out, 1);
     out[12] = SET1;
-    out[13] = code;
+    out[13] = g.code;
     out[14] = POP;
 }
 
-fn put_rule(x: Sp, y: Sp, width: Sp, thickness: Sp, out: &mut [u8])
-    requires { (bytes_in_rule ≤ length out.old) × Within reach y.0 }
-    ensures { out.new ≡ sets out.old 0 (body_bytes (rule x.0 y.0 width.0 thickness.0)) }
+fn put_rule(r: Rule, out: &mut [u8])
+    requires { (bytes_in_rule ≤ length out.old) × Within reach r.y.0 }
+    ensures { out.new ≡ sets out.old 0 (body_bytes (rule r.x.0 r.y.0 r.width.0 r.thickness.0)) }
 {
-    put_place(x, y, out, 0);
+    put_place(r.x, r.y, out, 0);
     out[11] = SET_RULE;
-    put_number(thickness, out, 12);
-    put_number(width, out, 16);
+    put_number(r.thickness, out, 12);
+    put_number(r.width, out, 16);
     out[20] = POP;
 }
 
@@ -173,9 +178,5 @@ fn put_number(z: Sp, out: &mut [u8], at: usize)
 fn turned(w: u32) -> u32
     ensures { result ≡ turned_word w }
 {
-    let a = (w / 16_777_216) as u8;
-    let b = (w / 65_536 % 256) as u8;
-    let c = (w / 256 % 256) as u8;
-    let d = (w % 256) as u8;
-    words::of_bytes(a, b, c, d)
+    w.swap_bytes()
 }

@@ -9,120 +9,108 @@ mod forms;
 
 ghost use Rattle.std.specs.Prelude.{◌≡◌, length};
 ghost use Rattle.dvi.specs.declared.forms.Form.TheVariants.{Stored, Body};
-ghost use Rattle.results.specs.Results.{refusal};
+ghost use Rattle.dvi.specs.Forms.{other_form};
 ghost use Rattle.results.specs.Values.{report_as};
 ghost use Rattle.dvi.specs.Answers.{refusal_number, answering, buffer_after};
-ghost use Rattle.dvi_calls.specs.Values.{answered_as, MeasureDone, HasRoom};
+ghost use Rattle.dvi_calls.specs.Values.{number_as, answered_as, MeasureDone, HasRoom};
 
-use dvi::forms::Form;
-use dvi_nodes::Front;
+use forms::{BodyNodes, NodeForm, StoredNodes};
 use results::Report;
 
-// One constructor for each answer number; an acceptance has the size of what was written.
-#[derive(Clone, Copy)]
-pub enum Answer {
-    Accepted(usize),
+// Why nothing was written.
+#[derive(Clone, Copy, PartialEq, Eq)]
+pub enum Refusal {
     BadNodes,
     OutsideProfile,
     NoRoom,
 }
 
-// The size of the result, if the bytes are nodes.
-#[derive(Clone, Copy)]
-pub enum Measured {
-    Bytes(usize),
-    Unreadable,
+impl Refusal {
+    pub fn number(self) -> u8
+        ensures { result ≡ number_as self }
+    {
+        match self {
+            Refusal::BadNodes => 16,
+            Refusal::OutsideProfile => 17,
+            Refusal::NoRoom => 18,
+        }
+    }
 }
 
-// An answer in numbers.
-pub fn report_of(answer: Answer) -> Report
+// An answer in numbers; an acceptance has the size of what was written.
+pub fn report_of(answer: Result<usize, Refusal>) -> Report
     ensures { report_as result ≡ answered_as answer }
 {
     match answer {
-        Answer::Accepted(size) => results::accepted(size),
-        Answer::BadNodes => results::refusal(16, 0),
-        Answer::OutsideProfile => results::refusal(17, 0),
-        Answer::NoRoom => results::refusal(18, 0),
+        Ok(size) => results::accepted(size),
+        Err(refusal) => results::refusal(refusal.number(), 0),
     }
 }
 
 // Writes nodes as a page's body.
-pub fn write(nodes: &[u8], body: &mut [u8]) -> Answer
+pub fn write(nodes: &[u8], body: &mut [u8]) -> Result<usize, Refusal>
     ensures result_value { answered_as result ≡ answering Stored nodes.now (length body.old) }
     ensures body_after { body.new ≡ buffer_after Stored nodes.now body.old }
 {
-    convert(Form::Stored, nodes, body)
+    convert::<StoredNodes, BodyNodes>(nodes, body, Refusal::BadNodes)
 }
 
 // Reads the nodes back from a page's body.
-pub fn read(body: &[u8], nodes: &mut [u8]) -> Answer
+pub fn read(body: &[u8], nodes: &mut [u8]) -> Result<usize, Refusal>
     ensures result_value { answered_as result ≡ answering Body body.now (length nodes.old) }
     ensures nodes_after { nodes.new ≡ buffer_after Body body.now nodes.old }
 {
-    convert(Form::Body, body, nodes)
+    convert::<BodyNodes, StoredNodes>(body, nodes, Refusal::OutsideProfile)
 }
 
 // Converts nodes from one form to the other.
-fn convert(from: Form, s: &[u8], out: &mut [u8]) -> Answer
-    ensures result_value { answered_as result ≡ answering from s.now (length out.old) }
-    ensures out_after { out.new ≡ buffer_after from s.now out.old }
+fn convert<From: NodeForm, To: NodeForm>(
+    s: &[u8],
+    out: &mut [u8],
+    unreadable: Refusal,
+) -> Result<usize, Refusal>
+    requires forms { To.form ≡ other_form From.form }
+    requires number { number_as unreadable ≡ refusal_number From.form }
+    ensures result_value { answered_as result ≡ answering From.form s.now (length out.old) }
+    ensures out_after { out.new ≡ buffer_after From.form s.now out.old }
 {
-    let measured = measure(from, s);
-    match measured {
-        Measured::Bytes(size) => {
-            if out.len() < size {
-                return Answer::NoRoom;
-            }
-            transcribe(from, s, out);
-            Answer::Accepted(size)
-        }
-        Measured::Unreadable => refused(from),
+    let size = measure::<From, To>(s).ok_or(unreadable)?;
+    if out.len() < size {
+        return Err(Refusal::NoRoom);
     }
+    transcribe::<From, To>(s, out);
+    Ok(size)
 }
 
-// The answer to bytes that are not nodes.
-fn refused(from: Form) -> Answer
-    ensures { answered_as result ≡ refusal (refusal_number from) 0 }
+// The size of the nodes in the other form, if the bytes are nodes.
+fn measure<From: NodeForm, To: NodeForm>(s: &[u8]) -> Option<usize>
+    requires { To.form ≡ other_form From.form }
+    ensures { MeasureDone From.form s.now result }
 {
-    match from {
-        Form::Stored => Answer::BadNodes,
-        Form::Body => Answer::OutsideProfile,
-    }
-}
-
-// The size of the nodes in the other form.
-fn measure(from: Form, s: &[u8]) -> Measured
-    ensures { MeasureDone from s.now result }
-{
-    let to = forms::other(from);
-    let mut at: usize = 0;
+    let mut rest = s;
     let mut size: usize = 0;
-    while at < s.len() {
-        let front = forms::front(from, &s[at..]);
-        let Front::Starts(node) = front else {
-            return Measured::Unreadable;
-        };
-        at += forms::size(from, node);
-        size += forms::size(to, node);
+    while !rest.is_empty() {
+        let node = From::front(rest)?;
+        rest = &rest[From::size(node)..];
+        size += To::size(node);
     }
-    Measured::Bytes(size)
+    Some(size)
 }
 
 // Writes the nodes in the other form.
-fn transcribe(from: Form, s: &[u8], out: &mut [u8])
-    requires { HasRoom from s.now out.old }
-    ensures { out.new ≡ buffer_after from s.now out.old }
+fn transcribe<From: NodeForm, To: NodeForm>(s: &[u8], out: &mut [u8])
+    requires forms { To.form ≡ other_form From.form }
+    requires room { HasRoom From.form s.now out.old }
+    ensures { out.new ≡ buffer_after From.form s.now out.old }
 {
-    let to = forms::other(from);
-    let mut at: usize = 0;
+    let mut rest = s;
     let mut end: usize = 0;
-    while at < s.len() {
-        let front = forms::front(from, &s[at..]);
-        let Front::Starts(node) = front else {
+    while !rest.is_empty() {
+        let Some(node) = From::front(rest) else {
             return;
         };
-        forms::put(to, node, &mut out[end..]);
-        at += forms::size(from, node);
-        end += forms::size(to, node);
+        To::put(node, &mut out[end..]);
+        rest = &rest[From::size(node)..];
+        end += To::size(node);
     }
 }

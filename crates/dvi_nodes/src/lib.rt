@@ -12,44 +12,53 @@ pub mod stored;
 use nodes::run::within;
 use scaled::Sp;
 
+// The greatest numbers of a node on a page. A font's table has the same, of which this crate knows nothing.
 const GREATEST_SIZE: u8 = 2;
 
 const GREATEST_FAMILY: u8 = 15;
 
-// A glyph's x, y, size, family and code, or a rule's x, y, width and thickness.
-#[derive(Clone, Copy)]
-pub enum Node {
-    Glyph(Sp, Sp, u8, u8, u8),
-    Rule(Sp, Sp, Sp, Sp),
+#[derive(Clone, Copy, PartialEq, Eq)]
+pub struct Glyph {
+    pub x: Sp,
+    pub y: Sp,
+    pub size: u8,
+    pub family: u8,
+    pub code: u8,
 }
 
-// What stands at the front of some bytes.
-#[derive(Clone, Copy)]
-pub enum Front {
-    Starts(Node),
-    Nothing,
+#[derive(Clone, Copy, PartialEq, Eq)]
+pub struct Rule {
+    pub x: Sp,
+    pub y: Sp,
+    pub width: Sp,
+    pub thickness: Sp,
+}
+
+#[derive(Clone, Copy, PartialEq, Eq)]
+pub enum Node {
+    Glyph(Glyph),
+    Rule(Rule),
 }
 
 // A node, if its bytes stand there and it can be written.
-pub fn found(stands: bool, node: Node) -> Front
+pub fn found(stands: bool, node: Node) -> Option<Node>
     ensures { front_as result ≡ node_if stands (node_as node) }
 {
     if stands & is_writable(node) {
-        return Front::Starts(node);
+        Some(node)
+    } else {
+        None
     }
-    Front::Nothing
 }
 
 fn is_writable(node: Node) -> bool
     ensures { result ≡ writable (node_as node) }
 {
     match node {
-        Node::Glyph(x, y, size, family, _) => {
-            within(x) & within(y) & (size <= GREATEST_SIZE) & (family <= GREATEST_FAMILY)
+        Node::Glyph(g) => {
+            within(g.x) & within(g.y) & (g.size <= GREATEST_SIZE) & (g.family <= GREATEST_FAMILY)
         }
-        Node::Rule(x, y, width, thickness) => {
-            within(x) & within(y) & is_extent(width) & is_extent(thickness)
-        }
+        Node::Rule(r) => { within(r.x) & within(r.y) & is_extent(r.width) & is_extent(r.thickness) }
     }
 }
 

@@ -7,23 +7,36 @@ ghost use Rattle.dvi.specs.declared.forms.Form.TheVariants.{Stored};
 ghost use Rattle.dvi.specs.Forms.{bytes_in, front_in};
 ghost use Rattle.dvi_nodes.specs.Values.{node_as, front_as, Stands};
 
-use crate::{Front, Node, found};
+use crate::{Glyph, Node, Rule, found};
 use nodes::BYTES_IN_NODE;
 use scaled::Sp;
 
 // The node at the front of some bytes.
-pub fn front(s: &[u8]) -> Front
+pub fn front(s: &[u8]) -> Option<Node>
     ensures { front_as result ≡ front_in Stored s.now }
 {
     if s.len() < BYTES_IN_NODE {
-        return Front::Nothing;
+        return None;
     }
     let x = number(s, 2);
     let y = number(s, 6);
     if s[0] == b'G' {
-        return found(is_glyph(s), Node::Glyph(x, y, s[10], s[11], s[12]));
+        let glyph = Glyph {
+            x,
+            y,
+            size: s[10],
+            family: s[11],
+            code: s[12],
+        };
+        return found(is_glyph(s), Node::Glyph(glyph));
     }
-    found(is_rule(s), Node::Rule(x, y, number(s, 10), number(s, 14)))
+    let rule = Rule {
+        x,
+        y,
+        width: number(s, 10),
+        thickness: number(s, 14),
+    };
+    found(is_rule(s), Node::Rule(rule))
 }
 
 // A glyph's mark, and five zeros at the end.
@@ -56,7 +69,7 @@ pub fn put(node: Node, out: &mut [u8])
     ensures { out.new ≡ sets out.old 0 (bytes_in Stored (node_as node)) }
 {
     match node {
-        Node::Glyph(x, y, size, family, code) => nodes::put_glyph(out, x, y, size, family, code),
-        Node::Rule(x, y, width, thickness) => nodes::put_rule(out, 0, x, y, width, thickness),
+        Node::Glyph(g) => nodes::put_glyph(out, g.x, g.y, g.size, g.family, g.code),
+        Node::Rule(r) => nodes::put_rule(out, 0, r.x, r.y, r.width, r.thickness),
     }
 }

@@ -21,22 +21,19 @@ use Rattle.eqn_grammar.specs.Grammar.{Row, row_tokens}
 use Rattle.eqn_meaning.specs.Meaning.{items_within, fits_formula}
 use Rattle.eqn_meaning.specs.Writing.{text_of}
 use Rattle.eqn_meaning.proofs.ResultLaws.{fits_within_limits, large_past_limits}
-use Rattle.eqn_stores.specs.declared.Made.{Made}
-use Rattle.eqn_stores.specs.declared.Made.TheVariants as made
 use Rattle.eqn_read.specs.Values.{Wrote}
-use Rattle.eqn_write.specs.declared.Put.{Put}
-use Rattle.eqn_write.specs.declared.Put.TheVariants.{Next, Textless}
+use Rattle.std.specs.Prelude.{Option as CodeOption, Some, None}
 use Rattle.eqn_write.specs.Values.{text_from, TextPut, tokens_of_row}
 use Rattle.eqn_calls.specs.Values.{FormulaSized, TextSized}
 
-pub made_sized : (l : Items) (before after : List ℕ) (r : Made) → Wrote (items_within l (depth_limit - 1)) (spelling l) 0 before after r → FormulaSized l r
-made_sized l before after (made.Next e) w = (fits_within_limits l w.deep (omega (arith, w.ends, w.short)), omega (arith, w.ends))
-made_sized l before after made.TooLarge u = large_past_limits l (λ deep. omega (arith, u.large deep))
+pub made_sized : (l : Items) (before after : List ℕ) (r : CodeOption ℕ) → Wrote (items_within l (depth_limit - 1)) (spelling l) 0 before after r → FormulaSized l r
+made_sized l before after (Some e) w = (fits_within_limits l w.deep (omega (arith, w.ends, w.short)), omega (arith, w.ends))
+made_sized l before after None u = large_past_limits l (λ deep. omega (arith, u.large deep))
 
-pub made_stored : (l : Items) (before after : List ℕ) (r : Made) → fits_formula l ≡ true →
+pub made_stored : (l : Items) (before after : List ℕ) (r : CodeOption ℕ) → fits_formula l ≡ true →
     Wrote (items_within l (depth_limit - 1)) (spelling l) 0 before after r → after ≡ sets before 0 (spelling l)
-made_stored l before after (made.Next e) fits w = w.stored
-made_stored l before after made.TooLarge fits u =
+made_stored l before after (Some e) fits w = w.stored
+made_stored l before after None fits u =
     absurd (false≢true (sym (large_past_limits l (λ deep. omega (arith, u.large deep))) ∙ fits))
 
 pub from_front : (ts : List Token) → text_from 0 ts ≡ text_of ts
@@ -53,16 +50,16 @@ no_row : (o : Option Row) → tokens_of_row o ≡ none → o ≡ none
 no_row none e = refl
 no_row (some r) e = let no : ◌≡◌ {A = ℕ} 0 1 = cc in absurd (omega arith)
 
-pub put_sized : (o : Option Row) (before after : List ℕ) (r : Put) → TextPut (tokens_of_row o) 0 before after r → TextSized o r
-put_sized o before after (Next e) w =
+pub put_sized : (o : Option Row) (before after : List ℕ) (r : CodeOption ℕ) → TextPut (tokens_of_row o) 0 before after r → TextSized o r
+put_sized o before after (Some e) w =
     let row = row_of o w.are in
     let text : text_from 0 w.tokens ≡ text_of (row_tokens row.0) = from_front w.tokens ∙ ap text_of row.2 in
     (row.0, row.1, omega (arith, w.ends, ap (λ (s : List ℕ). length s) text))
-put_sized o before after Textless u = no_row o u.none_are
+put_sized o before after None u = no_row o u.none_are
 
-pub put_stored : (o : Option Row) {row : Row} (before after : List ℕ) (r : Put) → o ≡ some row → TextPut (tokens_of_row o) 0 before after r →
+pub put_stored : (o : Option Row) {row : Row} (before after : List ℕ) (r : CodeOption ℕ) → o ≡ some row → TextPut (tokens_of_row o) 0 before after r →
     after ≡ sets before 0 (text_of (row_tokens row))
-put_stored o {row} before after (Next e) is w =
+put_stored o {row} before after (Some e) is w =
     let tokens : w.tokens ≡ row_tokens row = (let own = rw is at w.are in cc) in
     w.stored ∙ ap (sets before 0) (from_front w.tokens ∙ ap text_of tokens)
-put_stored o before after Textless is u = let no : ◌≡◌ {A = ℕ} 0 1 = (let own = rw is at u.none_are in cc) in absurd (omega arith)
+put_stored o before after None is u = let no : ◌≡◌ {A = ℕ} 0 1 = (let own = rw is at u.none_are in cc) in absurd (omega arith)

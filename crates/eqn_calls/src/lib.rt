@@ -16,23 +16,20 @@ ghost use Rattle.eqn_meaning.specs.Answers.{read_result, write_result, no_room};
 ghost use Rattle.eqn_write.specs.Values.{HasNames};
 ghost use Rattle.eqn_calls.specs.Values.{answered_as, Derives, TestsDone, FormulaSized, TextSized};
 
-use eqn_check::Tested;
-use eqn_names::{Checked, FirstUnknown, PLACES};
+use eqn_check::StuckAt;
+use eqn_names::{BadRecord, NameIndex, PLACES};
 use eqn_read::making::put_row;
-use eqn_stores::Made;
-use eqn_write::Put;
 use eqn_write::writing::put_list;
-use formula::{DEPTH_LIMIT, Verdict};
+use formula::{DEPTH_LIMIT, FaultAt};
 use formula_reading::read_formula;
 use results::Report;
 
 // How many levels of lists may be entered below the formula itself.
 const LEVELS: usize = DEPTH_LIMIT - 1;
 
-// One constructor for each answer number; a refusal that has a place has it.
-#[derive(Clone, Copy)]
-pub enum Answer {
-    Accepted(usize),
+// Why nothing was written; a refusal that has a place has it.
+#[derive(Clone, Copy, PartialEq, Eq)]
+pub enum Refusal {
     UnknownWord(usize),
     OutsideGrammar(usize),
     TooLarge,
@@ -41,89 +38,99 @@ pub enum Answer {
     WithoutText,
 }
 
-// What comes of the tests before a formula is made.
-#[derive(Clone, Copy)]
-enum Tests {
-    Passed,
-    Failed(Answer),
+impl From<BadRecord> for Refusal {
+    ghost use Rattle.std.specs.Prelude.{◌≡◌};
+    ghost use Rattle.eqn_calls.specs.declared.Refusal.TheVariants.{BadNames};
+
+    ghost from_gives = { λ bad refusal. refusal ≡ BadNames bad.place };
+
+    fn from(bad: BadRecord) -> Refusal {
+        Refusal::BadNames(bad.place)
+    }
+}
+
+impl From<StuckAt> for Refusal {
+    ghost use Rattle.std.specs.Prelude.{◌≡◌};
+    ghost use Rattle.eqn_calls.specs.declared.Refusal.TheVariants.{OutsideGrammar};
+
+    ghost from_gives = { λ stuck refusal. refusal ≡ OutsideGrammar stuck.place };
+
+    fn from(stuck: StuckAt) -> Refusal {
+        Refusal::OutsideGrammar(stuck.place)
+    }
+}
+
+// Bytes that are no formula have no text.
+impl From<FaultAt> for Refusal {
+    ghost use Rattle.std.specs.Prelude.{◌≡◌};
+    ghost use Rattle.eqn_calls.specs.declared.Refusal.TheVariants.{WithoutText};
+
+    ghost from_gives = { λ fault refusal. refusal ≡ WithoutText };
+
+    fn from(_fault: FaultAt) -> Refusal {
+        Refusal::WithoutText
+    }
 }
 
 // Reads typed text into the bytes of a formula.
-pub fn read(names: &[u8], text: &[u8], formula: &mut [u8]) -> Answer
+pub fn read(names: &[u8], text: &[u8], formula: &mut [u8]) -> Result<usize, Refusal>
     ensures result_value { answered_as result ≡ answer_by no_room (length formula.old) (read_result names.now text.now) }
     ensures formula_after { formula.new ≡ buffer_by formula.old (read_result names.now text.now) }
 {
     let mut firsts = [0usize; PLACES];
-    let tests = test(names, text, &mut firsts);
-    if let Tests::Failed(answer) = tests {
-        return answer;
-    }
-    let size = formula_size(names, &firsts, text);
-    let Made::Next(bytes) = size else {
-        return Answer::TooLarge;
+    test(names, text, &mut firsts)?;
+    let index = NameIndex {
+        names,
+        firsts: &firsts,
     };
+    let bytes = formula_size(&index, text).ok_or(Refusal::TooLarge)?;
     if formula.len() < bytes {
-        return Answer::NoRoom;
+        return Err(Refusal::NoRoom);
     }
-    put_row(names, &firsts, text, LEVELS, formula, 0);
-    Answer::Accepted(bytes)
+    put_row(&index, text, LEVELS, formula, 0);
+    Ok(bytes)
 }
 
 // Tests names and text: 20, then 10, then 11; and keeps where the names are looked for.
-fn test(names: &[u8], text: &[u8], firsts: &mut [usize; PLACES]) -> Tests
+fn test(names: &[u8], text: &[u8], firsts: &mut [usize; PLACES]) -> Result<(), Refusal>
     requires { length firsts.old ≡ places }
     ensures tests_done { TestsDone names.now text.now result }
     ensures listed { (ns : List Name) → table_of names.now ≡ ofNames ns → Listed names.now firsts.new ns }
 {
-    let checked = eqn_names::index(names, firsts);
-    if let Checked::BadAt(place) = checked {
-        return Tests::Failed(Answer::BadNames(place));
+    eqn_names::index(names, firsts)?;
+    let index = NameIndex { names, firsts };
+    if let Some(place) = index.first_unknown(text) {
+        return Err(Refusal::UnknownWord(place));
     }
-    let unknown = eqn_names::first_unknown(names, firsts, text);
-    if let FirstUnknown::At(place) = unknown {
-        return Tests::Failed(Answer::UnknownWord(place));
-    }
-    let tested = eqn_check::test(text);
-    if let Tested::StuckAt(place) = tested {
-        return Tests::Failed(Answer::OutsideGrammar(place));
-    }
-    Tests::Passed
+    eqn_check::test(text)?;
+    Ok(())
 }
 
 // How many bytes the formula of a text has: a byte without room is passed over, and counted.
-fn formula_size(names: &[u8], firsts: &[usize; PLACES], text: &[u8]) -> Made
-    ensures { (d : Derives names.now text.now) → Listed names.now firsts.now d.ns → FormulaSized (row_items d.ns d.row) result }
+fn formula_size(index: &NameIndex<'_>, text: &[u8]) -> Option<usize>
+    ensures { (d : Derives index.now.names.now text.now) → Listed index.now.names.now index.now.firsts.now d.ns → FormulaSized (row_items d.ns d.row) result }
 {
     let mut room = [0u8; 1];
-    put_row(names, firsts, text, LEVELS, &mut room, 0)
+    put_row(index, text, LEVELS, &mut room, 0)
 }
 
 // Writes the bytes of a formula as typed text.
-pub fn write(names: &[u8], formula: &[u8], text: &mut [u8]) -> Answer
+pub fn write(names: &[u8], formula: &[u8], text: &mut [u8]) -> Result<usize, Refusal>
     ensures result_value { answered_as result ≡ answer_by no_room (length text.old) (write_result names.now formula.now) }
     ensures text_after { text.new ≡ buffer_by text.old (write_result names.now formula.now) }
 {
-    let checked = eqn_names::check(names);
-    if let Checked::BadAt(place) = checked {
-        return Answer::BadNames(place);
-    }
-    let verdict = read_formula(formula);
-    let Verdict::Good = verdict else {
-        return Answer::WithoutText;
-    };
-    let size = text_size(names, formula);
-    let Put::Next(bytes) = size else {
-        return Answer::WithoutText;
-    };
+    eqn_names::check(names)?;
+    read_formula(formula)?;
+    let bytes = text_size(names, formula).ok_or(Refusal::WithoutText)?;
     if text.len() < bytes {
-        return Answer::NoRoom;
+        return Err(Refusal::NoRoom);
     }
     put_list(names, formula, text, 0);
-    Answer::Accepted(bytes)
+    Ok(bytes)
 }
 
 // How many bytes the text of a formula has.
-fn text_size(names: &[u8], formula: &[u8]) -> Put
+fn text_size(names: &[u8], formula: &[u8]) -> Option<usize>
     requires { HasNames names.now × Readable formula.now × (length formula.now ≤ formula_limit) }
     ensures { (ns : List Name) → Records names.now ns → TextSized (row_of ns (tree_of formula.now)) result }
 {
@@ -132,16 +139,16 @@ fn text_size(names: &[u8], formula: &[u8]) -> Put
 }
 
 // An answer in numbers.
-pub fn report_of(answer: Answer) -> Report
+pub fn report_of(answer: Result<usize, Refusal>) -> Report
     ensures { report_as result ≡ answered_as answer }
 {
     match answer {
-        Answer::Accepted(bytes) => results::accepted(bytes),
-        Answer::UnknownWord(place) => results::refusal(10, place),
-        Answer::OutsideGrammar(place) => results::refusal(11, place),
-        Answer::TooLarge => results::refusal(12, 0),
-        Answer::NoRoom => results::refusal(13, 0),
-        Answer::BadNames(place) => results::refusal(20, place),
-        Answer::WithoutText => results::refusal(21, 0),
+        Ok(bytes) => results::accepted(bytes),
+        Err(Refusal::UnknownWord(place)) => results::refusal(10, place),
+        Err(Refusal::OutsideGrammar(place)) => results::refusal(11, place),
+        Err(Refusal::TooLarge) => results::refusal(12, 0),
+        Err(Refusal::NoRoom) => results::refusal(13, 0),
+        Err(Refusal::BadNames(place)) => results::refusal(20, place),
+        Err(Refusal::WithoutText) => results::refusal(21, 0),
     }
 }

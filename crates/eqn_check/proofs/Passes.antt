@@ -10,8 +10,8 @@ use native.Mathlib.Omega.{arith}
 use borrow.Author.Tests.{ltb-true, ltb-false, le-ltb}
 use lib.Dec.{ltb}
 use Rattle.laws.specs.Truths.{by_test}
-use Rattle.eqn_check.specs.declared.Tested.{Tested}
-use Rattle.eqn_check.specs.declared.Tested.TheVariants.{Grammatical, StuckAt}
+use Rattle.std.specs.Prelude.{Ok, Err}
+use Rattle.eqn_check.specs.Values.{Tested, stuck_at}
 use Rattle.eqn_check.specs.declared.windows.PassResult.{PassResult}
 use Rattle.eqn_check.specs.Windows.{levels, right_answer, fault_level, NotBefore, earlier_of, Passed}
 use Rattle.eqn_check.proofs.Slots.{seen_window}
@@ -21,20 +21,21 @@ pub record Least (s : List ℕ) (base : ℕ) (least : Tested) : Type 0 where
   pub exact : fault_level s < base → least ≡ right_answer s
 
 earlier_either : (P : Tested → Type 0) (a b : Tested) → P a → P b → P (earlier_of a b)
-earlier_either P Grammatical b p q = q
-earlier_either P (StuckAt i) Grammatical p q = p
-earlier_either P (StuckAt i) (StuckAt j) p q = by_test (ltb j i) (λ e. rw e q) (λ e. rw e p)
+earlier_either P (Ok u) b p q = q
+earlier_either P (Err i) (Ok v) p q = p
+earlier_either P (Err i) (Err j) p q = by_test (ltb j.place i.place) (λ e. rw e q) (λ e. rw e p)
 
 earlier_left : (x b : Tested) → NotBefore x b → earlier_of x b ≡ x
-earlier_left Grammatical Grammatical l = refl
-earlier_left Grammatical (StuckAt p) l = absurd l
-earlier_left (StuckAt q) Grammatical l = refl
-earlier_left (StuckAt q) (StuckAt p) l = rw (le-ltb p q l)
+earlier_left (Ok u) (Ok v) l = refl
+earlier_left (Ok u) (Err p) l = absurd l
+earlier_left (Err q) (Ok v) l = refl
+earlier_left (Err q) (Err p) l = rw (le-ltb p.place q.place l)
 
 earlier_right : (x a : Tested) → NotBefore x a → earlier_of a x ≡ x
-earlier_right x Grammatical l = refl
-earlier_right Grammatical (StuckAt i) l = absurd l
-earlier_right (StuckAt q) (StuckAt i) l = by_test (ltb q i) (λ e. rw e) (λ e. rw e (ap StuckAt (omega (arith, ltb-false q i e))))
+earlier_right x (Ok u) l = refl
+earlier_right (Ok u) (Err i) l = absurd l
+earlier_right (Err q) (Err i) l =
+    by_test (ltb q.place i.place) (λ e. rw e) (λ e. rw e (ap stuck_at (omega (arith, ltb-false q.place i.place e))))
 
 pub least_first : {s : List ℕ} {r : PassResult} → Passed s 0 r → Least s levels r.fault
 least_first {s} p = record { not_before = p.not_before; exact = λ l. p.exact (seen_window 0 (fault_level s) (omega arith) (omega arith)) }

@@ -25,8 +25,8 @@ use Rattle.eqn_tokens.specs.declared.tokens.Token as code
 use Rattle.eqn_tokens.specs.Values.{kind_as, token_then, HasBytes, TokenAt}
 use Rattle.eqn_grammar.specs.Grammar.{Row, named, braced}
 use Rattle.eqn_grammar.specs.Parsing.{Level, fresh, Reading, taking, joining, ended, on_level, out_of, read, begun, at_end}
-use Rattle.eqn_check.specs.declared.Tested.{Tested}
-use Rattle.eqn_check.specs.declared.Tested.TheVariants.{Grammatical, StuckAt}
+use Rattle.std.specs.Prelude.{Ok, Err}
+use Rattle.eqn_check.specs.Values.{Tested, stuck_at}
 use Rattle.eqn_check.specs.declared.stages.Stage.{Stage}
 use Rattle.eqn_check.specs.declared.stages.Stage.TheVariants.{Unseen}
 use Rattle.eqn_check.specs.declared.stages.Step.{Step}
@@ -48,7 +48,7 @@ pub record Agrees (s : List ℕ) (base : ℕ) (A : List Stage) (stage : Stage) (
 
 pub record Behind (s : List ℕ) (base deepest at : ℕ) : Type 0 where
   pub place : ℕ
-  pub right_is : right_answer s ≡ StuckAt place
+  pub right_is : right_answer s ≡ stuck_at place
   pub before : place ≤ at
   pub hidden : is_seen base (fault_level s) ≡ false
   pub deep : fault_level s ≤ deepest
@@ -78,8 +78,8 @@ walking_begun s base A sized =
 
 -- what is known behind a token
 unfoldable pub Outcome : List ℕ → ℕ → List Stage → Stage → ℕ → ℕ → code.Token → Step → Type 0
-Outcome s base A stage depth deepest t Stuck = Passed s base (record { fault = StuckAt t.start; deepest = deepest })
-Outcome s base A stage depth deepest t Whole = Passed s base (record { fault = Grammatical; deepest = deepest })
+Outcome s base A stage depth deepest t Stuck = Passed s base (record { fault = stuck_at t.start; deepest = deepest })
+Outcome s base A stage depth deepest t Whole = Passed s base (record { fault = Ok tt; deepest = deepest })
 Outcome s base A stage depth deepest t (On next) = Walking s base A next depth deepest t.end
 Outcome s base A stage depth deepest t In =
     Walking s base (set A (slot_of base depth) (behind_primary stage)) (fresh_of base (depth + 1)) (depth + 1) (max deepest (depth + 1)) t.end
@@ -131,8 +131,8 @@ unfolding read
 keyword_in_row k w = record { goes = joining k; reads_as = λ st. refl; steps = λ seen L d. stage_joining seen k L }
 
 not_before_same : (x : Tested) → NotBefore x x
-not_before_same Grammatical = tt
-not_before_same (StuckAt q) = omega arith
+not_before_same (Ok u) = tt
+not_before_same (Err q) = omega arith
 
 -- ---- behind a token
 
@@ -184,7 +184,7 @@ module _ {s : List ℕ} {base : ℕ} {A : List Stage} {stage : Stage} {depth dee
           deep = omega (arith, b.deep);
         }
 
-    behind_passed : {fault : Tested} → NotBefore (StuckAt b.place) fault → Passed s base (record { fault = fault; deepest = deepest })
+    behind_passed : {fault : Tested} → NotBefore (stuck_at b.place) fault → Passed s base (record { fault = fault; deepest = deepest })
     behind_passed {fault} l =
         record {
           not_before = subst (λ (x : Tested). NotBefore x fault) (sym b.right_is) l;
@@ -204,7 +204,7 @@ module _ {s : List ℕ} {base : ℕ} {A : List Stage} {stage : Stage} {depth dee
   -- ---- where what is kept agrees with the reading
 
   module _ {st : Reading} (a : Agrees s base A stage depth at st) where
-    stuck_here : (next : Token) → Next next → read st next ≡ none → Passed s base (record { fault = StuckAt t.start; deepest = deepest })
+    stuck_here : (next : Token) → Next next → read st next ≡ none → Passed s base (record { fault = stuck_at t.start; deepest = deepest })
     stuck_here next tokens is =
         let stops = reads_stuck a.reads found next tokens is in
         right_found stops.0 (stops.1 ∙ sym a.depth_is)
@@ -308,9 +308,9 @@ module _ {s : List ℕ} {base : ℕ} {A : List Stage} {stage : Stage} {depth dee
       let ends = reads_end a.reads found tokens in
       step_end (ne_eqb depth 0 (λ e. omega (arith, a.depth_is))) refl (right_found (ends.0 ∙ go (ended L)) (ends.1 ∙ sym a.depth_is))
     where
-      go : (o : Option Row) → tested_from at s (at_end (l ∷ ls) o) ≡ StuckAt t.start
-      go none = ap StuckAt found.place
-      go (some r) = ap StuckAt found.place
+      go : (o : Option Row) → tested_from at s (at_end (l ∷ ls) o) ≡ stuck_at t.start
+      go none = ap stuck_at found.place
+      go (some r) = ap stuck_at found.place
   end_after L [] a tokens = go (ended L) (is_seen base depth) refl refl
     where
       none_open : eqb depth 0 ≡ true
@@ -324,11 +324,11 @@ module _ {s : List ℕ} {base : ℕ} {A : List Stage} {stage : Stage} {depth dee
 
       go : (o : Option Row) (seen : Bool) → ended L ≡ o → is_seen base depth ≡ seen → After (step_of End stage depth)
       go (some r) seen is e = step_end none_open (wanting_here a is e) (right_found (right is) level)
-      go none true is e = step_end none_open (wanting_here a is e) (right_found (right is ∙ ap StuckAt found.place) level)
+      go none true is e = step_end none_open (wanting_here a is e) (right_found (right is ∙ ap stuck_at found.place) level)
       go none false is e =
           step_end none_open (wanting_here a is e)
           (record {
-            not_before = subst (λ (x : Tested). NotBefore x Grammatical) (sym (right is)) tt;
+            not_before = subst (λ (x : Tested). NotBefore x (Ok tt)) (sym (right is)) tt;
             exact = λ seen. absurd (false≢true (sym e ∙ rw level at seen));
             deep = omega (arith, level, w.deep);
             within = omega (arith, w.low, w.inside);

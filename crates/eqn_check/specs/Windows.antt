@@ -9,13 +9,12 @@ use Rattle.std.specs.Prelude.{◌≡◌, Bool, true, cond, List, [], ◌∷◌, 
 use Rattle.std.proofs.Math.Option.{Option, none, some}
 use Rattle.eqn_tokens.specs.Tokens.{Token, tokens_in}
 use Rattle.eqn_grammar.specs.Parsing.{Reading, read, begun, parse}
-use Rattle.eqn_check.specs.declared.Tested.{Tested}
-use Rattle.eqn_check.specs.declared.Tested.TheVariants.{Grammatical, StuckAt}
+use Rattle.std.specs.Prelude.{Ok, Err}
+use Rattle.eqn_check.specs.Values.{Tested, tested_as}
 use Rattle.eqn_check.specs.declared.stages.Stage.{Stage}
 use Rattle.eqn_check.specs.declared.stages.Stage.TheVariants.{Start}
 use Rattle.eqn_check.specs.declared.windows.PassResult.{PassResult}
 use Rattle.eqn_check.specs.Stages.{seen_as}
-use Rattle.eqn_check.specs.Values.{tested_as}
 
 -- ---- the levels that are seen
 
@@ -51,15 +50,15 @@ fault_level s = level_from begun (tokens_in s)
 -- ---- answers
 
 abbrev pub NotBefore : Tested → Tested → Type 0
-NotBefore Grammatical Grammatical = Unit {0}
-NotBefore Grammatical (StuckAt p) = ⊥
-NotBefore (StuckAt q) Grammatical = Unit {0}
-NotBefore (StuckAt q) (StuckAt p) = q ≤ p
+NotBefore (Ok u) (Ok v) = Unit {0}
+NotBefore (Ok u) (Err p) = ⊥
+NotBefore (Err q) (Ok v) = Unit {0}
+NotBefore (Err q) (Err p) = q.place ≤ p.place
 
 abbrev pub earlier_of : Tested → Tested → Tested
-earlier_of Grammatical b = b
-earlier_of (StuckAt i) Grammatical = StuckAt i
-earlier_of (StuckAt i) (StuckAt j) = cond (ltb j i) (StuckAt j) (StuckAt i)
+earlier_of (Ok u) b = b
+earlier_of (Err i) (Ok v) = Err i
+earlier_of (Err i) (Err j) = cond (ltb j.place i.place) (Err j) (Err i)
 
 pub record Passed (s : List ℕ) (base : ℕ) (r : PassResult) : Type 0 where
   pub not_before : NotBefore (right_answer s) r.fault

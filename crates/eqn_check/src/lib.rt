@@ -13,38 +13,30 @@ use crate::windows::{LEVELS, pass};
 mod stages;
 mod windows;
 
-// A text of the grammar, or the place where one stops being one.
-#[derive(Clone, Copy)]
-pub enum Tested {
-    Grammatical,
-    StuckAt(usize),
+// The place where a text stops being one of the grammar.
+#[derive(Clone, Copy, PartialEq, Eq)]
+pub struct StuckAt {
+    pub place: usize,
 }
 
 // Tests a text: a pass for each LEVELS levels of braces that it comes to, and the first of the places that they find.
-pub fn test(text: &[u8]) -> Tested
+pub fn test(text: &[u8]) -> Result<(), StuckAt>
     ensures { result ≡ tested_as text.now (parse (tokens_in text.now)) }
 {
     let first = pass(text, 0);
     let mut least = first.fault;
-    let deepest = first.deepest;
-    let mut base = LEVELS;
-    while base <= deepest {
-        let next = pass(text, base);
-        let fault = next.fault;
-        least = earlier(least, fault);
-        base += LEVELS;
+    for base in (LEVELS..first.deepest + 1).step_by(LEVELS) {
+        least = earlier(least, pass(text, base).fault);
     }
     least
 }
 
-fn earlier(a: Tested, b: Tested) -> Tested
+fn earlier(a: Result<(), StuckAt>, b: Result<(), StuckAt>) -> Result<(), StuckAt>
     ensures { result ≡ earlier_of a b }
 {
-    match a {
-        Tested::Grammatical => b,
-        Tested::StuckAt(i) => match b {
-            Tested::Grammatical => a,
-            Tested::StuckAt(j) => { if j < i { b } else { a } }
-        },
+    match (a, b) {
+        (Ok(()), _) => b,
+        (Err(i), Err(j)) if j.place < i.place => b,
+        _ => a,
     }
 }

@@ -60,8 +60,7 @@ pub fn behind_primary(stage: Stage) -> Stage
 {
     match stage {
         Stage::Unseen => Stage::Unseen,
-        Stage::Start => Stage::Have(Role::Nucleus, Limit::Unlimited),
-        Stage::Have(_, _) => Stage::Have(Role::Nucleus, Limit::Unlimited),
+        Stage::Start | Stage::Have(_, _) => Stage::Have(Role::Nucleus, Limit::Unlimited),
         Stage::Want(role, limit) => Stage::Have(role, limit),
     }
 }
@@ -72,9 +71,8 @@ fn behind_keyword(keyword: Keyword, stage: Stage) -> Step
 {
     match stage {
         Stage::Unseen => Step::On(Stage::Unseen),
-        Stage::Start => Step::Stuck,
         Stage::Have(role, limit) => joined(keyword, role, limit),
-        Stage::Want(_, _) => Step::Stuck,
+        Stage::Start | Stage::Want(_, _) => Step::Stuck,
     }
 }
 
@@ -85,23 +83,19 @@ fn joined(keyword: Keyword, role: Role, limit: Limit) -> Step
     match keyword {
         Keyword::Sub => match role {
             Role::Nucleus => Step::On(Stage::Want(Role::Subscript, limit)),
-            Role::Subscript => Step::Stuck,
-            Role::Superscript => Step::Stuck,
+            Role::Subscript | Role::Superscript => Step::Stuck,
         },
         Keyword::Sup => match role {
-            Role::Nucleus => Step::On(Stage::Want(Role::Superscript, limit)),
-            Role::Subscript => Step::On(Stage::Want(Role::Superscript, limit)),
+            Role::Nucleus | Role::Subscript => Step::On(Stage::Want(Role::Superscript, limit)),
             Role::Superscript => Step::Stuck,
         },
         Keyword::Over => Step::On(Stage::Want(Role::Nucleus, limit)),
         Keyword::From => match limit {
             Limit::Unlimited => Step::On(Stage::Want(Role::Nucleus, Limit::Lower)),
-            Limit::Lower => Step::Stuck,
-            Limit::Upper => Step::Stuck,
+            Limit::Lower | Limit::Upper => Step::Stuck,
         },
         Keyword::To => match limit {
-            Limit::Unlimited => Step::On(Stage::Want(Role::Nucleus, Limit::Upper)),
-            Limit::Lower => Step::On(Stage::Want(Role::Nucleus, Limit::Upper)),
+            Limit::Unlimited | Limit::Lower => Step::On(Stage::Want(Role::Nucleus, Limit::Upper)),
             Limit::Upper => Step::Stuck,
         },
     }
@@ -111,10 +105,7 @@ fn joined(keyword: Keyword, role: Role, limit: Limit) -> Step
 fn close(stage: Stage, depth: usize) -> Step
     ensures { result ≡ closing_step stage depth }
 {
-    if depth == 0 {
-        return Step::Stuck;
-    }
-    if is_wanting(stage) {
+    if depth == 0 || is_wanting(stage) {
         return Step::Stuck;
     }
     Step::Out
@@ -124,10 +115,7 @@ fn close(stage: Stage, depth: usize) -> Step
 fn end(stage: Stage, depth: usize) -> Step
     ensures { result ≡ end_step stage depth }
 {
-    if depth != 0 {
-        return Step::Stuck;
-    }
-    if is_wanting(stage) {
+    if depth != 0 || is_wanting(stage) {
         return Step::Stuck;
     }
     Step::Whole
@@ -136,10 +124,5 @@ fn end(stage: Stage, depth: usize) -> Step
 fn is_wanting(stage: Stage) -> bool
     ensures { result ≡ is_wanting stage }
 {
-    match stage {
-        Stage::Unseen => false,
-        Stage::Start => false,
-        Stage::Have(_, _) => false,
-        Stage::Want(_, _) => true,
-    }
+    matches!(stage, Stage::Want(_, _))
 }

@@ -1,9 +1,9 @@
 // A pass over a text that keeps the rows of some levels of braces: those from `base` on, LEVELS of them. What it does not keep passes.
 
-ghost use Rattle.std.specs.Prelude.{◌≡◌, max};
+ghost use Rattle.std.specs.Prelude.{◌≡◌};
 ghost use Rattle.eqn_check.specs.Windows.{slot_of, fresh_of, Passed};
 
-use crate::Tested;
+use crate::StuckAt;
 use crate::stages::{Stage, Step, behind_primary, token_step};
 use eqn_tokens::tokens::token_at;
 
@@ -16,7 +16,7 @@ const SLOTS: usize = LEVELS + 1;
 // The first place that a pass finds fault with, and the deepest level that it came to.
 #[derive(Clone, Copy)]
 pub struct PassResult {
-    pub fault: Tested,
+    pub fault: Result<(), StuckAt>,
     pub deepest: usize,
 }
 
@@ -43,12 +43,6 @@ fn fresh(base: usize, level: usize) -> Stage
     Stage::Unseen
 }
 
-fn greater(a: usize, b: usize) -> usize
-    ensures { result ≡ max a b }
-{
-    if a < b { b } else { a }
-}
-
 // Goes through a text up to the first fault in the levels from a base on, or with the braces.
 pub fn pass(text: &[u8], base: usize) -> PassResult
     ensures { Passed text.now base result }
@@ -58,16 +52,16 @@ pub fn pass(text: &[u8], base: usize) -> PassResult
     let mut depth: usize = 0;
     let mut deepest: usize = 0;
     let mut at: usize = 0;
+    // No count: a token ends where the look for the next one starts.
     loop {
         let token = token_at(text, at);
-        let kind = token.kind;
-        match token_step(kind, stage, depth) {
+        match token_step(token.kind, stage, depth) {
             Step::Stuck => {
-                let fault = Tested::StuckAt(token.start);
+                let fault = Err(StuckAt { place: token.start });
                 return PassResult { fault, deepest };
             }
             Step::Whole => {
-                let fault = Tested::Grammatical;
+                let fault = Ok(());
                 return PassResult { fault, deepest };
             }
             Step::On(next) => stage = next,
@@ -75,7 +69,7 @@ pub fn pass(text: &[u8], base: usize) -> PassResult
                 let i = slot(base, depth);
                 stages[i] = behind_primary(stage);
                 depth += 1;
-                deepest = greater(deepest, depth);
+                deepest = deepest.max(depth);
                 stage = fresh(base, depth);
             }
             Step::Out => {

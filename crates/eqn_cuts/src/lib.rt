@@ -3,13 +3,14 @@
 #![tactic(auto)]
 
 ghost use Rattle.std.specs.Prelude.{◌≡◌, ◌-◌, ◌^◌, ◌≤◌, ◌<◌, length};
-ghost use Rattle.eqn_grammar.specs.Splits.{level_after, keyword_number, is_this_keyword, begins_operand, ends_operand};
+ghost use Rattle.eqn_grammar.specs.Splits.{level_after, is_this_keyword, begins_operand, ends_operand};
 ghost use Rattle.eqn_cuts.specs.Values.{kind_token, SplitAt, ExpressionEnds, LastStarts};
 
 use eqn_tokens::tokens::{Keyword, TokenKind, token_at};
 
-// The places where a keyword starts and ends; both are the end of the text where there is none.
-#[derive(Clone, Copy)]
+// The places where a keyword starts and ends; both are the end of the text where there is none, so that what stands before it and behind it
+// are slices in either case.
+#[derive(Clone, Copy, PartialEq, Eq)]
 pub struct Split {
     pub start: usize,
     pub end: usize,
@@ -23,14 +24,14 @@ pub fn last_outside(s: &[u8], keyword: Keyword) -> Split
     let mut level: usize = 0;
     let mut start = s.len();
     let mut end = s.len();
+    // No count: a token ends where the look for the next one starts.
     while at < s.len() {
         let token = token_at(s, at);
-        let kind = token.kind;
-        if (level == 0) & is_this_keyword(kind, keyword) {
+        if (level == 0) & is_this_keyword(token.kind, keyword) {
             start = token.start;
             end = token.end;
         }
-        level = level_after(level, kind);
+        level = level_after(level, token.kind);
         at = token.end;
     }
     Split { start, end }
@@ -44,14 +45,14 @@ pub fn expression_end(s: &[u8], from: usize) -> usize
     let mut at = from;
     let mut level: usize = 0;
     let mut ended = false;
+    // No count: a token ends where the look for the next one starts.
     while at < s.len() {
         let token = token_at(s, at);
-        let kind = token.kind;
-        if ended & begins_operand(kind) {
+        if ended & begins_operand(token.kind) {
             return at;
         }
-        level = level_after(level, kind);
-        ended = (level == 0) & ends_operand(kind);
+        level = level_after(level, token.kind);
+        ended = (level == 0) & ends_operand(token.kind);
         at = token.end;
     }
     at
@@ -63,15 +64,14 @@ pub fn last_token(s: &[u8]) -> usize
 {
     let mut at: usize = 0;
     let mut last: usize = 0;
+    // No count: a token ends where the look for the next one starts.
     while at < s.len() {
         let token = token_at(s, at);
-        let kind = token.kind;
-        let TokenKind::End = kind else {
-            last = token.start;
-            at = token.end;
-            continue;
-        };
-        return last;
+        if token.kind == TokenKind::End {
+            return last;
+        }
+        last = token.start;
+        at = token.end;
     }
     last
 }
@@ -83,12 +83,7 @@ fn level_after(level: usize, kind: TokenKind) -> usize
 {
     match kind {
         TokenKind::Open => level + 1,
-        TokenKind::Close => {
-            if level == 0 {
-                return 0;
-            }
-            level - 1
-        }
+        TokenKind::Close => level.saturating_sub(1),
         _ => level,
     }
 }
@@ -96,50 +91,17 @@ fn level_after(level: usize, kind: TokenKind) -> usize
 fn is_this_keyword(kind: TokenKind, keyword: Keyword) -> bool
     ensures { result ≡ is_this_keyword keyword (kind_token kind) }
 {
-    match kind {
-        TokenKind::Keyword(found) => keyword_number(found) == keyword_number(keyword),
-        TokenKind::Word => false,
-        TokenKind::Open => false,
-        TokenKind::Close => false,
-        TokenKind::Other => false,
-        TokenKind::End => false,
-    }
-}
-
-fn keyword_number(keyword: Keyword) -> u8
-    ensures { result ≡ keyword_number keyword }
-{
-    match keyword {
-        Keyword::Sub => 0,
-        Keyword::Sup => 1,
-        Keyword::Over => 2,
-        Keyword::From => 3,
-        Keyword::To => 4,
-    }
+    kind == TokenKind::Keyword(keyword)
 }
 
 fn begins_operand(kind: TokenKind) -> bool
     ensures { result ≡ begins_operand (kind_token kind) }
 {
-    match kind {
-        TokenKind::Word => true,
-        TokenKind::Open => true,
-        TokenKind::Keyword(_) => false,
-        TokenKind::Close => false,
-        TokenKind::Other => false,
-        TokenKind::End => false,
-    }
+    matches!(kind, TokenKind::Word | TokenKind::Open)
 }
 
 fn ends_operand(kind: TokenKind) -> bool
     ensures { result ≡ ends_operand (kind_token kind) }
 {
-    match kind {
-        TokenKind::Word => true,
-        TokenKind::Close => true,
-        TokenKind::Keyword(_) => false,
-        TokenKind::Open => false,
-        TokenKind::Other => false,
-        TokenKind::End => false,
-    }
+    matches!(kind, TokenKind::Word | TokenKind::Close)
 }

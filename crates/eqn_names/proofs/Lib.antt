@@ -3,6 +3,7 @@ pub mod NamesLaws
 pub mod WithinLaws
 mod KindLaws
 mod WalkLaws
+mod SearchLaws
 mod TableLaws
 mod UnknownLaws
 mod FirstsLaws

@@ -1,5 +1,4 @@
 -- Laws of the name table.
---     asked_any, asked_class              what is asked for by a class
 --     named_first, named_next, named_append     a word among some names, by the first of them, and behind those that lack it
 --     named_more                          a word among some names, with more behind them
 --     named_is                            the record of a word is a member and has the word's bytes
@@ -12,7 +11,7 @@
 -- The idea: a good table's names are each new behind those before them (`New`), so a word's first record is its only one.
 -- Assumes nothing.
 use Rattle.std.specs.Prelude.{◌≡◌, refl, Bool, true, false, not, ◌&&◌, ℕ, zero, suc, ◌+◌, ◌≤◌, eqb, length, drop}
-use Rattle.std.proofs.Common.{sym, ◌∙◌, arith, eq-eqb, ne_eqb, eqb-true}
+use Rattle.std.proofs.Common.{sym, ◌∙◌, arith, eq-eqb, eqb-true}
 use Rattle.std.proofs.Math.Path.{ap}
 use Rattle.std.proofs.Math.Logic.{⊎_elim}
 use Rattle.std.proofs.Math.Bool.{false≢true}
@@ -24,16 +23,8 @@ use Rattle.laws.specs.Options.{none_some}
 use Rattle.laws.specs.Truths.{by_test, both_true, true_both}
 use Rattle.eqn_tokens.specs.Bytes.{same}
 use Rattle.eqn_tokens.specs.BytesLaws.{same_own, same_is}
-use Rattle.eqn_names.specs.Names.{Name, record_bytes, front_name, is_keyword, named, is_there, names, bad_at, is_new, record_then, table_step, table_by, table_of, Asked, any_class, of_class, has_class, first_for, first_place, Records, ended, next, asked_as}
+use Rattle.eqn_names.specs.Names.{Name, record_bytes, front_name, is_keyword, named, is_there, names, bad_at, is_new, record_then, table_step, table_by, table_of, Asked, has_class, first_for, first_place, Records, ended, next}
 use Rattle.eqn_names.specs.RecordsLaws.{GoodName, front_is}
-
--- ---- what is asked for
-
-pub asked_any : (class : ℕ) → class ≡ 255 → asked_as class ≡ any_class
-asked_any class e = rw (eq-eqb class 255 e, asked_as)
-
-pub asked_class : (class : ℕ) → (class ≡ 255 → ⊥) → asked_as class ≡ of_class class
-asked_class class e = rw (ne_eqb class 255 e, asked_as)
 
 -- ---- names by their bytes
 

@@ -12,7 +12,7 @@ use native.Mathlib.Omega.{arith}
 use native.Mathlib.Nat.{zero-add}
 use lib.ListN.{length, drop, drop_of_length-le}
 use Rattle.eqn_tokens.specs.declared.tokens.Token as code
-use Rattle.eqn_names.specs.declared.FirstUnknown.TheVariants.{At, Nowhere}
+use Rattle.std.specs.Prelude.{Some, None}
 use Rattle.eqn_tokens.specs.Tokens.{Token, tokens_from, tokens_in, place_in}
 use Rattle.eqn_names.specs.Names.{Name}
 use Rattle.eqn_names.specs.Unknown.{is_unknown, one_more, first_unknown}
@@ -83,7 +83,7 @@ module _ (ns : List Name) (s : List ℕ) where
     pub looked_next : is_unknown ns (kind_as t.kind (bytes_of s t)) ≡ false → Looked t.end
     looked_next known = ⊎_elim (λ is. moved (rw is at f.some)) (λ p. passed p known) (proper t.kind)
 
-    pub looked_found : Proper t.kind → is_unknown ns (kind_as t.kind (bytes_of s t)) ≡ true → UnknownFound ns s (At t.start)
+    pub looked_found : Proper t.kind → is_unknown ns (kind_as t.kind (bytes_of s t)) ≡ true → UnknownFound ns s (Some t.start)
     unfolding first_unknown
     looked_found p unknown =
         let here : l.count + 0 ≡ l.count = omega arith in (
@@ -94,6 +94,6 @@ module _ (ns : List Name) (s : List ℕ) where
           sym f.place ∙ sym (l.places 0) ∙ ap (λ (n : ℕ). place_in n s) here,
         )
 
-  pub looked_all : {at : ℕ} → Looked at → length s ≤ at → UnknownFound ns s Nowhere
+  pub looked_all : {at : ℕ} → Looked at → length s ≤ at → UnknownFound ns s None
   unfolding first_unknown tokens_from
   looked_all l e = l.left ∙ ap (λ (r : List ℕ). more l.count (first_unknown ns (tokens_in r))) (drop_of_length-le s e)

@@ -4,9 +4,11 @@
 --     Unknown                  the first word of a text that has no name
 --     Firsts                   where the search for a word may begin, by its hash
 --     Values                   what the answers of the code stand for
+--     Search                   the first record that a test picks
 -- Assumes nothing.
 pub mod Names
 pub mod RecordsLaws
 pub mod Unknown
 pub mod Firsts
 pub mod Values
+pub mod Search

@@ -7,6 +7,7 @@
 --     first_for f c k ns     the first name of a symbol; of an atom's class too where k asks for it; `first_place` where its record stands
 -- Assumes nothing.
 use Rattle.std.specs.Prelude.{◌≡◌, Bool, true, false, not, ◌&&◌, List, [], ◌∷◌, ◌++◌, ℕ, zero, suc, ◌+◌, leb, eqb, length, take, drop, get_or}
+use Rattle.std.specs.Prelude.{Option as CodeOption, Some, None}
 use Rattle.std.proofs.Math.Option.{Option, none, some}
 use Rattle.formula.specs.Heads.{greatest_family, greatest_class}
 use Rattle.eqn_tokens.specs.Bytes.{all_word_bytes, same}
@@ -100,9 +101,9 @@ abbrev pub has_class : Asked → ℕ → Bool
 has_class any_class class = true
 has_class (of_class k) class = eqb class k
 
--- 255 is no class
-abbrev pub asked_as : ℕ → Asked
-asked_as class = elim (eqb class 255) [ true ↦ any_class | false ↦ of_class class ]
+abbrev pub asked_as : CodeOption ℕ → Asked
+asked_as None = any_class
+asked_as (Some class) = of_class class
 
 unfoldable pub first_for : ℕ → ℕ → Asked → List Name → Option Name
 first_for family code asked [] = none

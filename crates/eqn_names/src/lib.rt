@@ -2,13 +2,15 @@
 
 #![tactic(auto)]
 
-ghost use Rattle.std.specs.Prelude.{◌≡◌, not, ◌&&◌, List, ℕ, ◌<◌, length, get_or, leb, eqb};
+ghost use Rattle.std.specs.Prelude.{◌≡◌, not, ◌&&◌, List, ℕ, ◌<◌, length, leb, eqb};
 ghost use Rattle.formula.specs.Heads.{greatest_family, greatest_class};
 ghost use Rattle.eqn_names.specs.Names.{Name, table_of, front_name, named, first_for, first_place, is_keyword, is_there, has_class};
 ghost use Rattle.eqn_names.specs.Names.{Records, asked_as};
 ghost use Rattle.eqn_names.specs.Names.{names as ofNames};
 ghost use Rattle.eqn_names.specs.Firsts.{From, Listed, places, mix, hash_of, kept};
-ghost use Rattle.eqn_names.specs.Values.{Stepped, front_as, found_as, NameFound, table_told, UnknownFound};
+ghost use denote.Ref.{Bor};
+ghost use Rattle.eqn_names.specs.Search.{Search};
+ghost use Rattle.eqn_names.specs.Values.{Stepped, RecordRead, front_as, found_as, NameFound, table_told, UnknownFound};
 
 use eqn_tokens::bytes::{are_same, are_word_bytes};
 use eqn_tokens::tokens::{TokenKind, token_at, word_kind};
@@ -19,76 +21,81 @@ const LONGEST_NAME: usize = 32;
 // So many hashes there are.
 pub const PLACES: usize = 4096;
 
-// Asks for a name of whatever class.
-pub const ANY_CLASS: u8 = 255;
-
 // What a name stands for.
-#[derive(Clone, Copy)]
+#[derive(Clone, Copy, PartialEq, Eq)]
 pub struct Symbol {
     pub family: u8,
     pub code: u8,
     pub class: u8,
 }
 
-// The symbol of a word, if it has one.
+// A record: how many bytes its name has, and its symbol.
 #[derive(Clone, Copy)]
-pub enum WordSymbol {
-    Named(Symbol),
-    Unnamed,
+struct Record {
+    bytes: usize,
+    symbol: Symbol,
 }
 
-// A record at the front of some bytes: how many bytes its name has, and its symbol.
-#[derive(Clone, Copy)]
-enum Front {
-    Record(usize, Symbol),
-    Malformed,
-}
-
-// A table's test: it is good, or a record at a place is not.
-#[derive(Clone, Copy)]
-pub enum Checked {
-    Good,
-    BadAt(usize),
-}
-
-// A place that was looked for, if there is one.
-#[derive(Clone, Copy)]
-pub enum FirstUnknown {
-    At(usize),
-    Nowhere,
+// The place of a record that is malformed, names a keyword or repeats a name.
+#[derive(Clone, Copy, PartialEq, Eq)]
+pub struct BadRecord {
+    pub place: usize,
 }
 
 // The bytes of a name in the table, by the places where they start and end.
+#[derive(Clone, Copy, PartialEq, Eq)]
+pub struct Range {
+    pub start: usize,
+    pub end: usize,
+}
+
+// A table, and for each hash the place from which a name of that hash is looked for.
+// `Listed` is no invariant of it, since `find`, `first_unknown` and `put_row`, which docs/PROOFS.md names, take any names and places.
 #[derive(Clone, Copy)]
-pub enum Range {
-    Bytes(usize, usize),
-    Nothing,
+pub struct NameIndex<'a> {
+    pub names: &'a [u8],
+    pub firsts: &'a [usize; PLACES],
+}
+
+impl<'a> NameIndex<'a> {
+    // The symbol that a word has in a table.
+    pub fn find(&self, word: &[u8]) -> Option<Symbol>
+        ensures { (ns : List Name) → Listed self.now.names.now self.now.firsts.now ns → found_as word.now result ≡ named ns word.now }
+    {
+        let h = hash(word);
+        find_from(self.names, self.firsts[h], word)
+    }
+
+    // The place of the first word of a text that has no name in a table.
+    pub fn first_unknown(&self, text: &[u8]) -> Option<usize>
+        ensures { (ns : List Name) → Listed self.now.names.now self.now.firsts.now ns → UnknownFound ns text.now result }
+    {
+        let mut at: usize = 0;
+        // No count: a token ends where the look for the next one starts.
+        while at < text.len() {
+            let token = token_at(text, at);
+            if token.kind == TokenKind::Word && self.find(&text[token.start..token.end]).is_none() {
+                return Some(token.start);
+            }
+            at = token.end;
+        }
+        None
+    }
 }
 
 // The record at the front of some bytes.
-fn front_record(s: &[u8]) -> Front
+fn front_record(s: &[u8]) -> Option<Record>
     ensures { front_as s.now result ≡ front_name s.now }
 {
-    if s.len() < 5 {
-        return Front::Malformed;
+    let record = next_record(s)?;
+    if (record.bytes == 0) | (record.bytes > LONGEST_NAME) {
+        return None;
     }
-    let n = s[0] as usize;
-    if (n == 0) | (n > LONGEST_NAME) {
-        return Front::Malformed;
+    let end = record.bytes + 1;
+    if is_symbol(record.symbol) & are_word_bytes(&s[1..end]) {
+        return Some(record);
     }
-    if s.len() < n + 4 {
-        return Front::Malformed;
-    }
-    let end = n + 1;
-    let symbol = Symbol {
-        family: s[end],
-        code: s[end + 1],
-        class: s[end + 2],
-    };
-    if is_symbol(symbol) & are_word_bytes(&s[1..end]) {
-        return Front::Record(n, symbol);
-    }
-    Front::Malformed
+    None
 }
 
 fn is_symbol(symbol: Symbol) -> bool
@@ -98,51 +105,55 @@ fn is_symbol(symbol: Symbol) -> bool
 }
 
 // The record at the front of some bytes that are records, by its length alone.
-fn next_record(s: &[u8]) -> Front
-    ensures { Stepped s.now result }
+fn next_record(s: &[u8]) -> Option<Record>
+    ensures stepped { Stepped s.now result }
+    ensures read { RecordRead s.now result }
 {
     if s.len() < 5 {
-        return Front::Malformed;
+        return None;
     }
-    let n = s[0] as usize;
-    if s.len() < n + 4 {
-        return Front::Malformed;
+    let bytes = s[0] as usize;
+    if s.len() < bytes + 4 {
+        return None;
     }
-    let end = n + 1;
+    let end = bytes + 1;
     let symbol = Symbol {
         family: s[end],
         code: s[end + 1],
         class: s[end + 2],
     };
-    Front::Record(n, symbol)
+    Some(Record { bytes, symbol })
 }
 
-// The symbol that a word has in a table.
-pub fn find(names: &[u8], firsts: &[usize; PLACES], word: &[u8]) -> WordSymbol
-    ensures { (ns : List Name) → Listed names.now firsts.now ns → found_as word.now result ≡ named ns word.now }
-{
-    let h = hash(word);
-    find_from(names, firsts[h], word)
-}
-
-// The same, where no record before a place has that name.
-fn find_from(names: &[u8], from: usize, word: &[u8]) -> WordSymbol
+// The symbol that a word has in a table, where no record before a place has that name.
+fn find_from(names: &[u8], from: usize, word: &[u8]) -> Option<Symbol>
     ensures { (ns : List Name) → From names.now ns word.now from → found_as word.now result ≡ named ns word.now }
 {
+    let found = first_record(names, from, |name, _| are_same(name, word))?;
+    Some(found.1)
+}
+
+// The first record from a place on that a test of its name and symbol picks: where its name stands, and the symbol.
+fn first_record<F: Fn(&[u8], Symbol) -> bool>(
+    names: &[u8],
+    from: usize,
+    picks: F,
+) -> Option<(Range, Symbol)>
+    requires { F.IsAlwaysCallable picks }
+    ensures { Search (λ w symbol b. (x : Bor (List ℕ)) × (x.now ≡ w) × F.post picks x symbol b) names.now from result }
+{
     let mut at = from;
+    // No count: a record says how far the next one is.
     while at < names.len() {
-        let front = next_record(&names[at..]);
-        let Front::Record(n, symbol) = front else {
-            return WordSymbol::Unnamed;
-        };
+        let record = next_record(&names[at..])?;
         let start = at + 1;
-        let end = start + n;
-        if are_same(&names[start..end], word) {
-            return WordSymbol::Named(symbol);
+        let end = start + record.bytes;
+        if picks(&names[start..end], record.symbol) {
+            return Some((Range { start, end }, record.symbol));
         }
         at = end + 3;
     }
-    WordSymbol::Unnamed
+    None
 }
 
 // A number below PLACES, from the bytes of a name.
@@ -150,10 +161,8 @@ fn hash(name: &[u8]) -> usize
     ensures { (result ≡ hash_of name.now) × (result < places) }
 {
     let mut h: usize = 0;
-    let mut i: usize = 0;
-    while i < name.len() {
-        h = mixed(h, name[i]);
-        i += 1;
+    for b in name {
+        h = mixed(h, *b);
     }
     h
 }
@@ -166,37 +175,22 @@ fn mixed(h: usize, b: u8) -> usize
 }
 
 // The first name of a symbol in a table, of a class or of any.
-pub fn first_for(names: &[u8], family: u8, code: u8, class: u8) -> Range
+pub fn first_for(names: &[u8], family: u8, code: u8, class: Option<u8>) -> Option<Range>
     ensures { (ns : List Name) → Records names.now ns → NameFound names.now (first_for family code (asked_as class) ns) (first_place family code (asked_as class) 0 ns) result }
 {
-    let mut at: usize = 0;
-    while at < names.len() {
-        let front = next_record(&names[at..]);
-        let Front::Record(n, symbol) = front else {
-            return Range::Nothing;
-        };
-        let start = at + 1;
-        let end = start + n;
-        if fits(symbol, family, code, class) {
-            return Range::Bytes(start, end);
-        }
-        at = end + 3;
-    }
-    Range::Nothing
+    let found = first_record(names, 0, |_, symbol| fits(symbol, family, code, class))?;
+    Some(found.0)
 }
 
 // Whether a symbol is the one asked for.
-fn fits(symbol: Symbol, family: u8, code: u8, class: u8) -> bool
+fn fits(symbol: Symbol, family: u8, code: u8, class: Option<u8>) -> bool
     ensures { result ≡ (eqb symbol.family family && eqb symbol.code code && has_class (asked_as class) symbol.class) }
 {
-    if class == ANY_CLASS {
-        return (symbol.family == family) & (symbol.code == code);
-    }
-    (symbol.family == family) & (symbol.code == code) & (symbol.class == class)
+    (symbol.family == family) & (symbol.code == code) & class.is_none_or(|k| symbol.class == k)
 }
 
 // Tests a table: every record is well formed, no keyword, and new.
-pub fn check(names: &[u8]) -> Checked
+pub fn check(names: &[u8]) -> Result<(), BadRecord>
     ensures { result ≡ table_told (table_of names.now) }
 {
     let mut firsts = [0usize; PLACES];
@@ -204,40 +198,26 @@ pub fn check(names: &[u8]) -> Checked
 }
 
 // Tests a table, and keeps for each hash the place of its first record; for a hash without one, the table's end.
-pub fn index(names: &[u8], firsts: &mut [usize; PLACES]) -> Checked
+pub fn index(names: &[u8], firsts: &mut [usize; PLACES]) -> Result<(), BadRecord>
     requires { length firsts.old ≡ places }
     ensures value { result ≡ table_told (table_of names.now) }
     ensures listed { (ns : List Name) → table_of names.now ≡ ofNames ns → Listed names.now firsts.new ns }
 {
-    clear(firsts, names.len());
+    firsts.fill(names.len());
     let mut at: usize = 0;
+    // No count: a record says how far the next one is.
     while at < names.len() {
-        let front = front_record(&names[at..]);
-        let Front::Record(n, _) = front else {
-            return Checked::BadAt(at);
-        };
+        let record = front_record(&names[at..]).ok_or(BadRecord { place: at })?;
         let start = at + 1;
-        let end = start + n;
+        let end = start + record.bytes;
         let h = hash(&names[start..end]);
         if !is_new(&names[..at], firsts[h], &names[start..end]) {
-            return Checked::BadAt(at);
+            return Err(BadRecord { place: at });
         }
         keep(firsts, h, at);
         at = end + 3;
     }
-    Checked::Good
-}
-
-// No hash has a record yet.
-fn clear(firsts: &mut [usize; PLACES], end: usize)
-    requires { length firsts.old ≡ places }
-    ensures { ((h : ℕ) → h < places → get_or firsts.new h 0 ≡ end) × (length firsts.new ≡ places) }
-{
-    let mut h: usize = 0;
-    while h < PLACES {
-        firsts[h] = end;
-        h += 1;
-    }
+    Ok(())
 }
 
 // Keeps a place for a hash, unless an earlier one is kept.
@@ -254,33 +234,5 @@ fn keep(firsts: &mut [usize; PLACES], h: usize, at: usize)
 fn is_new(before: &[u8], from: usize, name: &[u8]) -> bool
     ensures { (ns : List Name) → From before.now ns name.now from → result ≡ (not (is_keyword name.now) && not (is_there (named ns name.now))) }
 {
-    let TokenKind::Word = word_kind(name) else {
-        return false;
-    };
-    let found = find_from(before, from, name);
-    match found {
-        WordSymbol::Named(_) => false,
-        WordSymbol::Unnamed => true,
-    }
-}
-
-// The place of the first word of a text that has no name in a table.
-pub fn first_unknown(names: &[u8], firsts: &[usize; PLACES], text: &[u8]) -> FirstUnknown
-    ensures { (ns : List Name) → Listed names.now firsts.now ns → UnknownFound ns text.now result }
-{
-    let mut at: usize = 0;
-    while at < text.len() {
-        let token = token_at(text, at);
-        let start = token.start;
-        let end = token.end;
-        let kind = token.kind;
-        if let TokenKind::Word = kind {
-            let found = find(names, firsts, &text[start..end]);
-            let WordSymbol::Named(_) = found else {
-                return FirstUnknown::At(start);
-            };
-        }
-        at = end;
-    }
-    FirstUnknown::Nowhere
+    word_kind(name) == TokenKind::Word && find_from(before, from, name).is_none()
 }

@@ -1,5 +1,5 @@
 -- What the parts of a derivation mean, and that their tokens tell which parts there are.
---     Some, some_append, overs_some, limited_some     an expression has tokens
+--     NotEmpty, some_append, overs_some, limited_some     an expression has tokens
 --     as_overs, as_field      a script as an operand
 --     field_bare, field_listed     the operand of one word or group is its own field, any other a list of the item
 --     limits_item, item_plain, item_lower, item_upper     an expression without limits, and with some, where no operand is an empty field
@@ -29,23 +29,23 @@ use Rattle.eqn_tokens.specs.declared.tokens.Keyword.TheVariants.{Sub, Sup, Over}
 
 -- ---- tokens
 
-abbrev pub Some : List Token → Type 0
-Some ts = (t : Token) × (us : List Token) × (ts ≡ t ∷ us)
+abbrev pub NotEmpty : List Token → Type 0
+NotEmpty ts = (t : Token) × (us : List Token) × (ts ≡ t ∷ us)
 
-pub some_append : (ts us : List Token) → Some ts → Some (ts ++ us)
+pub some_append : (ts us : List Token) → NotEmpty ts → NotEmpty (ts ++ us)
 some_append ts us (t, vs, is) = (t, vs ++ us, ap (λ (l : List Token). l ++ us) is)
 
-primary_some : (p : Primary) → Some (primary_tokens p)
+primary_some : (p : Primary) → NotEmpty (primary_tokens p)
 unfolding primary_tokens
 primary_some (named w) = (_, _, refl)
 primary_some (braced r) = (_, _, refl)
 
-pub overs_some : (o : Overs) → Some (overs_tokens o)
+pub overs_some : (o : Overs) → NotEmpty (overs_tokens o)
 unfolding overs_tokens
 overs_some (single (scripted p b q)) = some_append (primary_tokens p) _ (primary_some p)
 overs_some (fraction o s) = some_append (overs_tokens o) _ (overs_some o)
 
-pub limited_some : (l : Limited) → Some (limited_tokens l)
+pub limited_some : (l : Limited) → NotEmpty (limited_tokens l)
 unfolding limited_tokens
 limited_some (limited o f t) = some_append (overs_tokens o) _ (overs_some o)
 

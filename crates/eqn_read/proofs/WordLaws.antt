@@ -5,6 +5,7 @@
 --     class_own                   the number of a class that is named by its number
 --     found_class_lem, found_name     the class of a word that was looked for, and its symbol
 -- Assumes nothing.
+use Rattle.std.specs.Prelude.{Option, Some, None}
 use mathlib.Core.Path.{◌≡◌, refl, sym, ◌∙◌}
 use mathlib.Core.Bool.{true, false≢true}
 use mathlib.Core.Logic.{⊎_elim}
@@ -18,13 +19,12 @@ use Rattle.eqn_tokens.specs.declared.tokens.TokenKind.TheVariants.{Word, Keyword
 use Rattle.eqn_tokens.specs.declared.tokens.Token as code
 use Rattle.eqn_tokens.specs.Values.{kind_as, TokenAt}
 use Rattle.eqn_tokens.specs.PlacesLaws.{proper, proper_then, bytes_of}
-use Rattle.eqn_names.specs.declared.WordSymbol.{WordSymbol}
-use Rattle.eqn_names.specs.declared.WordSymbol.TheVariants.{Named, Unnamed}
+use Rattle.eqn_names.specs.declared.Symbol.{Symbol}
 use Rattle.eqn_names.specs.Values.{found_as}
 use Rattle.formula.specs.Heads.{class_number}
 use Rattle.eqn_meaning.specs.Meaning.{or_no_name, class_of}
 use Rattle.eqn_read.specs.Values.{found_family, found_code}
-use Rattle.eqn_read.proofs.MeantLaws.{Some}
+use Rattle.eqn_read.proofs.MeantLaws.{NotEmpty}
 use Rattle.eqn_names.proofs.NamesLaws.{records_good, named_is}
 use Rattle.eqn_meaning.specs.MeaningLaws.{class_own}
 
@@ -38,7 +38,7 @@ module _ {s : List ℕ} {t : code.Token} (first : TokenAt s 0 t) where
       (cc, cc)
 
 -- there is one
-pub token_some : {s : List ℕ} {at : ℕ} {t : code.Token} → TokenAt s at t → (t.kind ≡ End → ⊥) → Some (tokens_in (drop at s))
+pub token_some : {s : List ℕ} {at : ℕ} {t : code.Token} → TokenAt s at t → (t.kind ≡ End → ⊥) → NotEmpty (tokens_in (drop at s))
 token_some {s} {at} {t} there no_end =
     ⊎_elim (λ is. absurd (no_end is)) (λ p. (_, _, there.tokens ∙ p.then (bytes_of s t) (tokens_in (drop t.end s)))) (proper t.kind)
 
@@ -52,16 +52,16 @@ word_kind End w e = absurd (false≢true e)
 
 -- ---- the symbol of a word
 
-abbrev pub found_class : WordSymbol → ℕ
-found_class (Named symbol) = symbol.class
-found_class Unnamed = 0
+abbrev pub found_class : Option Symbol → ℕ
+found_class (Some symbol) = symbol.class
+found_class None = 0
 
-pub found_class_lem : {s : List ℕ} {ns : List Name} → Records s ns → (w : List ℕ) (found : WordSymbol) → found_as w found ≡ named ns w →
+pub found_class_lem : {s : List ℕ} {ns : List Name} → Records s ns → (w : List ℕ) (found : Option Symbol) → found_as w found ≡ named ns w →
     found_class found ≡ class_number (class_of (or_no_name (named ns w)).class)
-found_class_lem records w (Named symbol) is = rw (← is) (sym (class_own symbol.class (records_good records (named_is _ w (sym is)).member).class))
-found_class_lem records w Unnamed is = rw (← is)
+found_class_lem records w (Some symbol) is = rw (← is) (sym (class_own symbol.class (records_good records (named_is _ w (sym is)).member).class))
+found_class_lem records w None is = rw (← is)
 
-pub found_name : (ns : List Name) (w : List ℕ) (found : WordSymbol) → found_as w found ≡ named ns w →
+pub found_name : (ns : List Name) (w : List ℕ) (found : Option Symbol) → found_as w found ≡ named ns w →
     let m = or_no_name (named ns w) in (found_family found ≡ m.family) × (found_code found ≡ m.code)
-found_name ns w (Named symbol) is = rw (← is) (refl, refl)
-found_name ns w Unnamed is = rw (← is) (refl, refl)
+found_name ns w (Some symbol) is = rw (← is) (refl, refl)
+found_name ns w None is = rw (← is) (refl, refl)

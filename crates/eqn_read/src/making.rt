@@ -8,80 +8,65 @@ ghost use Rattle.eqn_stores.specs.Values.{Ends};
 ghost use Rattle.eqn_read.specs.Values.{is_bare, found_family, found_code, Onward, RowMade, ItemMade, OverMade, AtomMade, OperandMade, ScriptMade, FieldsMade, PrimaryMade, ClassFound};
 
 use eqn_cuts::{expression_end, last_outside, last_token};
-use eqn_names::{PLACES, WordSymbol, find};
-use eqn_stores::{Made, close_list, put_empty, put_four, put_symbol, put_three, up_to};
+use eqn_names::{NameIndex, Symbol};
+use eqn_stores::{close_list, put_bytes, up_to};
 use eqn_tokens::tokens::{Keyword, TokenKind, token_at};
 use formula::{
-    ALWAYS, ATOM_FIRST, ATOM_SECOND, DEFAULT_BAR, DISPLAY_ONLY, FRACTION_FIRST, FRACTION_SECOND,
-    OP, ORD, SHORT_OPENING_BYTES,
+    ALWAYS, ATOM_FIRST, ATOM_SECOND, DEFAULT_BAR, DISPLAY_ONLY, EMPTY_KIND, FRACTION_FIRST,
+    FRACTION_SECOND, OP, ORD, SHORT_OPENING_BYTES, SYMBOL_KIND,
 };
 
 // The expressions of a row, one behind the other; `levels` is how many levels of lists may still be entered below it.
-#[cycle(put_atom_put_fields_put_item_put_operand_put_over_put_primary_put_row_put_script)]
+#[cycle(making)]
 pub fn put_row(
-    names: &[u8],
-    firsts: &[usize; PLACES],
+    index: &NameIndex<'_>,
     s: &[u8],
     levels: usize,
     out: &mut [u8],
     at: usize,
-) -> Made
+) -> Option<usize>
     requires { at ≤ formula_limit + 3 }
     ensures onward { Onward at result }
-    ensures row_made { RowMade names.now firsts.now s.now levels at out.old out.new result }
+    ensures row_made { RowMade index.now s.now levels at out.old out.new result }
 {
     let mut from: usize = 0;
     let mut end = at;
+    // No count: an expression ends where the next one starts.
     while from < s.len() {
-        let token = token_at(s, from);
-        let kind = token.kind;
-        if let TokenKind::End = kind {
+        if token_at(s, from).kind == TokenKind::End {
             return up_to(end);
         }
         let behind = expression_end(s, from);
-        let made = put_item(names, firsts, &s[from..behind], levels, out, end);
-        let Made::Next(next) = made else {
-            return made;
-        };
-        end = next;
+        end = put_item(index, &s[from..behind], levels, out, end)?;
         from = behind;
     }
     up_to(end)
 }
 
 // An expression as an item: with limits behind `from` and `to`, or without.
-#[cycle(put_atom_put_fields_put_item_put_operand_put_over_put_primary_put_row_put_script)]
+#[cycle(making)]
 fn put_item(
-    names: &[u8],
-    firsts: &[usize; PLACES],
+    index: &NameIndex<'_>,
     s: &[u8],
     levels: usize,
     out: &mut [u8],
     at: usize,
-) -> Made
+) -> Option<usize>
     requires { at ≤ formula_limit + 3 }
     ensures onward { Onward at result }
-    ensures item_made { ItemMade names.now firsts.now s.now levels at out.old out.new result }
+    ensures item_made { ItemMade index.now s.now levels at out.old out.new result }
 {
     let to = last_outside(s, Keyword::To);
-    let upper = to.end;
-    let before_upper = to.start;
-    let from = last_outside(&s[..before_upper], Keyword::From);
-    let lower = from.end;
-    let nucleus_end = from.start;
-    if nucleus_end == s.len() {
-        return put_over(names, firsts, s, levels, out, at);
+    let from = last_outside(&s[..to.start], Keyword::From);
+    if from.start == s.len() {
+        return put_over(index, s, levels, out, at);
     }
-    let made = put_four(out, at, ATOM_FIRST, ATOM_SECOND, OP, ALWAYS);
-    let Made::Next(next) = made else {
-        return made;
-    };
+    let next = put_bytes(out, at, &[ATOM_FIRST, ATOM_SECOND, OP, ALWAYS])?;
     put_fields(
-        names,
-        firsts,
-        &s[..nucleus_end],
-        &s[upper..],
-        &s[lower..before_upper],
+        index,
+        &s[..from.start],
+        &s[to.end..],
+        &s[from.end..to.start],
         levels,
         out,
         next,
@@ -89,67 +74,49 @@ fn put_item(
 }
 
 // An expression without limits as an item: a fraction, or an atom.
-#[cycle(put_atom_put_fields_put_item_put_operand_put_over_put_primary_put_row_put_script)]
+#[cycle(making)]
 fn put_over(
-    names: &[u8],
-    firsts: &[usize; PLACES],
+    index: &NameIndex<'_>,
     s: &[u8],
     levels: usize,
     out: &mut [u8],
     at: usize,
-) -> Made
+) -> Option<usize>
     requires { at ≤ formula_limit + 3 }
     ensures onward { Onward at result }
-    ensures over_made { OverMade names.now firsts.now s.now levels at out.old out.new result }
+    ensures over_made { OverMade index.now s.now levels at out.old out.new result }
 {
     let over = last_outside(s, Keyword::Over);
-    let denominator = over.end;
-    let numerator_end = over.start;
-    if numerator_end == s.len() {
-        return put_atom(names, firsts, s, levels, out, at);
+    if over.start == s.len() {
+        return put_atom(index, s, levels, out, at);
     }
-    let made = put_three(out, at, FRACTION_FIRST, FRACTION_SECOND, DEFAULT_BAR);
-    let Made::Next(next) = made else {
-        return made;
-    };
-    let above = put_operand(names, firsts, &s[..numerator_end], levels, out, next);
-    let Made::Next(end) = above else {
-        return above;
-    };
-    put_operand(names, firsts, &s[denominator..], levels, out, end)
+    let next = put_bytes(out, at, &[FRACTION_FIRST, FRACTION_SECOND, DEFAULT_BAR])?;
+    let end = put_operand(index, &s[..over.start], levels, out, next)?;
+    put_operand(index, &s[over.end..], levels, out, end)
 }
 
 // A word or a group with its scripts as an item.
-#[cycle(put_atom_put_fields_put_item_put_operand_put_over_put_primary_put_row_put_script)]
+#[cycle(making)]
 fn put_atom(
-    names: &[u8],
-    firsts: &[usize; PLACES],
+    index: &NameIndex<'_>,
     s: &[u8],
     levels: usize,
     out: &mut [u8],
     at: usize,
-) -> Made
+) -> Option<usize>
     requires { at ≤ formula_limit + 3 }
     ensures onward { Onward at result }
-    ensures atom_made { AtomMade names.now firsts.now s.now levels at out.old out.new result }
+    ensures atom_made { AtomMade index.now s.now levels at out.old out.new result }
 {
     let sup = last_outside(s, Keyword::Sup);
-    let superscript = sup.end;
-    let before_superscript = sup.start;
-    let sub = last_outside(&s[..before_superscript], Keyword::Sub);
-    let subscript = sub.end;
-    let nucleus_end = sub.start;
-    let class = class_of(names, firsts, &s[..nucleus_end]);
-    let made = put_four(out, at, ATOM_FIRST, ATOM_SECOND, class, DISPLAY_ONLY);
-    let Made::Next(next) = made else {
-        return made;
-    };
+    let sub = last_outside(&s[..sup.start], Keyword::Sub);
+    let class = class_of(index, &s[..sub.start]);
+    let next = put_bytes(out, at, &[ATOM_FIRST, ATOM_SECOND, class, DISPLAY_ONLY])?;
     put_fields(
-        names,
-        firsts,
-        &s[..nucleus_end],
-        &s[superscript..],
-        &s[subscript..before_superscript],
+        index,
+        &s[..sub.start],
+        &s[sup.end..],
+        &s[sub.end..sup.start],
         levels,
         out,
         next,
@@ -157,94 +124,78 @@ fn put_atom(
 }
 
 // The class of an atom: its word's, or Ord for a group.
-fn class_of(names: &[u8], firsts: &[usize; PLACES], s: &[u8]) -> u8
-    ensures { ClassFound names.now firsts.now s.now result }
+fn class_of(index: &NameIndex<'_>, s: &[u8]) -> u8
+    ensures { ClassFound index.now s.now result }
 {
     let token = token_at(s, 0);
-    let start = token.start;
-    let end = token.end;
-    let kind = token.kind;
-    let TokenKind::Word = kind else {
+    if token.kind != TokenKind::Word {
         return ORD;
-    };
-    let found = find(names, firsts, &s[start..end]);
-    match found {
-        WordSymbol::Named(symbol) => symbol.class,
-        WordSymbol::Unnamed => ORD,
+    }
+    match index.find(&s[token.start..token.end]) {
+        Some(symbol) => symbol.class,
+        None => ORD,
     }
 }
 
 // Nucleus, superscript and subscript as fields; a slice without bytes is an empty one.
-#[cycle(put_atom_put_fields_put_item_put_operand_put_over_put_primary_put_row_put_script)]
+#[cycle(making)]
 fn put_fields(
-    names: &[u8],
-    firsts: &[usize; PLACES],
+    index: &NameIndex<'_>,
     nucleus: &[u8],
     superscript: &[u8],
     subscript: &[u8],
     levels: usize,
     out: &mut [u8],
     at: usize,
-) -> Made
+) -> Option<usize>
     requires { at ≤ formula_limit }
     ensures onward { Onward at result }
-    ensures fields_made { FieldsMade names.now firsts.now nucleus.now superscript.now subscript.now levels at out.old out.new result }
+    ensures fields_made { FieldsMade index.now nucleus.now superscript.now subscript.now levels at out.old out.new result }
 {
-    let first = put_operand(names, firsts, nucleus, levels, out, at);
-    let Made::Next(second) = first else {
-        return first;
-    };
-    let above = put_script(names, firsts, superscript, levels, out, second);
-    let Made::Next(third) = above else {
-        return above;
-    };
-    put_script(names, firsts, subscript, levels, out, third)
+    let second = put_operand(index, nucleus, levels, out, at)?;
+    let third = put_script(index, superscript, levels, out, second)?;
+    put_script(index, subscript, levels, out, third)
 }
 
 // A script or a limit as a field, an empty one where the slice has no bytes.
-#[cycle(put_atom_put_fields_put_item_put_operand_put_over_put_primary_put_row_put_script)]
+#[cycle(making)]
 fn put_script(
-    names: &[u8],
-    firsts: &[usize; PLACES],
+    index: &NameIndex<'_>,
     s: &[u8],
     levels: usize,
     out: &mut [u8],
     at: usize,
-) -> Made
+) -> Option<usize>
     requires { at ≤ formula_limit }
     ensures onward { Onward at result }
-    ensures script_made { ScriptMade names.now firsts.now s.now levels at out.old out.new result }
+    ensures script_made { ScriptMade index.now s.now levels at out.old out.new result }
 {
-    if s.len() == 0 {
-        return put_empty(out, at);
+    if s.is_empty() {
+        return put_bytes(out, at, &[EMPTY_KIND]);
     }
-    put_operand(names, firsts, s, levels, out, at)
+    put_operand(index, s, levels, out, at)
 }
 
 // An expression without limits as an operand: a word or a group by itself, or a list of the item.
-#[cycle(put_atom_put_fields_put_item_put_operand_put_over_put_primary_put_row_put_script)]
+#[cycle(making)]
 fn put_operand(
-    names: &[u8],
-    firsts: &[usize; PLACES],
+    index: &NameIndex<'_>,
     s: &[u8],
     levels: usize,
     out: &mut [u8],
     at: usize,
-) -> Made
+) -> Option<usize>
     requires { at ≤ formula_limit }
     ensures onward { Onward at result }
-    ensures operand_made { OperandMade names.now firsts.now s.now levels at out.old out.new result }
+    ensures operand_made { OperandMade index.now s.now levels at out.old out.new result }
 {
     if is_bare(s) {
-        return put_primary(names, firsts, s, levels, out, at);
+        return put_primary(index, s, levels, out, at);
     }
     if levels == 0 {
-        return Made::TooLarge;
+        return None;
     }
-    let made = put_over(names, firsts, s, levels - 1, out, at + SHORT_OPENING_BYTES);
-    let Made::Next(end) = made else {
-        return made;
-    };
+    let end = put_over(index, s, levels - 1, out, at + SHORT_OPENING_BYTES)?;
     close_list(out, at, end)
 }
 
@@ -259,53 +210,46 @@ fn is_bare(s: &[u8]) -> bool
 }
 
 // A word or a group as a field.
-#[cycle(put_atom_put_fields_put_item_put_operand_put_over_put_primary_put_row_put_script)]
+#[cycle(making)]
 fn put_primary(
-    names: &[u8],
-    firsts: &[usize; PLACES],
+    index: &NameIndex<'_>,
     s: &[u8],
     levels: usize,
     out: &mut [u8],
     at: usize,
-) -> Made
+) -> Option<usize>
     requires { at ≤ formula_limit }
     ensures onward { Onward at result }
-    ensures primary_made { PrimaryMade names.now firsts.now s.now levels at out.old out.new result }
+    ensures primary_made { PrimaryMade index.now s.now levels at out.old out.new result }
 {
     let token = token_at(s, 0);
-    let start = token.start;
-    let end = token.end;
-    let kind = token.kind;
-    if let TokenKind::Word = kind {
-        let found = find(names, firsts, &s[start..end]);
+    if token.kind == TokenKind::Word {
+        let found = index.find(&s[token.start..token.end]);
         return put_found(found, out, at);
     }
     if levels == 0 {
-        return Made::TooLarge;
+        return None;
     }
-    let last = end + last_token(&s[end..]);
-    let made = put_row(
-        names,
-        firsts,
-        &s[end..last],
+    let inside = token.end;
+    let last = inside + last_token(&s[inside..]);
+    let end = put_row(
+        index,
+        &s[inside..last],
         levels - 1,
         out,
         at + SHORT_OPENING_BYTES,
-    );
-    let Made::Next(behind) = made else {
-        return made;
-    };
-    close_list(out, at, behind)
+    )?;
+    close_list(out, at, end)
 }
 
 // The symbol of a word as a field.
-fn put_found(found: WordSymbol, out: &mut [u8], at: usize) -> Made
+fn put_found(found: Option<Symbol>, out: &mut [u8], at: usize) -> Option<usize>
     requires { at ≤ formula_limit + 3 }
     ensures ends { Ends (at + 3) result }
     ensures out_after { out.new ≡ sets out.old at (1 ∷ found_family found ∷ found_code found ∷ []) }
 {
     match found {
-        WordSymbol::Named(symbol) => put_symbol(out, at, symbol.family, symbol.code),
-        WordSymbol::Unnamed => put_symbol(out, at, 0, 0),
+        Some(symbol) => put_bytes(out, at, &[SYMBOL_KIND, symbol.family, symbol.code]),
+        None => put_bytes(out, at, &[SYMBOL_KIND, 0, 0]),
     }
 }

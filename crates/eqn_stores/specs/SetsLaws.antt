@@ -6,20 +6,30 @@
 --     sets_over                a run over one that has been stored
 --     sets_out                 a run behind the end
 --     move_start, move_one     a run that is moved on, the last first
+--     sets_more                one store more of a run
 --     sets_moved               a run in front of one that has been stored and moved on
+--     sets_copied              a run copied to another place, as far as it has room
 -- Each follows along the run, from the laws of a single store.
 -- Assumes nothing.
 use Rattle.std.specs.Prelude.{◌≡◌, refl, List, [], ◌∷◌, ◌++◌, ℕ, zero, suc, ◌+◌, ◌-◌, ◌<◌, ◌≤◌}
-use Rattle.std.proofs.Common.{sym, ap, ◌∙◌, arith, set-set, get_or-set_other, get_or-take, get_or-drop, drop-cons}
+use Rattle.std.proofs.Common.{sym, ap, append_assoc, take-take, ◌∙◌, arith, set-set, get_or-set_other, get_or-take, get_or-drop, drop-cons}
 use Rattle.std.proofs.Math.Decide.{dec_lt}
 use lib.ListN.{length, take, drop, set, get_or, length-set, length-take, length-drop, drop_of_length-le}
-use Rattle.std.proofs.lemmas.List.Edits.{sets}
+use Rattle.std.proofs.lemmas.List.Edits.{sets, sets-eq}
 use Rattle.std.proofs.Math.Seq.{length-sets, set_out, take-nil, drop-nil}
-use Rattle.std.proofs.lemmas.List.{set_comm}
+use Rattle.std.proofs.lemmas.List.{set_comm, take_more}
+use Rattle.std.proofs.Math.Seq.{paste}
+use Rattle.std.proofs.Math.Logic.{◌⊎◌, ⊎_elim}
 
 pub sets_append : (o : List ℕ) (at : ℕ) (a b : List ℕ) {e : ℕ} → e ≡ at + length a → sets (sets o at a) e b ≡ sets o at (a ++ b)
 sets_append o at [] b {e} is = let same : e ≡ at = omega arith in rw same
 sets_append o at (x ∷ a) b is = sets_append (set o at x) (suc at) a b (omega arith)
+
+-- one store more, for a loop over a run
+pub sets_more : (o : List ℕ) (at : ℕ) (b : List ℕ) (i : ℕ) → i < length b → set (sets o at (take i b)) (at + i) (get_or b i 0) ≡ sets o at (take (i + 1) b)
+sets_more o at b i l =
+    let long : at + i ≡ at + length (take i b) = omega (arith, length-take i b) in
+    sets_append o at (take i b) (get_or b i 0 ∷ []) long ∙ ap (λ (c : List ℕ). sets o at c) (sym (take_more b i 0 l))
 
 -- the places behind one
 pub place_two : (k : ℕ) → k + 2 ≡ suc (suc k)
@@ -135,3 +145,15 @@ sets_moved o at h i j c l m is =
     let b = sets o i c in
     rw (sets_read o i c, sets_room b j c (length o - i) (omega (arith, length-sets o i c)))
     (sets_behind b at h j c is ∙ sets_over o i c at (h ++ c) l (omega (arith, lib.ListN.length-append h c)))
+
+-- k bytes of s are copied, and the others have no room
+pub sets_copied : (o : List ℕ) (at : ℕ) (s : List ℕ) (n k : ℕ) → at + k ≤ length o → k ≤ length s → (k ≡ n ⊎ ((k ≤ n) × (length o ≤ at + k))) →
+    paste o at s k ≡ sets o at (take n s)
+sets_copied o at s n k room some last =
+    let long : length (take k s) ≡ k = omega (arith, length-take k s) in
+    let copied : paste o at s k ≡ sets o at (take k s) = rw (sets-eq (take k s) o at (omega (arith, long)), long, append_assoc) in
+    ⊎_elim (λ e. copied ∙ ap (λ (j : ℕ). sets o at (take j s)) e)
+    (λ f.
+    let nested : take k (take n s) ≡ take k s = take-take k n s f.0 in
+    copied ∙ ap (λ (c : List ℕ). sets o at c) (sym nested) ∙ sets_room o at (take n s) k f.1)
+    last

@@ -1,12 +1,14 @@
 -- Laws of the bytes of typed text.
 --     word_no_separator              a byte of a word is no separator
+--     all_list                       `all_word_bytes` tests all
 --     same_own, same_is, same_not    `same` tests whether two runs are equal
 --     here, all_here, same_here      a run and what is tested of it, from a place on; for a loop over its bytes
 --     rest_lent                      what is lent of a run from a place on
 -- Assumes nothing.
-use Rattle.std.specs.Prelude.{◌≡◌, refl, true, false, ◌&&◌, List, [], ◌∷◌, ℕ, ◌+◌, ◌-◌, ◌<◌, leb, eqb, length, take, drop, get_or}
+use Rattle.std.specs.Prelude.{◌≡◌, refl, Bool, true, false, ◌&&◌, List, [], ◌∷◌, ℕ, ◌+◌, ◌-◌, ◌<◌, leb, eqb, length, take, drop, get_or}
 use Rattle.std.proofs.lemmas.Bool.{false≢true}
-use Rattle.std.proofs.Common.{add-one, arith, leb-true, eq-eqb, ne_eqb, eqb-true, length-drop, drop-cons, take_all}
+use Rattle.std.proofs.Common.{ap, add-one, arith, leb-true, eq-eqb, ne_eqb, eqb-true, length-drop, drop-cons, take_all}
+use Rattle.std.specs.List.{list_all}
 use Rattle.laws.specs.Truths.{by_test, both_true, true_both}
 use Rattle.eqn_tokens.specs.Bytes.{is_separator, is_word_byte, all_word_bytes, same}
 
@@ -17,6 +19,11 @@ word_no_separator b t =
     let inside = (both_true {p = leb 33 b && leb b 126} t).0 in
     let least = leb-true 33 b (both_true {p = leb 33 b} inside).0 in
     rw (ne_eqb b 9 (λ e. omega arith), ne_eqb b 10 (λ e. omega arith), ne_eqb b 32 (λ e. omega arith))
+
+pub all_list : (s : List ℕ) → list_all is_word_byte s ≡ all_word_bytes s
+unfolding all_word_bytes
+all_list [] = refl
+all_list (b ∷ s) = ap (λ (t : Bool). is_word_byte b && t) (all_list s)
 
 -- ---- runs that are the same
 

@@ -1,6 +1,7 @@
 -- Laws of the tokens of a text.
 --     keyword_bytes_lem, keyword_none      the bytes of the token that a word is are the word; one that is no keyword is a word
 --     run_most, run_none, run_passes, run_stops, run_append, run_ends      how many bytes the word at the front has
+--     run_is      the word at a place, by its last byte and the one behind it
 --     is_apart, apart_ends, apart_begins, ends_append     no word of a text goes on in the text behind it
 --     tokens_skip, place_skip          the tokens behind some bytes, and their places
 --     tokens_separator, tokens_word, tokens_mark     the tokens of a text, by its first byte
@@ -9,8 +10,8 @@
 --     Begins, word_at, mark_at, begins_at     the token that a text begins with, and how many bytes it has
 -- The idea: a law for each kind of first byte, from which the others follow without the definitions.
 -- Assumes nothing.
-use Rattle.std.specs.Prelude.{◌≡◌, refl, Bool, true, false, not, ◌&&◌, List, [], ◌∷◌, ◌++◌, ℕ, zero, suc, ◌+◌, ◌<◌, ◌≤◌, length, take, drop, get_or}
-use Rattle.std.proofs.Common.{sym, ap, ◌∙◌, zero-add, add-one, arith, length-append}
+use Rattle.std.specs.Prelude.{◌≡◌, refl, Bool, true, false, not, ◌&&◌, List, [], ◌∷◌, ◌++◌, ℕ, zero, suc, ◌+◌, ◌-◌, ◌<◌, ◌≤◌, ltb, length, take, drop, get_or}
+use Rattle.std.proofs.Common.{sym, ap, ◌∙◌, zero-add, add-one, arith, length-append, ltb-true, ltb-false, drop_of_length-le}
 use Rattle.std.proofs.Math.Bool.{and-false}
 use Rattle.std.proofs.lemmas.Bool.{not-true}
 use Rattle.std.proofs.lemmas.List.{take-append-le}
@@ -71,6 +72,19 @@ run_passes s i l e = rw (here s i l, e)
 pub run_stops : (s : List ℕ) (i : ℕ) → i < length s → is_word_byte (get_or s i 0) ≡ false → run_length (drop i s) ≡ 0
 unfolding run_length
 run_stops s i l e = rw (here s i l, e)
+
+-- the bytes before r are of a word, and the one there is not
+module _ (s : List ℕ) (r : ℕ) (within : r ≤ length s) (stops : r < length s → is_word_byte (get_or s r 0) ≡ false) where
+  run_from : (n i : ℕ) → i + n ≡ r → ((k : ℕ) → i ≤ k → k < r → is_word_byte (get_or s k 0) ≡ true) → run_length (drop i s) ≡ n
+  run_from zero i e all =
+      by_test (ltb r (length s))
+      (λ t. let is : i ≡ r = omega arith in let l = ltb-true r (length s) t in rw is (run_stops s r l (stops l)))
+      (λ t. run_none (drop i s) (ap begins_word (drop_of_length-le s {i = i} (omega (arith, ltb-false r (length s) t)))))
+  run_from (suc n) i e all =
+      run_passes s i (omega arith) (all i (omega arith) (omega arith)) ∙ ap suc (run_from n (i + 1) (omega arith) (λ k l m. all k (omega arith) m))
+
+  pub run_is : (at : ℕ) → at ≤ r → ((k : ℕ) → at ≤ k → k < r → is_word_byte (get_or s k 0) ≡ true) → r ≡ at + run_length (drop at s)
+  run_is at l all = omega (arith, run_from (r - at) at (omega arith) all)
 
 -- no word of the first text goes on in the second
 abbrev pub is_apart : List ℕ → List ℕ → Bool

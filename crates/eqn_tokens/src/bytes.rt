@@ -35,29 +35,12 @@ pub fn is_word_byte(b: u8) -> bool
 pub fn are_word_bytes(s: &[u8]) -> bool
     ensures { result ≡ all_word_bytes s.now }
 {
-    let mut i: usize = 0;
-    while i < s.len() {
-        if !is_word_byte(s[i]) {
-            return false;
-        }
-        i += 1;
-    }
-    true
+    s.iter().all(|b| is_word_byte(*b))
 }
 
 // Whether two runs of bytes are the same.
 pub fn are_same(a: &[u8], b: &[u8]) -> bool
     ensures { result ≡ same a.now b.now }
 {
-    if a.len() != b.len() {
-        return false;
-    }
-    let mut i: usize = 0;
-    while i < a.len() {
-        if a[i] != b[i] {
-            return false;
-        }
-        i += 1;
-    }
-    true
+    a == b
 }

@@ -1,13 +1,13 @@
 // The tokens of typed text.
 
-ghost use Rattle.std.specs.Prelude.{◌≡◌, ◌+◌, ◌≤◌, length, drop};
+ghost use Rattle.std.specs.Prelude.{◌≡◌, ℕ, true, false, ◌+◌, ◌≤◌, ◌<◌, length, drop, slice_index};
 ghost use Rattle.eqn_tokens.specs.Tokens.{run_length, keyword_of};
 ghost use Rattle.eqn_tokens.specs.Values.{TokenAt, kind_as, MarkAs, SeparatorsBefore};
 
-use crate::bytes::{CLOSING_BRACE, OPENING_BRACE, are_same, is_separator, is_word_byte};
+use crate::bytes::{CLOSING_BRACE, OPENING_BRACE, is_separator, is_word_byte};
 
 // The keywords.
-#[derive(Clone, Copy)]
+#[derive(Clone, Copy, PartialEq, Eq)]
 pub enum Keyword {
     Sub,
     Sup,
@@ -17,7 +17,7 @@ pub enum Keyword {
 }
 
 // What a token is: a word, a keyword, a brace, a byte that can stand in no text; or there is none left.
-#[derive(Clone, Copy)]
+#[derive(Clone, Copy, PartialEq, Eq)]
 pub enum TokenKind {
     Word,
     Keyword(Keyword),
@@ -69,14 +69,7 @@ fn behind_separators(s: &[u8], at: usize) -> usize
     requires { at ≤ length s.now }
     ensures { SeparatorsBefore s.now at result }
 {
-    let mut i = at;
-    while i < s.len() {
-        if !is_separator(s[i]) {
-            return i;
-        }
-        i += 1;
-    }
-    i
+    behind(s, at, is_separator)
 }
 
 // The place behind the word that stands at a place.
@@ -84,47 +77,47 @@ fn word_end(s: &[u8], at: usize) -> usize
     requires { at ≤ length s.now }
     ensures { result ≡ at + run_length (drop at s.now) }
 {
-    let mut i = at;
-    while i < s.len() {
-        if !is_word_byte(s[i]) {
+    behind(s, at, is_word_byte)
+}
+
+// The place behind the bytes of a kind that stand at a place.
+fn behind<F: Fn(u8) -> bool>(s: &[u8], at: usize, is_of_kind: F) -> usize
+    requires within { at ≤ length s.now }
+    requires callable { F.IsAlwaysCallable is_of_kind }
+    ensures range { (at ≤ result) × (result ≤ length s.now) }
+    ensures all { (i : ℕ) → at ≤ i → i < result → F.post is_of_kind (slice_index s.now i) true }
+    ensures last { result < length s.now → F.post is_of_kind (slice_index s.now result) false }
+{
+    for i in at..s.len() {
+        if !is_of_kind(s[i]) {
             return i;
         }
-        i += 1;
     }
-    i
+    s.len()
 }
 
 // What a word is.
+#[tactic(auto, using(crate::proofs::WordKinds::sub_reads, crate::proofs::WordKinds::sup_reads, crate::proofs::WordKinds::over_reads, crate::proofs::WordKinds::from_reads, crate::proofs::WordKinds::to_reads, crate::proofs::WordKinds::word_reads))]
 pub fn word_kind(w: &[u8]) -> TokenKind
     ensures { kind_as result w.now ≡ keyword_of w.now }
 {
-    if are_same(w, b"sub") {
-        return TokenKind::Keyword(Keyword::Sub);
+    match w {
+        b"sub" => TokenKind::Keyword(Keyword::Sub),
+        b"sup" => TokenKind::Keyword(Keyword::Sup),
+        b"over" => TokenKind::Keyword(Keyword::Over),
+        b"from" => TokenKind::Keyword(Keyword::From),
+        b"to" => TokenKind::Keyword(Keyword::To),
+        _ => TokenKind::Word,
     }
-    if are_same(w, b"sup") {
-        return TokenKind::Keyword(Keyword::Sup);
-    }
-    if are_same(w, b"over") {
-        return TokenKind::Keyword(Keyword::Over);
-    }
-    if are_same(w, b"from") {
-        return TokenKind::Keyword(Keyword::From);
-    }
-    if are_same(w, b"to") {
-        return TokenKind::Keyword(Keyword::To);
-    }
-    TokenKind::Word
 }
 
 // What a byte is that is of no word and no separator.
 fn mark(b: u8) -> TokenKind
     ensures { MarkAs b result }
 {
-    if b == OPENING_BRACE {
-        return TokenKind::Open;
+    match b {
+        OPENING_BRACE => TokenKind::Open,
+        CLOSING_BRACE => TokenKind::Close,
+        _ => TokenKind::Other,
     }
-    if b == CLOSING_BRACE {
-        return TokenKind::Close;
-    }
-    TokenKind::Other
 }

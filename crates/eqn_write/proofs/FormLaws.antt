@@ -7,18 +7,18 @@
 -- By cases: a field is nothing, an operand or textless.
 -- Assumes nothing.
 use mathlib.Core.Path.{◌≡◌, refl, ap, ap₂, ◌∙◌}
-use mathlib.Core.Bool.{Bool, true, false, ◌||◌}
+use Rattle.std.specs.Prelude.{Option as CodeOption, Some, None}
+use mathlib.Core.Bool.{true, false, true≢false}
 use mathlib.Core.List.{List, [], ◌∷◌, ◌++◌, append-nil}
 use mathlib.Core.Option.{Option, none, some}
 use Prim.Native.Nat.{ℕ}
-use native.Mathlib.Omega.{arith}
-use lib.Dec.{eqb}
 use Rattle.eqn_tokens.specs.Tokens.{Token, keyword}
 use Rattle.eqn_names.specs.Names.{asked_as}
 use Rattle.eqn_grammar.specs.Grammar as grammar
 use Rattle.eqn_grammar.specs.Grammar.{Row, Limited, NoPrimary, no_primary, some_primary, Primary, limited_tokens, limit_tokens, overs_tokens, scripted_tokens, script_tokens, primary_tokens}
 use Rattle.eqn_grammar.proofs.ReadLaws.{single_tokens}
 use Rattle.eqn_meaning.specs.Writing.{Derived, nothing, operand, textless, as_group, group_for, with_script, with_operand, single, limit, atom_derived, limits_on, limits_derived, fraction_derived}
+use Rattle.eqn_write.specs.Values.{takes_group}
 use Rattle.eqn_write.specs.Writes.{joined, of_operand, of_script, of_item}
 use Rattle.eqn_tokens.specs.declared.tokens.Keyword.TheVariants.{Sub, Sup, Over, From, To}
 use Rattle.eqn_tokens.specs.declared.tokens.Keyword.{Keyword}
@@ -102,19 +102,11 @@ script_behind k textless there = refl
 
 -- ---- a list in braces
 
-module _ (class : ℕ) (o : Option Row) where
-  pub group_asked : (eqb class 255 || eqb class 0) ≡ true → group_for (asked_as class) o ≡ as_group o
-  group_asked = go (eqb class 255) (eqb class 0) refl refl
-    where
-      go : (a b : Bool) → eqb class 255 ≡ a → eqb class 0 ≡ b → (a || b) ≡ true → group_for (asked_as class) o ≡ as_group o
-      go true b e g t = rw (e, asked_as)
-      go false true e g t = rw (e, asked_as, g, group_for)
-      go false false e g t = let no : ◌≡◌ {A = ℕ} 0 1 = cc in absurd (omega arith)
+module _ (o : Option Row) where
+  pub group_asked : (class : CodeOption ℕ) → takes_group class ≡ true → group_for (asked_as class) o ≡ as_group o
+  group_asked None e = refl
+  group_asked (Some class) e = rw (e, group_for)
 
-  pub group_barred : (eqb class 255 || eqb class 0) ≡ false → group_for (asked_as class) o ≡ textless
-  group_barred = go (eqb class 255) (eqb class 0) refl refl
-    where
-      go : (a b : Bool) → eqb class 255 ≡ a → eqb class 0 ≡ b → (a || b) ≡ false → group_for (asked_as class) o ≡ textless
-      go true b e g t = let no : ◌≡◌ {A = ℕ} 0 1 = cc in absurd (omega arith)
-      go false true e g t = let no : ◌≡◌ {A = ℕ} 0 1 = cc in absurd (omega arith)
-      go false false e g t = rw (e, asked_as, g, group_for)
+  pub group_barred : (class : CodeOption ℕ) → takes_group class ≡ false → group_for (asked_as class) o ≡ textless
+  group_barred None e = absurd (true≢false e)
+  group_barred (Some class) e = rw (e, group_for)

@@ -10,15 +10,12 @@ use mathlib.Core.Path.{◌≡◌, refl, sym, ap, subst, ◌∙◌}
 use mathlib.Core.Bool.{Bool, true, false, ◌&&◌, true≢false, false≢true}
 use mathlib.Core.List.{List, []}
 use mathlib.Core.Option.{Option, none, some}
-use Prim.Native.Nat.{ℕ, ◌≤◌, ◌<◌}
+use Prim.Native.Nat.{ℕ, ◌<◌}
 use native.Mathlib.Omega.{arith}
 use lib.ListN.{length, drop}
 use Rattle.laws.specs.Truths.{both_true, true_both}
 use Rattle.eqn_tokens.specs.Tokens.{Token, keyword}
-use Rattle.eqn_names.specs.Names.{Name, Asked, any_class, of_class, asked_as, first_for}
-use Rattle.eqn_names.proofs.NamesLaws.{asked_class}
-use Rattle.formula.specs.declared.Class.{Class}
-use Rattle.formula.specs.declared.Class.TheVariants.{Ord, Op, Bin, Rel, Open, Close, Punct, Inner}
+use Rattle.eqn_names.specs.Names.{Name, Asked, any_class, of_class, first_for}
 use Rattle.formula.specs.declared.Limits.TheVariants.{DisplayOnly, Always, Never}
 use Rattle.formula.specs.declared.Bar.TheVariants.{Default, Without}
 use Rattle.formula.specs.declared.Base.TheVariants.{Atom, Over, Under, Root, Fence}
@@ -29,7 +26,7 @@ use Rattle.formula.specs.declared.Opening.TheVariants.{NoItem, Fields, Kern, Res
 use Rattle.formula.specs.declared.FieldHead.{FieldHead}
 use Rattle.formula.specs.declared.FieldHead.TheVariants.{NoField, Empty, Symbol, Sublist, CutSublist}
 use Rattle.formula.specs.Tree.{Items, opening_bytes}
-use Rattle.formula.specs.Heads.{opening_of, is_op, is_empty, class_number}
+use Rattle.formula.specs.Heads.{opening_of, is_op, is_empty}
 use Rattle.formula.specs.Places.{Readable, tree_of, field_of, GoodField, has_third, head_at, field_end, second, third, third_end, end, item_size, third_in, item_of, GoodFieldAt}
 use Rattle.formula.specs.PlacesLaws.{tree_none, step, third_good, Noad}
 use Rattle.eqn_grammar.specs.Grammar.{Row, Limited, row_tokens}
@@ -73,37 +70,6 @@ IsScripted (plain_atom k) = Unit {0}
 IsScripted operator = Unit {0}
 IsScripted barred = ⊥
 IsScripted unmade = ⊥
-
-abbrev ClassIn : ItemForm → Type 0
-ClassIn (plain_atom k) = k ≤ 7
-ClassIn operator = Unit {0}
-ClassIn barred = Unit {0}
-ClassIn unmade = Unit {0}
-
-class_small : (class : Class) → class_number class ≤ 7
-class_small Ord = omega arith
-class_small Op = omega arith
-class_small Bin = omega arith
-class_small Rel = omega arith
-class_small Open = omega arith
-class_small Close = omega arith
-class_small Punct = omega arith
-class_small Inner = omega arith
-
-op_in : (b : Bool) → ClassIn (elim b [ true ↦ operator | false ↦ unmade ])
-op_in true = tt
-op_in false = tt
-
-class_in : (kind : Kind) → ClassIn (form_of kind)
-class_in (Scripted (Atom class DisplayOnly)) = class_small class
-class_in (Scripted (Atom class Always)) = op_in (is_op class)
-class_in (Scripted (Atom class Never)) = tt
-class_in (Scripted Over) = tt
-class_in (Scripted Under) = tt
-class_in (Scripted (Root sign)) = tt
-class_in (Scripted (Fence left right)) = tt
-class_in (Fraction Default) = tt
-class_in (Fraction Without) = tt
 
 third_there_lem : (kind : Kind) → IsScripted (form_of kind) → has_third kind ≡ true
 third_there_lem (Scripted base) h = refl
@@ -173,12 +139,9 @@ module _ (s : List ℕ) (kind : Kind) where
         ap (λ (b : Bool). of_item (derived_by (form_of kind) x y (operand_of ns (third_in s b (third s kind)) any_class))) has
         ∙ ap (λ (w : ItemForm). of_item (derived_by w x y z)) e
 
-    pub item_atom : (k : ℕ) → form_of kind ≡ plain_atom k → item_tokens kind s ns ≡ scripted_tokens (keyword Sub) (keyword Sup) (asked_as k) s (opening_bytes kind) ns
+    pub item_atom : (k : ℕ) → form_of kind ≡ plain_atom k → item_tokens kind s ns ≡ scripted_tokens (keyword Sub) (keyword Sup) (of_class k) s (opening_bytes kind) ns
     unfolding derived_by
-    item_atom k e =
-        let small : k ≤ 7 = subst ClassIn e (class_in kind) in
-        scripted_item (plain_atom k) e tt ∙ atom_tokens (x (of_class k)) y z
-        ∙ ap (λ (asked : Asked). scripted_tokens (keyword Sub) (keyword Sup) asked s (opening_bytes kind) ns) (sym (asked_class k (λ f. omega arith)))
+    item_atom k e = scripted_item (plain_atom k) e tt ∙ atom_tokens (x (of_class k)) y z
 
     -- the two fields behind the nucleus are empty
     abbrev no_limits : Bool

@@ -12,15 +12,15 @@ use native.Mathlib.Omega.{arith}
 use lib.ListN.{length}
 use Rattle.eqn_tokens.specs.Bytes.{same}
 use Rattle.eqn_tokens.specs.Tokens.{sub_bytes, sup_bytes, from_bytes, to_bytes, keyword_of, keyword}
-use Rattle.eqn_names.specs.Names.{any_class, asked_as}
+use Rattle.eqn_names.specs.Names.{any_class, of_class}
 use Rattle.formula.specs.declared.Kind.{Kind}
 use Rattle.formula.specs.Tree.{opening_bytes}
 use Rattle.formula.specs.Heads.{is_empty}
 use Rattle.formula.specs.Places.{head_at, field_end, second, third}
 use Rattle.formula.specs.PlacesLaws.{Noad, noad_at_lem}
 use Rattle.eqn_meaning.specs.Writing.{plain_atom, operator, barred, unmade, form_of}
-use Rattle.eqn_write.specs.declared.Put.{Put}
-use Rattle.eqn_write.specs.declared.Put.TheVariants.{Textless}
+use Rattle.std.specs.Prelude.{None}
+use Rattle.eqn_write.specs.Values.{Put}
 use Rattle.eqn_write.specs.Writes.{item_tokens, TwoAsked, ThreeAsked, ItemAsked, FractionPut, ScriptedPut, ItemPut}
 use Rattle.eqn_write.proofs.ItemLaws.{Three, atom_fields, operator_fields, barred_end, item_atom, item_operator, item_limitless, item_barred, item_unmade}
 use Rattle.eqn_write.proofs.FieldsLaws.{puts_as}
@@ -50,11 +50,11 @@ module _ (table s : List ℕ) (kind : Kind) (at : ℕ) (asked : ItemAsked table 
     pub atom_asked : ThreeAsked table s first sub_bytes sup_bytes at
     atom_asked = three_asked sub_bytes sup_bytes (omega arith) (omega arith) (atom_fields s kind k form item)
 
-    pub atom_done : {b b₁ : List ℕ} {r : Put} → ScriptedPut table s first (keyword_of sub_bytes) (keyword_of sup_bytes) (asked_as k) at b b₁ r →
+    pub atom_done : {b b₁ : List ℕ} {r : Put} → ScriptedPut table s first (keyword_of sub_bytes) (keyword_of sup_bytes) (of_class k) at b b₁ r →
         ItemPut table s kind at b b₁ r
     unfolding keyword_of same
     atom_done {b} {b₁} {r} f =
-        puts_as (item_tokens kind s) (subst (λ (i : ℕ). ScriptedPut table s i (keyword Sub) (keyword Sup) (asked_as k) at b b₁ r) starts f) (λ ns. item_atom s kind ns k form)
+        puts_as (item_tokens kind s) (subst (λ (i : ℕ). ScriptedPut table s i (keyword Sub) (keyword Sup) (of_class k) at b b₁ r) starts f) (λ ns. item_atom s kind ns k form)
         (omega arith) (omega (arith, (atom_fields s kind k form item).ends))
 
   module _ (form : form_of kind ≡ operator) where
@@ -75,7 +75,7 @@ module _ (table s : List ℕ) (kind : Kind) (at : ℕ) (asked : ItemAsked table 
         puts_as (item_tokens kind s) (subst (λ (i : ℕ). ScriptedPut table s i (keyword From) (keyword To) any_class at b b₁ r) starts f)
         (λ ns. item_operator s kind ns form item (limits_as there)) (omega arith) (omega (arith, (operator_fields s kind form item).ends))
 
-    pub limitless_done : {b : List ℕ} → no_limits ≡ true → ItemPut table s kind at b b Textless
+    pub limitless_done : {b : List ℕ} → no_limits ≡ true → ItemPut table s kind at b b None
     limitless_done none_there =
         record { ends = tt; text = λ ns rs. record { none_are = item_limitless s kind ns form (limits_as none_there); as_long = refl } }
 
@@ -96,5 +96,5 @@ module _ (table s : List ℕ) (kind : Kind) (at : ℕ) (asked : ItemAsked table 
         puts_as (item_tokens kind s) (subst (λ (i : ℕ). FractionPut table s i at b b₁ r) starts f) (λ ns. item_barred s kind ns form)
         (omega arith) (omega (arith, barred_end s kind form))
 
-  pub unmade_done : {b : List ℕ} → form_of kind ≡ unmade → ItemPut table s kind at b b Textless
+  pub unmade_done : {b : List ℕ} → form_of kind ≡ unmade → ItemPut table s kind at b b None
   unmade_done form = record { ends = tt; text = λ ns rs. record { none_are = item_unmade s kind ns form; as_long = refl } }

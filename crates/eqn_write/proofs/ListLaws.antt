@@ -20,12 +20,10 @@ use Rattle.formula.specs.declared.Opening.TheVariants.{Fields}
 use Rattle.formula.specs.Heads.{opening_of}
 use Rattle.formula.specs.Places.{Readable, end}
 use Rattle.formula.specs.PlacesLaws.{noad_at_lem}
-use Rattle.eqn_write.specs.declared.Put.{Put}
-use Rattle.eqn_write.specs.declared.Put.TheVariants.{Next, Textless}
-use Rattle.eqn_write.specs.Values.{text_limit, HasNames, TextPut, ListPut}
+use Rattle.std.specs.Prelude.{Some, None}
+use Rattle.eqn_write.specs.Values.{Put, text_limit, HasNames, TextPut, ListPut}
 use Rattle.eqn_write.specs.Writes.{joined, item_tokens, ItemAsked, ItemPut}
 use Rattle.eqn_write.proofs.PutLaws.{nothing_put, put_then, put_none}
-use Rattle.eqn_write.proofs.FieldsLaws.{ends_at}
 use Rattle.eqn_write.proofs.ItemLaws.{row_text, row_first, row_other, row_none}
 
 abbrev pub NoFields : Opening → Type 0
@@ -46,19 +44,19 @@ module _ (table s : List ℕ) (at : ℕ) (before : List ℕ) where
 
   module _ {place e : ℕ} {out : List ℕ} (p : Reached place e out) where
     -- the list's end
-    pub reached_done : length s ≤ place → ListPut table s at before out (Next e)
+    pub reached_done : length s ≤ place → ListPut table s at before out (Some e)
     reached_done all ns rs =
         let none_left : length (drop place s) ≡ 0 = omega (arith, length-drop place s) in
-        p.whole ns rs out (Next e) (subst (λ (q : Option (List Token)). TextPut q e out out (Next e)) (sym (row_none (drop place s) ns none_left)) (nothing_put e out))
+        p.whole ns rs out (Some e) (subst (λ (q : Option (List Token)). TextPut q e out out (Some e)) (sym (row_none (drop place s) ns none_left)) (nothing_put e out))
 
     module _ (more : place < length s) where
       left : 0 < length (drop place s)
       left = omega (arith, length-drop place s)
 
-      pub reached_other : {o : Opening} → o ≡ opening_of (drop place s) → NoFields o → ListPut table s at before out Textless
+      pub reached_other : {o : Opening} → o ≡ opening_of (drop place s) → NoFields o → ListPut table s at before out None
       reached_other {o} is other ns rs =
           let no_text = row_other (drop place s) p.rest left ns (λ kind opens. other kind (is ∙ opens)) in
-          p.whole ns rs out Textless (record { none_are = no_text; as_long = refl })
+          p.whole ns rs out None (record { none_are = no_text; as_long = refl })
 
       module _ {kind : Kind} (opens : opening_of (drop place s) ≡ Fields kind) where
         abbrev size : ℕ
@@ -79,19 +77,16 @@ module _ (table s : List ℕ) (at : ℕ) (before : List ℕ) where
             ∙ ap (λ (l : List ℕ). joined (item_tokens kind (drop place s) ns) (row_text l ns)) (drop-drop size place s)
 
         module _ {out₂ : List ℕ} where
-          pub reached_stop : {r : Put} → r ≡ Textless → ItemPut table (drop place s) kind e out out₂ r → ListPut table s at before out₂ r
-          reached_stop {r} is f ns rs =
-              let item = subst (TextPut (item_tokens kind (drop place s) ns) e out out₂) is (f.text ns rs) in
-              p.whole ns rs out₂ r
-              (subst (λ (q : Option (List Token)). TextPut q e out out₂ r) (sym (row_here ns))
-              (subst (TextPut (joined (item_tokens kind (drop place s) ns) (row_text (drop (place + size) s) ns)) e out out₂) (sym is)
-              (put_none (row_text (drop (place + size) s) ns) item)))
+          pub reached_stop : ItemPut table (drop place s) kind e out out₂ None → ListPut table s at before out₂ None
+          reached_stop f ns rs =
+              p.whole ns rs out₂ None
+              (subst (λ (q : Option (List Token)). TextPut q e out out₂ None) (sym (row_here ns))
+              (put_none (row_text (drop (place + size) s) ns) (f.text ns rs)))
 
-          pub reached_next : {r : Put} {e₂ : ℕ} → r ≡ Next e₂ → length out₂ ≡ length out → ItemPut table (drop place s) kind e out out₂ r →
-              Reached (place + size) e₂ out₂
-          reached_next is kept f =
+          pub reached_next : {e₂ : ℕ} → length out₂ ≡ length out → ItemPut table (drop place s) kind e out out₂ (Some e₂) → Reached (place + size) e₂ out₂
+          reached_next {e₂} kept f =
               let item = noad_at_lem (drop place s) kind opens p.rest in
-              let ends = ends_at is f.ends in
+              let ends : (e + 1 ≤ e₂) × (e₂ ≤ e + 16 * size) = f.ends in
               record {
                 within = item_size_lem.1;
                 rest = subst Readable (drop-drop size place s) item.rest;
@@ -101,6 +96,5 @@ module _ (table s : List ℕ) (at : ℕ) (before : List ℕ) where
                     λ ns rs after r h.
                     p.whole ns rs after r
                     (subst (λ (q : Option (List Token)). TextPut q e out after r) (sym (row_here ns))
-                    (put_then (row_text (drop (place + size) s) ns) after r (omega arith)
-                    (subst (TextPut (item_tokens kind (drop place s) ns) e out out₂) is (f.text ns rs)) h));
+                    (put_then (row_text (drop (place + size) s) ns) after r (omega arith) (f.text ns rs) h));
               }

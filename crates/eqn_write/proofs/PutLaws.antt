@@ -15,9 +15,8 @@ use lib.ListN.{length, length-append}
 use lib.Seq.{sets, length-sets}
 use Rattle.eqn_tokens.specs.Tokens.{Token, token_bytes}
 use Rattle.eqn_meaning.specs.Writing.{spaced}
-use Rattle.eqn_write.specs.declared.Put.{Put}
-use Rattle.eqn_write.specs.declared.Put.TheVariants.{Next, Textless}
-use Rattle.eqn_write.specs.Values.{token_text, text_from, Texted, Untexted, TextPut}
+use Rattle.std.specs.Prelude.{Some, None}
+use Rattle.eqn_write.specs.Values.{Put, token_text, text_from, Texted, Untexted, TextPut}
 use Rattle.eqn_write.specs.Writes.{joined}
 use Rattle.eqn_write.proofs.StoreLaws.{sets_append}
 
@@ -77,8 +76,8 @@ module _ {o p : Option (List Token)} {at e : ℕ} {before between after : List �
       record { none_are = none_are; as_long = second.as_long ∙ ap length first.stored ∙ length-sets before at (text_from at first.tokens) }
 
 pub put_then : {o : Option (List Token)} (p : Option (List Token)) {at e : ℕ} {before between : List ℕ} (after : List ℕ) (r : Put) → 0 < e → Texted o at e before between → TextPut p e between after r → TextPut (joined o p) at before after r
-put_then p after (Next e₂) pos first second = both_put pos first second
-put_then p after Textless pos first second = then_none first second
+put_then p after (Some e₂) pos first second = both_put pos first second
+put_then p after None pos first second = then_none first second
 
 pub put_none : {o : Option (List Token)} (p : Option (List Token)) {before after : List ℕ} → Untexted o before after → Untexted (joined o p) before after
 put_none p u = record { none_are = rw u.none_are; as_long = u.as_long }

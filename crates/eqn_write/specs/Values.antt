@@ -1,30 +1,41 @@
 -- What the code's values stand for, and what its functions promise.
 --     form_as               the form of an item
+--     takes_group           whether a list in braces will do for a class, or for any
+--     Put                   what writing a part answers
 --     token_text, text_from   the bytes of a token, and of some tokens, that are written from a place on: behind a space but at the text's front
 --     TextPut               tokens have been written at a place, or there are none to write
 --     PutWithin             how long a text may become: at most sixteen bytes for each byte of the formula
 --     ListPut               of the names of the table: the text of a list
 -- Assumes nothing.
-use Rattle.std.specs.Prelude.{◌≡◌, List, [], ◌∷◌, ◌++◌, ℕ, zero, suc, ◌+◌, ◌*◌, ◌≤◌, length}
+use Rattle.std.specs.Prelude.{◌≡◌, List, [], ◌∷◌, ◌++◌, ℕ, zero, suc, ◌+◌, ◌*◌, ◌≤◌, length, Bool, true, eqb, Option as CodeOption, Some, None}
 use Rattle.std.proofs.Math.Option.{Option, none, some}
 use Rattle.std.proofs.lemmas.List.Edits.{sets}
 use Rattle.eqn_tokens.specs.Tokens.{Token, token_bytes}
 use Rattle.eqn_names.specs.Names.{Name, Records}
+use Rattle.formula.specs.declared.Class.TheVariants.{Ord}
+use Rattle.formula.specs.Heads.{class_number}
 use Rattle.formula.specs.Places.{tree_of}
 use Rattle.eqn_grammar.specs.Grammar.{Row, row_tokens}
 use Rattle.eqn_meaning.specs.Writing as meaning
-use Rattle.eqn_write.specs.declared.Put.{Put}
-use Rattle.eqn_write.specs.declared.Put.TheVariants.{Next, Textless}
 use Rattle.eqn_write.specs.declared.forms.ItemForm.{ItemForm}
 use Rattle.eqn_write.specs.declared.forms.ItemForm.TheVariants.{PlainAtom, Operator, Barred, Unmade}
 
 abbrev pub form_as : ItemForm → meaning.ItemForm
-form_as (PlainAtom class) = meaning.plain_atom class
+form_as (PlainAtom class) = meaning.plain_atom (class_number class)
 form_as Operator = meaning.operator
 form_as Barred = meaning.barred
 form_as Unmade = meaning.unmade
 
+-- a list in braces is an Ord
+abbrev pub takes_group : CodeOption ℕ → Bool
+takes_group None = true
+takes_group (Some class) = eqb class (class_number Ord)
+
 -- ---- the text
+
+-- a place up to which text has been written, or none where the part has no text
+abbrev pub Put : Type 0
+Put = CodeOption ℕ
 
 -- no place in a text reaches it
 abbrev pub text_limit : ℕ
@@ -51,13 +62,13 @@ pub record Untexted (o : Option (List Token)) (before after : List ℕ) : Type 0
   pub as_long : length after ≡ length before
 
 abbrev pub TextPut : Option (List Token) → ℕ → List ℕ → List ℕ → Put → Type 0
-TextPut o at before after (Next e) = Texted o at e before after
-TextPut o at before after Textless = Untexted o before after
+TextPut o at before after (Some e) = Texted o at e before after
+TextPut o at before after None = Untexted o before after
 
 -- for so many bytes of a formula
 abbrev pub PutWithin : ℕ → ℕ → Put → Type 0
-PutWithin at bytes (Next e) = e ≤ at + 16 * bytes
-PutWithin at bytes Textless = Unit {0}
+PutWithin at bytes (Some e) = e ≤ at + 16 * bytes
+PutWithin at bytes None = Unit {0}
 
 -- ---- of the names of a table
 

@@ -20,9 +20,8 @@ use Rattle.formula.specs.Heads.{opening_of, field_head}
 use Rattle.formula.specs.Places.{Readable, tree_of, head_bytes, field_of, GoodField, field_end, end, item_of, GoodFieldAt}
 use Rattle.eqn_grammar.specs.Grammar.{Limited, limited_tokens, primary_tokens}
 use Rattle.eqn_meaning.specs.Writing.{Derived, nothing, operand, textless, as_word, as_group, row_of, expression_of, operand_of}
-use Rattle.eqn_write.specs.declared.Put.{Put}
-use Rattle.eqn_write.specs.declared.Put.TheVariants.{Next, Textless}
-use Rattle.eqn_write.specs.Values.{text_limit, TextPut, HasNames}
+use Rattle.std.specs.Prelude.{Some, None}
+use Rattle.eqn_write.specs.Values.{Put, text_limit, TextPut, HasNames}
 use Rattle.eqn_tokens.specs.declared.tokens.Keyword.TheVariants.{Over}
 
 -- ---- tokens
@@ -121,8 +120,8 @@ pub record GroupAsked (table s : List ℕ) (at : ℕ) : Type 0 where
 -- ---- what is promised
 
 abbrev pub Ends : ℕ → ℕ → Put → Type 0
-Ends least most (Next e) = (least ≤ e) × (e ≤ most)
-Ends least most Textless = Unit {0}
+Ends least most (Some e) = (least ≤ e) × (e ≤ most)
+Ends least most None = Unit {0}
 
 pub record Puts (table : List ℕ) (tokens : List Name → Option (List Token)) (least most at : ℕ) (before after : List ℕ) (r : Put) : Type 0 where
   pub ends : Ends least most r

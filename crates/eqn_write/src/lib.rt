@@ -6,10 +6,3 @@
 mod forms;
 mod tokens;
 pub mod writing;
-
-// Text has been written up to a place, or the reader makes the part from no text.
-#[derive(Clone, Copy)]
-pub enum Put {
-    Next(usize),
-    Textless,
-}

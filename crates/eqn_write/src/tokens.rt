@@ -4,8 +4,6 @@ ghost use Rattle.std.specs.Prelude.{◌≡◌, ◌+◌, ◌≤◌, length};
 ghost use Rattle.std.proofs.lemmas.List.Edits.{sets};
 ghost use Rattle.eqn_write.specs.Values.{text_limit, token_text};
 
-const SPACE: u8 = 32;
-
 // Writes a token, and answers the place behind it.
 pub fn put_token(out: &mut [u8], at: usize, token: &[u8]) -> usize
     requires { at + 1 + length token.now ≤ text_limit }
@@ -17,7 +15,7 @@ pub fn put_token(out: &mut [u8], at: usize, token: &[u8]) -> usize
         return token.len();
     }
     if at < out.len() {
-        out[at] = SPACE;
+        out[at] = b' ';
     }
     put_bytes(out, at + 1, token);
     at + 1 + token.len()
@@ -28,11 +26,9 @@ fn put_bytes(out: &mut [u8], at: usize, bytes: &[u8])
     requires { at + length bytes.now ≤ text_limit }
     ensures { out.new ≡ sets out.old at bytes.now }
 {
-    let mut i: usize = 0;
-    while i < bytes.len() {
+    for (i, b) in bytes.iter().enumerate() {
         if at + i < out.len() {
-            out[at + i] = bytes[i];
+            out[at + i] = *b;
         }
-        i += 1;
     }
 }

@@ -15,8 +15,8 @@ ghost use Rattle.fences.specs.Fences as rule;
 ghost use Rattle.fences.specs.Values.{fence_as};
 ghost use Rattle.fences.specs.Bounds.{ModerateFence};
 
-use boxes::parameters::{AXIS_HEIGHT, Parameters, parameter};
-use boxes::styles::{Style, font_size};
+use boxes::parameters::{Dimension, Parameters, parameter};
+use boxes::styles::Style;
 use boxes::{Offset, Size};
 use scaled::Sp;
 
@@ -43,6 +43,7 @@ pub fn fence_extent(p: &Parameters, style: Style, x: Size) -> Sp
     extent_for(from_axis(axis_height(p, style), x))
 }
 
+#[tactic(auto, unfolding(crate::specs::Fences::fence_of))]
 pub fn fence_of(p: &Parameters, style: Style, y: Size, x: Size, z: Size) -> Fence
     requires { Moderate y × Moderate x × Moderate z }
     ensures { (fence_as result ≡ rule.fence_of (parameters_in p.now) style (size_as y) (size_as x) (size_as z)) × ModerateFence result }
@@ -54,7 +55,7 @@ pub fn fence_of(p: &Parameters, style: Style, y: Size, x: Size, z: Size) -> Fenc
 fn axis_height(p: &Parameters, style: Style) -> Sp
     ensures { (result.0 ≡ axis_height (parameters_in p.now) (font_size style)) × Within (words 1) result.0 }
 {
-    parameter(p, font_size(style), AXIS_HEIGHT)
+    parameter(p, style, Dimension::AxisHeight)
 }
 
 // δ: how far a list extends away from the axis.
@@ -102,8 +103,7 @@ fn fenced(u: Sp, v: Sp, y: Size, x: Size, z: Size) -> Fence
     requires { Within (words 2) u.0 × Within (words 2) v.0 × Moderate y × Moderate x × Moderate z }
     ensures { (fence_as result ≡ rule.fenced u.0 v.0 (size_as y) (size_as x) (size_as z)) × ModerateFence result }
 {
-    let across = y.width;
-    let behind = across.plus(x.width);
+    let behind = y.width.plus(x.width);
     Fence {
         size: Size {
             width: behind.plus(z.width),
@@ -114,7 +114,10 @@ fn fenced(u: Sp, v: Sp, y: Size, x: Size, z: Size) -> Fence
             across: Sp(0),
             up: u,
         },
-        inside: Offset { across, up: Sp(0) },
+        inside: Offset {
+            across: y.width,
+            up: Sp(0),
+        },
         right: Offset {
             across: behind,
             up: v,

@@ -24,13 +24,8 @@ pub fn read_table(rt: &impl Files, name: &[u8], buffer: &mut [u8]) -> usize
     ensures { IsPrefixLen result buffer.new }
 {
     match open_read(rt, name) {
-        Ok(file) => read_open(file, buffer),
-        Err(e) => {
-            if e.kind() == ErrorKind::NotFound {
-                return 0;
-            }
-            single(buffer)
-        }
+        Err(e) if e.kind() == ErrorKind::NotFound => 0,
+        file => read_opened(file, buffer),
     }
 }
 
@@ -38,16 +33,14 @@ pub fn read_table(rt: &impl Files, name: &[u8], buffer: &mut [u8]) -> usize
 pub fn read_needed(rt: &impl Files, name: &[u8], buffer: &mut [u8]) -> usize
     ensures { IsPrefixLen result buffer.new }
 {
-    match open_read(rt, name) {
-        Ok(file) => read_open(file, buffer),
-        Err(_) => single(buffer),
-    }
+    read_opened(open_read(rt, name), buffer)
 }
 
 // Reads until the buffer is full, the input ends or a read fails, and gives how many bytes it put at the buffer's front.
 pub fn read_full(input: &mut impl Read, buffer: &mut [u8]) -> usize
     ensures { IsPrefixLen result buffer.new }
 {
+    // No `for`: a read gives as many bytes as it likes.
     let mut done = 0;
     while done < buffer.len() {
         let got = read_some(input, &mut buffer[done..]);
@@ -67,9 +60,13 @@ fn open_read<R: Files>(rt: &R, name: &[u8]) -> Result<R::File> {
     }
 }
 
-fn read_open(mut file: impl Read + Drop, buffer: &mut [u8]) -> usize
+// A file that could not be opened, or be read, has a single byte.
+fn read_opened(file: Result<impl Read + Drop>, buffer: &mut [u8]) -> usize
     ensures { IsPrefixLen result buffer.new }
 {
+    let Ok(mut file) = file else {
+        return single(buffer);
+    };
     let size = read_full(&mut file, buffer);
     if read_fails(&mut file) {
         return single(buffer);
@@ -97,5 +94,5 @@ fn read_some(input: &mut impl Read, buffer: &mut [u8]) -> usize
 fn single(buffer: &[u8]) -> usize
     ensures { IsPrefixLen result buffer.now }
 {
-    if buffer.is_empty() { 0 } else { 1 }
+    buffer.len().min(1)
 }

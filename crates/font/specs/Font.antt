@@ -3,6 +3,7 @@
 --     Font        a parameter by size and number, a symbol by size, family and code
 --     font_of t    the font that a good table t holds
 --     font_with t c    the same under a client's table c, whose symbols come before those of t (request 6)
+--     Tables, font_in    our table and a client's, and the font that they hold
 --     record_of t c    the record of a symbol, from whichever of the two holds it, or no bytes
 --     place_of t c     where that record starts
 -- Assumes nothing.
@@ -68,6 +69,15 @@ font_with t c =
       parameter = (font_of t).parameter;
       symbol = λ size family code. lookup size family code (client_records c) or_ours (font_of t).symbol size family code;
     }
+
+-- our table and a client's
+pub record Tables : Type 0 where
+  pub ours : List ℕ
+  pub client : List ℕ
+
+-- the font that they hold
+abbrev pub font_in : Tables → Font
+font_in t = font_with t.ours t.client
 
 -- ---- the record itself
 

@@ -1,5 +1,6 @@
 -- The order of CH records as the order of numbers: a record's size, family and code as one key.
 --     key_of, key_in                 the key of a size, family and code, and of a record
+--     key_order, same_key          the order of keys is that by size, then family, then code, and they are the same where these are
 --     before_key, is_of_key        records stand in the order of their keys, and a record is a symbol's where its key is
 --     rising_keys                  of rising records a later one has a greater key
 -- A table's bytes are below 256, so that no two symbols have one key.
@@ -79,21 +80,27 @@ regroup true e m f n = refl
 regroup false false m f n = refl
 regroup false true m f n = refl
 
+-- of two sizes, families and codes
+module _ (s f c t g d : ℕ) (b : Bytes f c) (e : Bytes g d) where
+  pub key_order : (ltb s t || (eqb s t && (ltb f g || (eqb f g && ltb c d)))) ≡ ltb (key_of s f c) (key_of t g d)
+  key_order =
+      regroup (ltb s t) (eqb s t) (ltb f g) (eqb f g) (ltb c d)
+      ∙ ap₂ (λ (l e : Bool). l || (e && ltb c d)) (in_order s t f g b.family_byte_lem e.family_byte_lem) (same_parts s t f g b.family_byte_lem e.family_byte_lem)
+      ∙ in_order (s * 256 + f) (t * 256 + g) c d b.code_byte_lem e.code_byte_lem
+
+  pub same_key : (eqb s t && eqb f g && eqb c d) ≡ eqb (key_of s f c) (key_of t g d)
+  same_key =
+      ap (λ (u : Bool). u && eqb c d) (same_parts s t f g b.family_byte_lem e.family_byte_lem)
+      ∙ same_parts (s * 256 + f) (t * 256 + g) c d b.code_byte_lem e.code_byte_lem
+
 pub before_key : (r q : List ℕ) → InBytes r → InBytes q → before r q ≡ ltb (key_in r) (key_in q)
 unfolding before
-before_key r q b d =
-    let order = in_order (size_byte r) (size_byte q) (family_byte r) (family_byte q) b.family_byte_lem d.family_byte_lem in
-    let same = same_parts (size_byte r) (size_byte q) (family_byte r) (family_byte q) b.family_byte_lem d.family_byte_lem in
-    regroup (ltb (size_byte r) (size_byte q)) (eqb (size_byte r) (size_byte q)) (ltb (family_byte r) (family_byte q)) (eqb (family_byte r) (family_byte q)) _
-    ∙ ap₂ (λ (l e : Bool). l || (e && ltb (code_byte r) (code_byte q))) order same
-    ∙ in_order (size_byte r * 256 + family_byte r) (size_byte q * 256 + family_byte q) (code_byte r) (code_byte q) b.code_byte_lem d.code_byte_lem
+before_key r q b d = key_order (size_byte r) (family_byte r) (code_byte r) (size_byte q) (family_byte q) (code_byte q) b d
 
 pub is_of_key : (size family code : ℕ) (r : List ℕ) → Bytes family code → InBytes r →
     is_of size family code r ≡ eqb (key_in r) (key_of size family code)
 unfolding is_of
-is_of_key size family code r b d =
-    ap (λ (t : Bool). t && eqb (code_byte r) code) (same_parts (size_byte r) size (family_byte r) family d.family_byte_lem b.family_byte_lem)
-    ∙ same_parts (size_byte r * 256 + family_byte r) (size * 256 + family) (code_byte r) code d.code_byte_lem b.code_byte_lem
+is_of_key size family code r b d = same_key (size_byte r) (family_byte r) (code_byte r) size family code d b
 
 -- ---- rising records
 

@@ -13,3 +13,4 @@ pub mod Finding
 pub mod FontLaws
 pub mod LookupLaws
 pub mod FairFont
+pub mod ValueLaws

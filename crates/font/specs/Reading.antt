@@ -1,5 +1,6 @@
 -- Bytes of a table, as loops read them.
 --     part_of, rest_of     what `&t[a..a + k]` and `&t[a..]` hold
+--     Left                 the invariant of a loop that tests records, of which the records that are left are a list: on by `first_passed`, to the end by `none_left`
 --     Passing              the invariant of a loop that tests records, which goes on to the next by `again`, or is `finished`
 -- Assumes nothing.
 use Rattle.std.specs.Prelude.{◌≡◌, Bool, true, ◌&&◌, List, ℕ, suc, ◌+◌, ◌-◌, ◌<◌, ◌≤◌, length, take, drop}
@@ -13,6 +14,21 @@ part_of a k t = let size : a + k - a ≡ k = omega arith in rw size
 
 pub rest_of : (a : ℕ) (t : List ℕ) → take (length t - a) (drop a t) ≡ drop a t
 rest_of a t = take_all (length t - a) (drop a t) (simp length-drop (omega arith))
+
+-- ---- records that are taken off the front
+
+-- `whole` says that each of some records passes a test: those so far do if `good`, and P says so of those that are left
+pub record Left (P : List ℕ → Bool) (whole good : Bool) (s : List ℕ) : Type 0 where
+  pub rest : whole ≡ (good && P s)
+
+module _ {P : List ℕ → Bool} {whole good : Bool} {s : List ℕ} (l : Left P whole good s) where
+  -- none is left
+  pub none_left : P s ≡ true → whole ≡ good
+  none_left none = l.rest ∙ rw none (and-true good)
+
+  -- the test of the first came to t, and of those behind it, u, Q says what P said
+  pub first_passed : (Q : List ℕ → Bool) (t : Bool) (u : List ℕ) → P s ≡ (t && Q u) → Left Q whole (good && t) u
+  first_passed Q t u first = record { rest = l.rest ∙ rw first (sym (and_assoc good t (Q u))) }
 
 -- ---- records one after the other
 

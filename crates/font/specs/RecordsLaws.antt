@@ -1,4 +1,5 @@
 -- Records one after the other.
+--     in_pieces                   the pieces that a list has: none in a short one, or its front and those of the rest
 --     length_pieces, piece_at     how many pieces there are, and a piece by its number
 --     in_bytes                    the records in bytes hold bytes
 --     Within, good_within, all_within     a record that keeps the rules is of a size and a family that there are, and no word of it is too great
@@ -6,8 +7,12 @@
 --     byte_at                     a byte of a record, by where it stands
 --     counted, few                sound records fill their bytes, and are not too many
 -- Assumes nothing.
-use Rattle.std.specs.Prelude.{◌≡◌, refl, List, [], ◌∷◌, true, ◌&&◌, ◌||◌, ℕ, zero, suc, ◌+◌, ◌*◌, ◌/◌, ◌<◌, ◌≤◌, leb, eqb, length, get_or, take, drop}
+use Rattle.std.specs.Prelude.{◌≡◌, refl, List, [], ◌∷◌, ◌++◌, true, ◌&&◌, ◌||◌, ℕ, zero, suc, ◌+◌, ◌-◌, ◌*◌, ◌/◌, ◌<◌, ◌≤◌, leb, eqb, length, get_or, take, drop}
 use Rattle.std.proofs.Common.{ap, ◌∙◌, add_comm, mul-zero, mul-suc, arith, leb-true, drop-drop, get_or-take, get_or-drop}
+use Rattle.std.proofs.Common.{ap₂, mul_comm, take-take, length-append, length-take-le}
+use Rattle.std.proofs.lemmas.List.{drop-take}
+use Rattle.std.proofs.Math.Nat.{div-eq_of_lt, add-div_left, mul-div_cancel}
+use Rattle.std.proofs.Math.Seq.{take-append_seam, drop-append_seam}
 use Rattle.laws.specs.Truths.{both_true}
 use Rattle.words.specs.WordLaws.{Bytes}
 use Rattle.font.specs.Records.{character_bytes, most_characters, greatest_size, greatest_family, pieces, client_records, client_count}
@@ -28,6 +33,38 @@ unfolding pieces
 piece_at k zero t i h = absurd (omega arith)
 piece_at k (suc n) t zero h = rw mul-zero
 piece_at k (suc n) t (suc i) h = piece_at k n (drop k t) i (omega arith) ∙ rw (drop-drop, mul-suc, add_comm k (k * i))
+
+-- the pieces of k bytes that a list has
+abbrev pub in_pieces : ℕ → List ℕ → List (List ℕ)
+in_pieces k t = pieces k (length t / k) t
+
+-- the front of a list has the pieces that end in it
+pub pieces_front : (k n m : ℕ) (t : List ℕ) → k * n ≤ m → pieces k n (take m t) ≡ pieces k n t
+unfolding pieces
+pieces_front k zero m t h = refl
+pieces_front k (suc n) m t h =
+    ap₂ (λ (first : List ℕ) (l : List (List ℕ)). first ∷ l) (take-take k m t (omega arith))
+    (let rest : k + (m - k) ≡ m = omega arith in
+    let behind : drop k (take m t) ≡ take (m - k) (drop k t) = rw rest at (drop-take k (m - k) t) in
+    rw behind (pieces_front k n (m - k) (drop k t) (omega arith)))
+
+pub none_in_pieces : (k : ℕ) (t : List ℕ) → length t < k → in_pieces k t ≡ []
+unfolding pieces
+none_in_pieces k t h = rw (div-eq_of_lt h)
+
+pub first_in_pieces : (k : ℕ) {t : List ℕ} (r u : List ℕ) → 0 < k → t ≡ r ++ u → length r ≡ k → in_pieces k t ≡ r ∷ in_pieces k u
+unfolding pieces
+first_in_pieces k r u more e size =
+    let more_length : 0 < length r = omega arith in
+    let one_more : length (r ++ u) / length r ≡ suc (length u / length r) =
+    rw (length-append, add-div_left (length u) more_length) (omega arith) in
+    rw (e, ← size, one_more) (ap₂ (λ (first : List ℕ) (l : List (List ℕ)). first ∷ l) (take-append_seam r u) (rw (drop-append_seam r u)))
+
+pub front_in_pieces : (k n : ℕ) (t : List ℕ) → 0 < k → n * k ≤ length t → in_pieces k (take (n * k) t) ≡ pieces k n t
+front_in_pieces k n t more long =
+    let size = length-take-le (n * k) t long in
+    let number : length (take (n * k) t) / k ≡ n = rw (size, mul-div_cancel n more) in
+    rw number (pieces_front k n (n * k) t (omega (arith, mul_comm k n)))
 
 -- a byte of a piece is one of the whole, or 0 where there is none
 piece_byte : (k n : ℕ) (t : List ℕ) → ((i : ℕ) → get_or t i 0 < 256) → (i j : ℕ) → get_or (get_or (pieces k n t) i []) j 0 < 256

@@ -5,40 +5,84 @@
 
 pub mod format;
 
-ghost use Rattle.std.specs.Prelude.{◌≡◌, ◌<◌, ◌≤◌, length};
+ghost use Rattle.std.specs.Prelude.{◌≡◌, ◌*◌, ◌<◌, ◌≤◌, length, drop};
 ghost use Rattle.font.specs.Records.{size_count, header_bytes, character_bytes};
-ghost use Rattle.font.specs.Font.{metrics_of, successor_of};
-ghost use Rattle.font.specs.Values.{metrics_as, successor_as, HoldsRow, HoldsParameters};
+ghost use Rattle.font.specs.Font.{metrics_of, successor_of, past};
+ghost use Rattle.font.specs.Table.{SoundTables};
+ghost use Rattle.font.specs.RecordsLaws.{count, numbered};
+ghost use Rattle.font.specs.Values.{KeyOf, metrics_as, successor_as, HoldsRow, HoldsParameters};
 
-// The code of the next larger symbol of the same family, if there is one.
-#[derive(Clone, Copy)]
-pub enum Successor {
-    Nothing,
-    Code(u8),
-}
-
-// What a table says of a symbol.
+// What a table says of a symbol. Its successor, if it has one, is the next larger symbol of the same family.
 #[derive(Clone, Copy)]
 pub struct Metrics {
     pub width: u32,
     pub height: u32,
     pub depth: u32,
     pub italic: u32,
-    pub successor: Successor,
+    pub successor: Option<u8>,
 }
 
-// What a lookup comes to.
+// What a symbol is known by. The CH records of a table rise by it.
+#[derive(Clone, Copy, PartialEq, Eq, PartialOrd, Ord)]
+pub struct Key {
+    pub size: u8,
+    pub family: u8,
+    pub code: u8,
+}
+
+impl Key {
+    // The key of the symbol of a record.
+    pub fn of(r: &[u8]) -> Key
+        requires { character_bytes ≤ length r.now }
+        ensures { KeyOf result r.now }
+    {
+        Key {
+            size: r[format::SIZE],
+            family: r[format::FAMILY],
+            code: r[format::CODE],
+        }
+    }
+}
+
+// Of CH records one after the other the one of a number.
+pub fn record_at(s: &[u8], number: usize) -> &[u8]
+    requires { number < count s.now }
+    ensures result_value { result.now ≡ numbered s.now number }
+    ensures ref_ptr_value { result.ref_ptr ≡ past (character_bytes * number) s.entry.ref_ptr }
+{
+    let at = format::CHARACTER_BYTES * number;
+    &s[at..at + format::CHARACTER_BYTES]
+}
+
+// The CH records of our table, behind the PA records.
+pub fn our_records(table: &[u8]) -> &[u8]
+    requires { header_bytes ≤ length table.now }
+    ensures result_value { result.now ≡ drop header_bytes table.now }
+    ensures ref_ptr_value { result.ref_ptr ≡ past header_bytes table.entry.ref_ptr }
+{
+    &table[format::HEADER_BYTES..]
+}
+
+// How many CH records there are.
+pub fn count(s: &[u8]) -> usize
+    ensures { result ≡ count s.now }
+{
+    s.len() / format::CHARACTER_BYTES
+}
+
+// Our table and a client's, whose symbols come before ours, as a lookup takes them.
 #[derive(Clone, Copy)]
-pub enum Found {
-    Symbol(Metrics),
-    Absent,
+pub struct Tables<'a> {
+    pub ours: &'a [u8],
+    pub client: &'a [u8],
+    ghost sound: { SoundTables ours.now client.now },
 }
 
 // Steps of a chain, each to a symbol's successor.
 pub const LONGEST_CHAIN: usize = 16;
 
 // The parameters of the three sizes.
-pub fn parameters(table: &[u8]) -> [[u32; 35]; 3]
+pub fn parameters(table: &[u8]) -> [[u32; format::PARAMETER_COUNT]; format::SIZE_COUNT]
     requires { header_bytes ≤ length table.now }
     ensures { HoldsParameters result table.now }
 {
@@ -49,16 +93,14 @@ pub fn parameters(table: &[u8]) -> [[u32; 35]; 3]
 }
 
 // The parameters of one size.
-fn row(table: &[u8], size: usize) -> [u32; 35]
+fn row(table: &[u8], size: usize) -> [u32; format::PARAMETER_COUNT]
     requires { (header_bytes ≤ length table.now) × (size < size_count) }
     ensures { HoldsRow result table.now size }
 {
     let start = format::PARAMETER_BYTES * size + format::FIRST_PARAMETER;
-    let mut words = [0u32; 35];
-    let mut number = 0;
-    while number < format::PARAMETER_COUNT {
-        words[number] = words::word(table, start + format::WORD_BYTES * number);
-        number += 1;
+    let mut words = [0u32; format::PARAMETER_COUNT];
+    for (number, word) in words.iter_mut().enumerate() {
+        *word = words::word(table, start + format::WORD_BYTES * number);
     }
     words
 }
@@ -78,13 +120,13 @@ pub fn metrics_of(r: &[u8]) -> Metrics
 }
 
 // The successor of a record's symbol, if its flag is set.
-fn successor_of(r: &[u8]) -> Successor
+fn successor_of(r: &[u8]) -> Option<u8>
     requires { character_bytes ≤ length r.now }
     ensures { successor_as result ≡ successor_of r.now }
 {
     if r[format::FLAG] == 1 {
-        Successor::Code(r[format::SUCCESSOR])
+        Some(r[format::SUCCESSOR])
     } else {
-        Successor::Nothing
+        None
     }
 }

@@ -1,6 +1,5 @@
 -- How an index comes about.
---     Cleared        words of which the first are 0; `cleared_none`, `cleared_more` as the loop goes
---     marked_none    words that are all 0 have no record marked
+--     marked_none    words that are all 0 have no record marked; `cleared`, where the code made them so
 --     marked_more    one more record is marked; `marked_so`: as the code does it
 --     MarkedFrom     the records from a number on are; `marked_from` takes the one before them
 --     Summing        some counts are summed: `summing_none`, `summing_more` as the loop goes
@@ -15,16 +14,21 @@ use native.Mathlib.Omega.{arith}
 use borrow.Author.Tests.{lt-ltb, le-ltb, eq-eqb, eqb-true, eqb-false, ltb-true, ltb-false}
 use lib.Bits.{bit_or}
 use lib.Dec.{ltb, eqb}
-use lib.ListN.{length, get_or, drop, set, length-set, length-drop, drop_of_length-le, take-append-drop}
+use lib.ListN.{length, get_or, drop, set, length-set, length-drop, drop_of_length-le, take-append-drop, take, get_or-append}
+use lib.Seq.{drop-append_seam}
+use Rattle.std.proofs.lemmas.List.{length-replicate, get_or-replicate, length-append, length-take-le}
+use Rattle.std.specs.Prelude.{replicate}
+use Rattle.font.specs.declared.Key.{Key}
+use Rattle.font.specs.Values.{KeyOf}
 use lib.Seq.{drop-cons, get_or-set_same, get_or-set_other, drop-set-lt}
 use Rattle.words.specs.WordLaws.{Bytes}
-use Rattle.font.specs.Records.{size_count, character_bytes, most_characters, greatest_size, greatest_family, client_records, size_byte, family_byte, code_byte}
+use Rattle.font.specs.Records.{size_count, most_characters, greatest_size, greatest_family, client_records, size_byte, family_byte, code_byte}
 use Rattle.font.specs.Font.{is_of}
 use Rattle.font.specs.Keys.{in_order, same_parts}
 use Rattle.font.specs.Table.{SoundRecords}
 use Rattle.font_index.specs.Index.{family_count, codes_in_word, bit_words, group_words, index_words, one, has, bits, tally, earlier, code_word, start_of, group_of, index_of, group_word}
 use Rattle.font_build.specs.Building.{word_place, with_bit, with_count, marked_with, is_in, Marked, group_count, count_of, running, Summed}
-use Rattle.font.specs.RecordsLaws.{recorded, record_at, byte_at, counted, few, all_in_bytes, Within, all_within}
+use Rattle.font.specs.RecordsLaws.{count as records_in, numbered, recorded, record_at, few, all_in_bytes, Within, all_within}
 use Rattle.font_build.proofs.BitLaws.{bits_same, bits_with}
 use Rattle.font_index.specs.BitLaws.{mask_is}
 use Rattle.font_index.specs.TallyLaws.{tally_none, tally_sum, tally_le}
@@ -50,28 +54,18 @@ marked_none words long zeros =
       counted = λ size family s f. zeros _ (omega arith);
     }
 
--- the first n words are 0, and those past the index as before
-pub record Cleared (old new : List ℕ) (n : ℕ) : Type 0 where
-  pub same_length : length new ≡ length old
-  pub zeros : (i : ℕ) → i < n → get_or new i 0 ≡ 0
-  pub past : drop index_words new ≡ drop index_words old
-
-pub cleared_none : (words : List ℕ) → Cleared words words 0
-cleared_none words = record { same_length = refl; zeros = λ i h. absurd (omega arith); past = refl }
-
-pub cleared_more : (old new : List ℕ) (n : ℕ) → n < index_words → index_words ≤ length old → Cleared old new n → Cleared old (set new n 0) (n + 1)
-cleared_more old new n inside long so =
-    record {
-      same_length = length-set new n 0 ∙ so.same_length;
-      zeros = λ i h. zero_by i h (eqb i n) refl;
-      past = drop-set-lt index_words new n 0 inside ∙ so.past;
-    }
-  where
-    zero_by : (i : ℕ) → i < n + 1 → (t : Bool) → eqb i n ≡ t → get_or (set new n 0) i 0 ≡ 0
-    zero_by i h true is =
-        let e : i ≡ n = eqb-true i n is in
-        ap (λ (j : ℕ). get_or (set new n 0) j 0) e ∙ get_or-set_same new n 0 0 (omega (arith, so.same_length))
-    zero_by i h false is = let other = eqb-false i n is in get_or-set_other new n i 0 0 other ∙ so.zeros i (omega arith)
+-- the words of the index were made 0, to `zeros`, and those behind it are as before
+pub cleared : (words zeros : List ℕ) → index_words ≤ length words → zeros ≡ replicate (length (take index_words words)) 0 →
+    Marked (zeros ++ drop index_words words) [] × (drop index_words (zeros ++ drop index_words words) ≡ drop index_words words)
+cleared words zeros long are =
+    let size : length (take index_words words) ≡ index_words = length-take-le index_words words long in
+    let all : zeros ≡ replicate index_words 0 = are ∙ ap (λ (n : ℕ). replicate n 0) size in
+    let whole : length zeros ≡ index_words = ap length all ∙ length-replicate {A = ℕ} index_words 0 in
+    let behind = drop index_words words in (
+      marked_none (zeros ++ behind) (omega (arith, length-append zeros behind, whole))
+          (λ i h. get_or-append zeros behind 0 i (omega (arith, whole)) ∙ ap (λ (l : List ℕ). get_or l i 0) all ∙ get_or-replicate index_words i 0 0 h),
+      ap (λ (n : ℕ). drop n (zeros ++ behind)) (sym whole) ∙ drop-append_seam zeros behind,
+    )
 
 -- ---- whose a record is
 
@@ -226,23 +220,14 @@ module _ (s : List ℕ) (sound : SoundRecords s) (byte : Bytes s) (old new : Lis
   abbrev l : List (List ℕ)
   l = client_records s
 
-  abbrev start : ℕ
-  start = character_bytes * (i - 1)
-
   abbrev r : List ℕ
   r = get_or l (i - 1) []
 
   inside : i - 1 < length l
   inside = omega (arith, so.within)
 
-  pub read_within : start + character_bytes ≤ length s
-  read_within = omega (arith, inside, recorded s, counted s sound)
-
-  pub read_small : length s ≤ 65_536
-  read_small = omega (arith, counted s sound, few s sound)
-
-  read : (k : ℕ) → k < character_bytes → get_or r k 0 ≡ get_or s (start + k) 0
-  read k h = ap (λ (q : List ℕ). get_or q k 0) (record_at s (i - 1) (omega (arith, inside, recorded s))) ∙ byte_at s start k h
+  pub inside_count : i - 1 < records_in s
+  inside_count = omega (arith, inside, recorded s)
 
   kept_to : Within r
   kept_to = all_within l sound.good (i - 1) inside
@@ -255,18 +240,31 @@ module _ (s : List ℕ) (sound : SoundRecords s) (byte : Bytes s) (old new : Lis
       let counted-so = so.marked.counted (size_byte r) (family_byte r) (omega (arith, kept_to.size)) (omega (arith, kept_to.family)) in
       omega (arith, counted-so, tally_le (is_in (size_byte r) (family_byte r)) (drop i l), length-drop i l, so.within, recorded s, few s sound)
 
-  pub mark_fits : (get_or s (start + 2) 0 ≤ greatest_size) × (get_or s (start + 3) 0 ≤ greatest_family)
-      × (group_word new (get_or s (start + 2) 0) (get_or s (start + 3) 0) bit_words < most_characters)
-  mark_fits = rw (← read 2 (omega arith), ← read 3 (omega arith)) (kept_to.size, kept_to.family, few_marked)
+  -- by the key of the part that holds it
+  module _ (k : Key) {q : List ℕ} (is : q ≡ numbered s (i - 1)) (of : KeyOf k q) where
+    is_r : q ≡ r
+    is_r = is ∙ sym (record_at s (i - 1) inside_count)
 
-  pub marked_from : MarkedFrom old (marked_with new (get_or s (start + 2) 0) (get_or s (start + 3) 0) (get_or s (start + 4) 0)) l (i - 1)
-  marked_from =
-      rw (← read 2 (omega arith), ← read 3 (omega arith), ← read 4 (omega arith))
-      (record {
-        within = omega (arith, inside);
-        marked = rw rest (marked_more new r (drop i l) kept_to (all_in_bytes s byte (i - 1)).code_byte_lem so.marked);
-        past = past_more new r (drop i l) kept_to (all_in_bytes s byte (i - 1)).code_byte_lem so.marked ∙ so.past;
-      })
+    size_is : k.size ≡ size_byte r
+    size_is = of.size_is ∙ ap size_byte is_r
+
+    family_is : k.family ≡ family_byte r
+    family_is = of.family_is ∙ ap family_byte is_r
+
+    code_is : k.code ≡ code_byte r
+    code_is = of.code_is ∙ ap code_byte is_r
+
+    pub mark_fits : (k.size ≤ greatest_size) × (k.family ≤ greatest_family) × (group_word new k.size k.family bit_words < most_characters)
+    mark_fits = rw (size_is, family_is) (kept_to.size, kept_to.family, few_marked)
+
+    pub marked_from : MarkedFrom old (marked_with new k.size k.family k.code) l (i - 1)
+    marked_from =
+        rw (size_is, family_is, code_is)
+        (record {
+          within = omega (arith, inside);
+          marked = rw rest (marked_more new r (drop i l) kept_to (all_in_bytes s byte (i - 1)).code_byte_lem so.marked);
+          past = past_more new r (drop i l) kept_to (all_in_bytes s byte (i - 1)).code_byte_lem so.marked ∙ so.past;
+        })
 
 -- a record is marked as the code does it, with its group's place and its bit computed before
 module _ (words : List ℕ) (size family code : ℕ) where

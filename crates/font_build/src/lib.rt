@@ -8,7 +8,7 @@ ghost use Rattle.font.specs.Table.{SoundTables, SoundRecords};
 ghost use Rattle.font_index.specs.Index.{bit_words, index_words, index_of, group_word};
 ghost use Rattle.font_build.specs.Building.{marked_with, Marked, group_count, running, Summed};
 
-use font::format;
+use font::{Key, count, our_records, record_at};
 use font_index::{BIT_WORDS, CODES_IN_WORD, GROUP_COUNT, GROUP_WORDS, INDEX_WORDS, group_at};
 
 // Writes each table's index at the front of the words lent for it.
@@ -17,7 +17,7 @@ pub fn build(table: &[u8], client: &[u8], index: &mut [u64], client_index: &mut 
     ensures index_after { index.new ≡ index_of (character_records table.now) ++ drop index_words index.old }
     ensures client_index_after { client_index.new ≡ index_of (client_records client.now) ++ drop index_words client_index.old }
 {
-    build_index(&table[format::HEADER_BYTES..], index);
+    build_index(our_records(table), index);
     build_index(client, client_index);
 }
 
@@ -36,11 +36,7 @@ fn clear(index: &mut [u64])
     requires { index_words ≤ length index.old }
     ensures { Marked index.new [] × (drop index_words index.new ≡ drop index_words index.old) }
 {
-    let mut i = 0;
-    while i < INDEX_WORDS {
-        index[i] = 0;
-        i += 1;
-    }
+    index[..INDEX_WORDS].fill(0);
 }
 
 // All records are marked, the last one first.
@@ -48,26 +44,20 @@ fn mark_all(s: &[u8], index: &mut [u64])
     requires { SoundRecords s.now × Marked index.old [] }
     ensures { Marked index.new (client_records s.now) × (drop index_words index.new ≡ drop index_words index.old) }
 {
-    let mut i = s.len() / format::CHARACTER_BYTES;
-    while 0 < i {
-        i -= 1;
-        let at = format::CHARACTER_BYTES * i;
-        let size = s[at + format::SIZE];
-        let family = s[at + format::FAMILY];
-        let code = s[at + format::CODE];
-        mark(index, size, family, code);
+    for i in (0..count(s)).rev() {
+        mark(index, Key::of(record_at(s, i)));
     }
 }
 
 // The bit of a symbol is set, and its record counted where the start will stand.
-fn mark(index: &mut [u64], size: u8, family: u8, code: u8)
-    requires { (index_words ≤ length index.old) × (size ≤ greatest_size) × (family ≤ greatest_family) × (group_word index.old size family bit_words < most_characters) }
-    ensures { index.new ≡ marked_with index.old size family code }
+fn mark(index: &mut [u64], key: Key)
+    requires { (index_words ≤ length index.old) × (key.size ≤ greatest_size) × (key.family ≤ greatest_family) × (group_word index.old key.size key.family bit_words < most_characters) }
+    ensures { index.new ≡ marked_with index.old key.size key.family key.code }
 {
-    let group = group_at(size, family);
-    let word = group + (code / CODES_IN_WORD) as usize;
+    let group = group_at(key.size, key.family);
+    let word = group + (key.code / CODES_IN_WORD) as usize;
     let count = group + BIT_WORDS;
-    index[word] = index[word] | (1u64 << (code % CODES_IN_WORD) as u32);
+    index[word] = index[word] | (1u64 << (key.code % CODES_IN_WORD) as u32);
     index[count] = index[count] + 1;
 }
 
@@ -77,12 +67,10 @@ fn sum(index: &mut [u64])
     ensures { Summed index.old index.new group_count }
 {
     let mut before = 0;
-    let mut group = 0;
-    while group < GROUP_COUNT {
+    for group in 0..GROUP_COUNT {
         let at = GROUP_WORDS * group + BIT_WORDS;
         let count = index[at];
         index[at] = before;
         before += count;
-        group += 1;
     }
 }

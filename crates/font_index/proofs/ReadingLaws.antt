@@ -23,7 +23,7 @@ use Rattle.font.specs.Records.{character_bytes, most_characters, greatest_size, 
 use Rattle.font.specs.Font.{is_of}
 use Rattle.font.specs.Keys.{key_of, key_in, Bytes, AllInBytes}
 use Rattle.font.specs.Finding.{FoundAt, found_none, found_there}
-use Rattle.font_index.specs.Index.{family_count, codes_in_word, bit_words, group_words, one, has, bits, earlier, start_of, each, Indexes, ones_below, group_word, ones_before, present_by, number_by}
+use Rattle.font_index.specs.Index.{family_count, codes_in_word, bit_words, group_words, one, has, bits, earlier, start_of, Indexes, ones_below, group_word, ones_before, present_by, number_by}
 use Rattle.font.specs.Table.{SoundRecords}
 use Rattle.font_index.specs.IndexLaws.{code_of, word_at}
 use Rattle.font.specs.RecordsLaws.{all_within, count, recorded, record_at, counted, few, numbered, all_in_bytes}

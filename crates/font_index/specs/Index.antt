@@ -2,12 +2,14 @@
 --     index_of l            the 240 words of the records l
 --     Indexes words l      words that start with them
 --     Indexed t c i j      two tables as a lookup takes them, each with its index
+--     Held t c i j p        these and the parameters, as a font has them
 --     present_by, number_by  what an index says of a symbol: whether it has a record, and how many records stand before that
 -- Assumes nothing.
 use Rattle.std.specs.Prelude.{◌≡◌, Bool, true, false, ◌&&◌, ◌||◌, List, [], ◌∷◌, ◌++◌, ℕ, zero, suc, ◌+◌, ◌*◌, ◌/◌, ◌%◌, ◌^◌, ltb, leb, eqb, get_or, take}
 use Rattle.std.specs.Int.Count.{ones}
 use Rattle.font.specs.Records.{size_count, greatest_size, greatest_family, character_records, client_records, size_byte, family_byte}
-use Rattle.font.specs.Font.{is_of}
+use Rattle.font.specs.Font.{font_with, is_of}
+use Rattle.font.specs.Values.{parameters_in}
 use Rattle.font.specs.Table.{SoundTables}
 
 -- ---- the numbers of the format
@@ -81,6 +83,11 @@ pub record Indexed (t c i j : List ℕ) : Type 0 where
   pub tables : SoundTables t c
   pub ours : Indexes i (character_records t)
   pub client : Indexes j (client_records c)
+
+-- what a font has: two tables, each with its index, and the parameters of ours
+pub record Held (t c i j : List ℕ) (p : List (List ℕ)) : Type 0 where
+  pub indexed : Indexed t c i j
+  pub parameters_are : parameters_in p ≡ (font_with t c).parameter
 
 -- ---- what an index says
 

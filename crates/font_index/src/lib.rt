@@ -1,15 +1,17 @@
-// The index of CH records (specs/Index.antt): a symbol's record by it, and the symbol.
+// The font that our table and a client's hold, asked by size, family and code. A symbol is found by the index of its table's CH records
+// (specs/Index.antt).
 
 #![tactic(auto)]
 
 ghost use Rattle.std.specs.Prelude.{◌≡◌, ◌+◌, ◌*◌, ◌≤◌, ◌<◌, length};
 ghost use Rattle.font.specs.Records.{most_characters, greatest_size, greatest_family, client_records};
-ghost use Rattle.font.specs.Font.{font_with, record_in, record_of, place_in, place_of, past};
+ghost use Rattle.font.specs.Font.{font_in, record_in, record_of, place_in, place_of, past};
 ghost use Rattle.font.specs.Table.{SoundRecords};
-ghost use Rattle.font.specs.Values.{found_as};
+ghost use Rattle.font.specs.Values.{HandsBack, found_as, parameters_in};
 ghost use Rattle.font_index.specs.Index.{family_count, codes_in_word, bit_words, group_words, index_words, Indexes, Indexed, group_word, ones_below, present_by, number_by};
 
-use font::{Found, format, metrics_of};
+use font::{Key, Metrics, format, metrics_of, our_records, record_at};
+use std::marker::Model;
 
 // For each size and family words of bits, one for each code, and a start.
 const FAMILY_COUNT: usize = 16;
@@ -25,91 +27,119 @@ pub const GROUP_WORDS: usize = BIT_WORDS + 1;
 // How many words an index takes.
 pub const INDEX_WORDS: usize = GROUP_WORDS * GROUP_COUNT;
 
-// The symbol of a size, family and code.
-pub fn symbol<'a>(
+// A font: our table, a client's whose symbols come before ours, the index of each, and our parameters.
+#[derive(Drop)]
+pub struct Font<'a> {
     table: &'a [u8],
     client: &'a [u8],
-    index: &[u64],
-    client_index: &[u64],
-    size: u8,
-    family: u8,
-    code: u8,
-) -> Found
-    requires { Indexed table.now client.now index.now client_index.now }
-    ensures { found_as result ≡ (font_with table.now client.now).symbol size family code }
-{
-    let r = record_of(table, client, index, client_index, size, family, code);
-    if r.len() < format::CHARACTER_BYTES {
-        return Found::Absent;
-    }
-    Found::Symbol(metrics_of(r))
+    index: &'a [u64],
+    client_index: &'a [u64],
+    parameters: [[u32; format::PARAMETER_COUNT]; format::SIZE_COUNT],
 }
 
-// The record of a symbol by the indexes, as a part of the client's table or else of ours, or an empty part.
+// What a contract sees of a font is its two tables.
+impl<'a> Model for Font<'a> {
+    ghost use Rattle.font.specs.Font.{Tables};
+    ghost use Rattle.font_index.specs.Index.{Held};
+
+    ghost Value = { Tables };
+
+    ghost view = { λ f. record { ours = f.table.now; client = f.client.now } };
+
+    ghost invariant = { λ f. Held f.table.now f.client.now f.index.now f.client_index.now f.parameters };
+}
+
+impl<'a> Font<'a> {
+    // The font of tables that have been indexed.
+    pub fn new(
+        table: &'a [u8],
+        client: &'a [u8],
+        index: &'a [u64],
+        client_index: &'a [u64],
+    ) -> Font<'a>
+        requires { Indexed table.now client.now index.now client_index.now }
+        ensures { result ≡ record { ours = table.now; client = client.now } }
+    {
+        Font {
+            table,
+            client,
+            index,
+            client_index,
+            parameters: font::parameters(table),
+        }
+    }
+
+    // The symbol of a size, family and code.
+    pub fn symbol(&self, size: u8, family: u8, code: u8) -> Option<Metrics>
+        ensures { found_as result ≡ (font_in self.now).symbol size family code }
+    {
+        let key = Key { size, family, code };
+        let r = record_of(self.table, self.client, self.index, self.client_index, key)?;
+        Some(metrics_of(r))
+    }
+
+    pub fn parameters(&self) -> &[[u32; format::PARAMETER_COUNT]; format::SIZE_COUNT]
+        ensures { parameters_in result.now ≡ (font_in self.now).parameter }
+    {
+        &self.parameters
+    }
+}
+
+// The record of a symbol by the indexes, as a part of the client's table or else of ours.
 fn record_of<'a>(
     table: &'a [u8],
     client: &'a [u8],
     index: &[u64],
     client_index: &[u64],
-    size: u8,
-    family: u8,
-    code: u8,
-) -> &'a [u8]
+    key: Key,
+) -> Option<&'a [u8]>
     requires { Indexed table.now client.now index.now client_index.now }
-    ensures result_value { result.now ≡ record_of table.now client.now size family code }
-    ensures ref_ptr_value { result.ref_ptr ≡ place_of table.now client.now table.entry.ref_ptr client.entry.ref_ptr size family code }
+    ensures { HandsBack result (record_of table.now client.now key.size key.family key.code) (place_of table.now client.now table.entry.ref_ptr client.entry.ref_ptr key.size key.family key.code) }
 {
-    let own = record_by(client, client_index, size, family, code);
-    if 0 < own.len() {
-        return own;
+    match record_by(client, client_index, key) {
+        Some(own) => Some(own),
+        None => record_by(our_records(table), index, key),
     }
-    record_by(&table[format::HEADER_BYTES..], index, size, family, code)
 }
 
-// Of CH records the one of a symbol, by their index, as a part of them, or an empty part.
-fn record_by<'a>(s: &'a [u8], index: &[u64], size: u8, family: u8, code: u8) -> &'a [u8]
+// Of CH records the one of a symbol, by their index, as a part of them.
+fn record_by<'a>(s: &'a [u8], index: &[u64], key: Key) -> Option<&'a [u8]>
     requires { SoundRecords s.now × Indexes index.now (client_records s.now) }
-    ensures result_value { result.now ≡ record_in size family code (client_records s.now) }
-    ensures ref_ptr_value { result.ref_ptr ≡ past (place_in size family code (client_records s.now)) s.entry.ref_ptr }
+    ensures { HandsBack result (record_in key.size key.family key.code (client_records s.now)) (past (place_in key.size key.family key.code (client_records s.now)) s.entry.ref_ptr) }
 {
-    if !is_present(index, size, family, code) {
-        let end = s.len();
-        return &s[end..];
+    if !is_present(index, key) {
+        return None;
     }
-    let at = format::CHARACTER_BYTES * number_of(index, size, family, code);
-    let end = at + format::CHARACTER_BYTES;
-    &s[at..end]
+    Some(record_at(s, number_of(index, key)))
 }
 
 // Whether the bit of a symbol is set.
-fn is_present(index: &[u64], size: u8, family: u8, code: u8) -> bool
+fn is_present(index: &[u64], key: Key) -> bool
     requires { index_words ≤ length index.now }
-    ensures { result ≡ present_by index.now size family code }
+    ensures { result ≡ present_by index.now key.size key.family key.code }
 {
-    if format::GREATEST_SIZE < size {
+    if format::GREATEST_SIZE < key.size {
         return false;
     }
-    if format::GREATEST_FAMILY < family {
+    if format::GREATEST_FAMILY < key.family {
         return false;
     }
-    let word = group_at(size, family) + (code / CODES_IN_WORD) as usize;
-    (index[word] >> (code % CODES_IN_WORD) as u32) & 1 == 1
+    let word = group_at(key.size, key.family) + usize::from(key.code / CODES_IN_WORD);
+    (index[word] >> u32::from(key.code % CODES_IN_WORD)) & 1 == 1
 }
 
 // How many records stand before that of a symbol: the start, and the ones below its bit, over the words before it and in its own.
-fn number_of(index: &[u64], size: u8, family: u8, code: u8) -> usize
-    requires { (index_words ≤ length index.now) × (size ≤ greatest_size) × (family ≤ greatest_family) × (group_word index.now size family bit_words ≤ most_characters) }
-    ensures { result ≡ number_by index.now size family code }
+fn number_of(index: &[u64], key: Key) -> usize
+    requires { (index_words ≤ length index.now) × (key.size ≤ greatest_size) × (key.family ≤ greatest_family) × (group_word index.now key.size key.family bit_words ≤ most_characters) }
+    ensures { result ≡ number_by index.now key.size key.family key.code }
 {
-    let group = group_at(size, family);
-    let last = (code / CODES_IN_WORD) as usize;
+    let group = group_at(key.size, key.family);
+    let last = usize::from(key.code / CODES_IN_WORD);
     let mut number = index[group + BIT_WORDS];
-    let mut word = 0;
-    while word < last {
-        number += u64::count_ones(index[group + word]) as u64;
-        word += 1;
+    for word in 0..last {
+        number += u64::from(index[group + word].count_ones());
     }
-    (number + ones_below(index[group + last], (code % CODES_IN_WORD) as u32)) as usize
+    (number + ones_below(index[group + last], u32::from(key.code % CODES_IN_WORD))) as usize
 }
 
 // The ones of a word below a bit.
@@ -118,7 +148,7 @@ fn ones_below(w: u64, bit: u32) -> u64
     ensures { (result ≡ ones_below w bit) × (result ≤ codes_in_word) }
 {
     let below = (1u64 << bit) - 1;
-    u64::count_ones(w & below) as u64
+    u64::from((w & below).count_ones())
 }
 
 // Where the five words of a size and family start.
@@ -126,5 +156,5 @@ pub fn group_at(size: u8, family: u8) -> usize
     requires { (size ≤ greatest_size) × (family ≤ greatest_family) }
     ensures { result ≡ group_words * (family_count * size + family) }
 {
-    GROUP_WORDS * (FAMILY_COUNT * size as usize + family as usize)
+    GROUP_WORDS * (FAMILY_COUNT * usize::from(size) + usize::from(family))
 }

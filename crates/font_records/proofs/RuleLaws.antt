@@ -1,7 +1,7 @@
 -- The rules for CH records, test by test.
 --     sound_from, sound_pass    the CH records in one pass that carries the least key for the next, for `are_characters`
+--     last_less                    the order of keys as the code tests it, the last key against the next
 --     good_character_lem           the tests of a CH record, for `is_character`
---     key_at                   the key of a record, by where it stands, for `key_at`
 -- Assumes nothing.
 use mathlib.Core.Path.{◌≡◌, refl, sym, ap, ap₂, ◌∙◌}
 use mathlib.Core.Bool.{Bool, true, false, ◌&&◌, ◌||◌, and-true, and_assoc}
@@ -10,11 +10,15 @@ use Prim.Native.Nat.{ℕ, suc, ◌+◌}
 use native.Mathlib.Omega.{arith}
 use borrow.Author.Tests.{le-leb}
 use lib.Dec.{leb, eqb}
-use lib.ListN.{get_or, take, drop}
-use Rattle.font.specs.Records.{character_bytes, greatest_size, greatest_family, metric_words, size_byte, family_byte, flag_byte, successor_byte}
+use Rattle.font.specs.Records.{greatest_size, greatest_family, metric_words, size_byte, family_byte, flag_byte, successor_byte}
 use Rattle.font.specs.Records.{every, marked, good_word, good_character, before, rising}
-use Rattle.font.specs.Keys.{key_of, key_in, InBytes, AllInBytes, before_key}
-use Rattle.font.specs.RecordsLaws.{byte_at}
+use Rattle.font.specs.Keys.{key_in, Bytes, InBytes, AllInBytes, before_key}
+use Rattle.std.specs.Prelude.{Option, Some, None}
+use Rattle.std.specs.Ordering.{partial_lt}
+use Rattle.std.specs.Option.{option_partial_cmp}
+use Rattle.font.proofs.KeyLaws.{number, key_less}
+use Rattle.font.specs.contracts.KeyPartialOrd.TheImpl.{partial_cmp-value}
+use Rattle.font.specs.declared.Key.{Key}
 use Rattle.font_records.specs.Rules.{sound_characters}
 
 -- ---- CH records, in one pass
@@ -23,6 +27,24 @@ use Rattle.font_records.specs.Rules.{sound_characters}
 unfoldable pub sound_from : ℕ → List (List ℕ) → Bool
 sound_from least [] = true
 sound_from least (r ∷ l) = (good_character r && leb least (key_in r)) && sound_from (key_in r + 1) l
+
+-- the least key behind the last one
+abbrev pub least_after : Option Key → ℕ
+least_after None = 0
+least_after (Some k) = number k + 1
+
+-- its family and code are bytes
+abbrev pub LastInBytes : Option Key → Type 0
+LastInBytes None = Unit {0}
+LastInBytes (Some k) = Bytes k.family k.code
+
+-- the last key is less than the next where that is at least the least one behind it
+pub last_less : (last : Option Key) (k : Key) → LastInBytes last → Bytes k.family k.code →
+    partial_lt (option_partial_cmp partial_cmp-value.it) last (Some k) ≡ leb (least_after last) (number k)
+last_less None k b d = sym (le-leb 0 (number k) (omega arith))
+last_less (Some j) k b d =
+    let next : number j + 1 ≡ suc (number j) = omega arith in
+    key_less j k b d ∙ ap (λ (n : ℕ). leb n (number k)) (sym next)
 
 -- good record, order, rules for each after it, order after it
 regroup : (g b e r : Bool) → ((g && b) && (e && r)) ≡ ((g && e) && (b && r))
@@ -67,8 +89,3 @@ pub good_character_lem : (r : List ℕ) →
     && every good_word (metric_words r))
 unfolding good_character
 good_character_lem r = in_turn_lem (marked 67 72 r) (leb (size_byte r) greatest_size) (leb (family_byte r) greatest_family) (leb (flag_byte r) 1) _ _
-
--- ---- a key, read where it stands
-
-pub key_at : (s : List ℕ) (at : ℕ) → key_of (get_or s (at + 2) 0) (get_or s (at + 3) 0) (get_or s (at + 4) 0) ≡ key_in (take character_bytes (drop at s))
-key_at s at = rw (byte_at s at 2 (omega arith), byte_at s at 3 (omega arith), byte_at s at 4 (omega arith))

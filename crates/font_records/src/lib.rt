@@ -3,11 +3,11 @@
 #![tactic(auto)]
 
 ghost use Rattle.std.specs.Prelude.{◌≡◌, ◌&&◌, ◌||◌, ◌+◌, ◌*◌, ◌<◌, ◌≤◌, leb, eqb, length, take, drop};
-ghost use Rattle.font.specs.Records.{word_bytes, mark_bytes, parameter_bytes, header_bytes, character_bytes, parameter_records, pieces, words, marked, every, good_word, good_parameters, good_character};
+ghost use Rattle.font.specs.Records.{word_bytes, mark_bytes, parameter_bytes, header_bytes, character_bytes, parameter_records, client_records, words, marked, every, good_word, good_parameters, good_character};
 ghost use Rattle.font_records.specs.Rules.{sound_characters};
 ghost use Rattle.font.specs.Keys.{key_of, key_in, key_range, Bytes};
 
-use font::format;
+use font::{Key, format};
 
 // The greatest word of a record.
 const GREATEST_WORD: u32 = 8_388_607;
@@ -18,12 +18,8 @@ pub fn are_parameters(table: &[u8]) -> bool
     ensures { result ≡ every good_parameters (parameter_records table.now) }
 {
     let mut good = true;
-    let mut size = 0;
-    while size < format::SIZE_COUNT {
-        let at = format::PARAMETER_BYTES * size;
-        let end = at + format::PARAMETER_BYTES;
-        good = good & is_parameters(&table[at..end]);
-        size += 1;
+    for r in table[..format::HEADER_BYTES].chunks_exact(format::PARAMETER_BYTES) {
+        good = good & is_parameters(r);
     }
     good
 }
@@ -36,21 +32,16 @@ fn is_parameters(r: &[u8]) -> bool
     is_marked(r, b'P', b'A') & are_small(r, format::FIRST_PARAMETER, format::PARAMETER_COUNT)
 }
 
-// n CH records, good and rising strictly; `least` is the least key that the next one may have.
-pub fn are_characters(s: &[u8], n: usize) -> bool
-    requires { length s.now ≡ character_bytes * n }
-    ensures { result ≡ sound_characters (pieces character_bytes n s.now) }
+// CH records, good and rising strictly.
+pub fn are_characters(s: &[u8]) -> bool
+    ensures { result ≡ sound_characters (client_records s.now) }
 {
     let mut good = true;
-    let mut least: u32 = 0;
-    let mut i = 0;
-    while i < n {
-        let at = format::CHARACTER_BYTES * i;
-        let end = at + format::CHARACTER_BYTES;
-        let key = key_at(s, at);
-        good = good & (is_character(&s[at..end]) & (least <= key));
-        least = key + 1;
-        i += 1;
+    let mut last = None;
+    for r in s.chunks_exact(format::CHARACTER_BYTES) {
+        let key = Some(Key::of(r));
+        good = good & (is_character(r) & (last < key));
+        last = key;
     }
     good
 }
@@ -80,11 +71,9 @@ fn are_small(s: &[u8], at: usize, n: usize) -> bool
     ensures { result ≡ every good_word (words n (drop at s.now)) }
 {
     let mut small = true;
-    let mut k = 0;
-    while k < n {
+    for k in 0..n {
         let w = words::word(s, at + format::WORD_BYTES * k);
         small = small & (w <= GREATEST_WORD);
-        k += 1;
     }
     small
 }
@@ -95,23 +84,4 @@ fn is_marked(r: &[u8], a: u8, b: u8) -> bool
     ensures { result ≡ marked a b r.now }
 {
     (r[0] == a) & (r[1] == b)
-}
-
-// A symbol's size, family and code as one number.
-pub fn key_of(size: u8, family: u8, code: u8) -> u32
-    ensures { (result ≡ key_of size family code) × Bytes family code × (result < key_range) }
-{
-    ((size as u32) * 256 + family as u32) * 256 + code as u32
-}
-
-// The key of the record that starts at a place.
-pub fn key_at(s: &[u8], at: usize) -> u32
-    requires { at + character_bytes ≤ length s.now }
-    ensures { (result ≡ key_in (take character_bytes (drop at s.now))) × (result < key_range) }
-{
-    key_of(
-        s[at + format::SIZE],
-        s[at + format::FAMILY],
-        s[at + format::CODE],
-    )
 }

@@ -3,10 +3,11 @@
 --     twelve_enough     twelve steps are enough for the most records that there may be
 --     halved_whole      the range at first
 --     has_step, halved_right, halved_left     a range that is not empty has a step left, and after it is that to either side of its middle
+--     handed_back       what is found at a number, as a lookup hands it back
 --     numbered_there    what is found at a number
 --     halved_nowhere    with an empty range nothing is found
 -- Assumes nothing.
-use mathlib.Core.Path.{◌≡◌, ap, ◌∙◌}
+use mathlib.Core.Path.{◌≡◌, sym, ap, ◌∙◌}
 use mathlib.Core.List.{List, []}
 use Prim.Native.Nat.{ℕ, zero, suc, ◌+◌, ◌-◌, ◌*◌, ◌/◌, ◌^◌, ◌<◌, ◌≤◌}
 use native.Mathlib.Omega.{arith}
@@ -16,6 +17,10 @@ use Rattle.font.specs.Records.{character_bytes, most_characters, client_records}
 use Rattle.font.specs.Table.{SoundRecords}
 use Rattle.font.specs.Keys.{key_of, key_in, Bytes}
 use Rattle.font.specs.RecordsLaws.{count, numbered, recorded, record_at, all_in_bytes, counted}
+use Rattle.font.specs.declared.Key.{Key}
+use Rattle.font.specs.Font.{record_in, place_in, past}
+use Rattle.font.proofs.LookupLaws.{found_part}
+use Rattle.font.proofs.KeyLaws.{number}
 use Rattle.font.specs.Finding.{FoundAt, found_there}
 use Rattle.font_search.proofs.Halving.{Narrowed, narrowed_whole, narrowed_right, narrowed_left, found_nowhere}
 
@@ -101,3 +106,14 @@ module _ (s : List ℕ) (sound : SoundRecords s) (byte : bytes.Bytes s) where
     halved_nowhere from to steps done h =
         let found = found_nowhere (client_records s) (all_in_bytes s byte) size family code b from to done h.narrowed in
         record { bytes = found.bytes; place = omega (arith, found.place, recorded s, counted s sound) }
+
+  -- handed back as a part of the records
+  module _ (k : Key) (b : Bytes k.family k.code) where
+    pub handed_back : (m : ℕ) → m < count s → {r : List ℕ} (p : ℕ × ℕ) {q : ℕ × ℕ} → r ≡ numbered s m → q ≡ past (character_bytes * m) p →
+        key_in r ≡ number k →
+        (length r ≡ character_bytes)
+        × (r ≡ record_in k.size k.family k.code (client_records s))
+        × (q ≡ past (place_in k.size k.family k.code (client_records s)) p)
+    handed_back m inside p is at same =
+        let found = numbered_there k.size k.family k.code b m inside (ap key_in (sym is) ∙ same) in
+        found_part s sound k.size k.family k.code m inside found p is at

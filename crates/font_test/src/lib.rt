@@ -5,7 +5,7 @@
 ghost use Rattle.std.specs.Prelude.{◌≡◌, true};
 ghost use Rattle.font.specs.Table.{good_table, good_client};
 
-use font::format;
+use font::{Tables, count, format, our_records};
 
 // The most CH records of a table, and of a client's.
 const MOST_CHARACTERS: usize = 2_048;
@@ -19,8 +19,9 @@ pub fn is_good(table: &[u8]) -> bool
     if table.len() < format::HEADER_BYTES {
         return false;
     }
-    let n = (table.len() - format::HEADER_BYTES) / format::CHARACTER_BYTES;
-    if table.len() != format::HEADER_BYTES + format::CHARACTER_BYTES * n {
+    let records = our_records(table);
+    let n = count(records);
+    if records.len() != format::CHARACTER_BYTES * n {
         return false;
     }
     if MOST_CHARACTERS < n {
@@ -29,10 +30,14 @@ pub fn is_good(table: &[u8]) -> bool
     if !font_records::are_parameters(table) {
         return false;
     }
-    if !font_records::are_characters(&table[format::HEADER_BYTES..], n) {
+    if !font_records::are_characters(records) {
         return false;
     }
-    font_chains::all_end(table, &table[..0], &table[format::HEADER_BYTES..])
+    let tables = Tables {
+        ours: table,
+        client: &[],
+    };
+    font_chains::all_end(tables, records)
 }
 
 // Whether a client's table breaks no rule, alone and with ours. An empty one changes nothing.
@@ -40,21 +45,22 @@ pub fn is_good_client<'a>(table: &'a [u8], client: &'a [u8]) -> bool
     requires { good_table table.now ≡ true }
     ensures { result ≡ good_client table.now client.now }
 {
-    if client.len() == 0 {
+    if client.is_empty() {
         return true;
     }
-    let n = client.len() / format::CHARACTER_BYTES;
+    let n = count(client);
     if client.len() != format::CHARACTER_BYTES * n {
         return false;
     }
     if MOST_CLIENT_CHARACTERS < n {
         return false;
     }
-    if !font_records::are_characters(client, n) {
+    if !font_records::are_characters(client) {
         return false;
     }
-    if !font_chains::all_end(table, client, client) {
-        return false;
-    }
-    font_chains::all_end(table, client, &table[format::HEADER_BYTES..])
+    let tables = Tables {
+        ours: table,
+        client,
+    };
+    font_chains::all_end(tables, client) && font_chains::all_end(tables, our_records(table))
 }

@@ -9,7 +9,7 @@
 --     second_field_lem, third_field_lem, lists_stand     fields and lists stand where their trees say
 --     formula_good, formula_fault     what the verdict of a formula says of its reading
 -- Assumes nothing.
-use Rattle.std.specs.Prelude.{◌≡◌, Bool, true, false, List, ℕ, zero, suc, ◌+◌, ◌-◌, ◌≤◌, ◌<◌, ltb, length, drop}
+use Rattle.std.specs.Prelude.{◌≡◌, Bool, true, false, List, ℕ, zero, suc, ◌+◌, ◌-◌, ◌≤◌, ◌<◌, ltb, length, drop, Ok, Err}
 use Rattle.std.proofs.Math.Path.{refl, ap}
 use Rattle.std.proofs.Common.{sym, subst, ap₂, ◌∙◌, ltb-false}
 use native.Mathlib.Omega.{arith}
@@ -21,9 +21,8 @@ use Rattle.formula.specs.declared.Opening.{Opening}
 use Rattle.formula.specs.declared.Opening.TheVariants.{NoItem, Fields, Kern, Restyle, Choice}
 use Rattle.formula.specs.declared.FieldHead.{FieldHead}
 use Rattle.formula.specs.declared.FieldHead.TheVariants.{NoField, Empty, Symbol, Sublist, CutSublist}
-use Rattle.formula.specs.declared.Fault.{Fault}
 use Rattle.formula.specs.declared.Fault.TheVariants.{Unreadable}
-use Rattle.formula.specs.declared.Verdict.TheVariants.{Good, Faulty}
+use Rattle.formula.specs.declared.FaultAt.{FaultAt}
 use Rattle.formula.specs.Format.{long_format, formula_limit, depth_limit}
 use Rattle.formula.specs.Tree.{Items, Item, Field, nil, cons, list, opening_bytes, holds_list, short_opening_bytes, sublist_bytes, items_bytes, item_bytes, field_bytes}
 use Rattle.formula.specs.Heads.{opening_of, field_head}
@@ -340,7 +339,7 @@ lists_stand s chosen =
 
 -- ---- a formula
 
-told_good : (x : Read) → told x ≡ Good → (l : Items) × (x ≡ good l)
+told_good : (x : Read) → told x ≡ Ok tt → (l : Items) × (x ≡ good l)
 unfolding told
 told_good (good l) e = (l, refl)
 told_good (fault why place) e = let z : ◌≡◌ {A = ℕ} 0 1 = cc in absurd (omega arith)
@@ -351,14 +350,14 @@ pub record FormulaIs (s : List ℕ) : Type 0 where
   pub readable : Readable s
   pub is : read_formula s ≡ good (tree_of s)
 
-pub formula_good : (s : List ℕ) → told (read_formula s) ≡ Good → FormulaIs s
+pub formula_good : (s : List ℕ) → told (read_formula s) ≡ Ok tt → FormulaIs s
 unfolding read_formula_under told
 formula_good s e = go (ltb formula_limit (length s)) refl e
   where
     by : Bool → Read
     by t = elim t [ true ↦ fault Unreadable 0 | false ↦ read (depth_limit - 1) s ]
 
-    go : (t : Bool) → ltb formula_limit (length s) ≡ t → told (by t) ≡ Good → FormulaIs s
+    go : (t : Bool) → ltb formula_limit (length s) ≡ t → told (by t) ≡ Ok tt → FormulaIs s
     go true q e = let z : ◌≡◌ {A = ℕ} 0 1 = cc in absurd (omega arith)
     go false q e =
         let l = told_good (read (depth_limit - 1) s) e in
@@ -368,11 +367,10 @@ formula_good s e = go (ltb formula_limit (length s)) refl e
           is = ap by q ∙ l.1 ∙ ap good (sym (tree_is s (depth_limit - 1) l.0 l.1));
         }
 
-pub formula_fault : (s : List ℕ) (why : Fault) (place : ℕ) → told (read_formula s) ≡ Faulty why place →
-    read_formula s ≡ fault why place
+pub formula_fault : (s : List ℕ) (e : FaultAt) → told (read_formula s) ≡ Err e → read_formula s ≡ fault e.fault e.place
 unfolding told
-formula_fault s why place e = go (read_formula s) e
+formula_fault s e is = go (read_formula s) is
   where
-    go : (x : Read) → told x ≡ Faulty why place → x ≡ fault why place
-    go (good l) e = let z : ◌≡◌ {A = ℕ} 0 1 = cc in absurd (omega arith)
-    go (fault n p) e = cc
+    go : (x : Read) → told x ≡ Err e → x ≡ fault e.fault e.place
+    go (good l) is = let z : ◌≡◌ {A = ℕ} 0 1 = cc in absurd (omega arith)
+    go (fault n p) is = ap (λ (f : FaultAt). fault f.fault f.place) (let own : record { fault = n; place = p } ≡ e = cc in own)

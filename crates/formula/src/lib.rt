@@ -12,7 +12,7 @@ pub const FORMULA_LIMIT: usize = 131_072;
 // The greatest depth of a list; the formula itself is at depth 1.
 pub const DEPTH_LIMIT: usize = 32;
 
-// The letters with which items open; those of an atom and of a fraction by name too.
+// The letters with which an atom and a fraction open.
 pub const ATOM_FIRST: u8 = b'A';
 
 pub const ATOM_SECOND: u8 = b'T';
@@ -20,18 +20,6 @@ pub const ATOM_SECOND: u8 = b'T';
 pub const FRACTION_FIRST: u8 = b'F';
 
 pub const FRACTION_SECOND: u8 = b'R';
-
-pub const LETTERS: [[u8; 2]; 9] = [
-    [ATOM_FIRST, ATOM_SECOND],
-    [b'O', b'V'],
-    [b'U', b'N'],
-    [FRACTION_FIRST, FRACTION_SECOND],
-    [b'K', b'N'],
-    [b'S', b'T'],
-    [b'C', b'4'],
-    [b'R', b'D'],
-    [b'F', b'E'],
-];
 
 // A kern's mark and its four bytes.
 pub const KERN_BYTES: usize = 6;
@@ -44,7 +32,7 @@ pub const CHOICE_OPENING_BYTES: usize = 2;
 
 pub const CHOICE_LISTS: usize = 4;
 
-// Numbers of classes, of limits and of bars.
+// Numbers of classes, of limits and of bars as bytes of the format, for those who write a formula.
 pub const ORD: u8 = 0;
 
 pub const OP: u8 = 1;
@@ -55,12 +43,8 @@ pub const ALWAYS: u8 = 1;
 
 pub const DEFAULT_BAR: u8 = 0;
 
-pub const WITHOUT_BAR: u8 = 1;
-
-// The greatest numbers: of a class, of limits, of a kern either way, of a style, of a family.
+// The greatest numbers: of a class, of a kern either way, of a style, of a family.
 pub const GREATEST_CLASS: u8 = 7;
-
-pub const GREATEST_LIMITS: u8 = 2;
 
 pub const GREATEST_KERN: i64 = 8_388_607;
 
@@ -83,8 +67,12 @@ pub const GREATEST_SHORT: usize = 65_535;
 // How many bytes a list has before its items: its kind and two bytes of length.
 pub const SHORT_OPENING_BYTES: usize = 3;
 
+// A number that no class has, or no limits or no bar.
+#[derive(Clone, Copy, PartialEq, Eq)]
+pub struct UnknownNumber(pub u8);
+
 // The class of an atom, by which it is spaced.
-#[derive(Clone, Copy)]
+#[derive(Clone, Copy, PartialEq, Eq)]
 pub enum Class {
     Ord,
     Op,
@@ -96,37 +84,109 @@ pub enum Class {
     Inner,
 }
 
+impl From<Class> for u8 {
+    ghost use Rattle.std.specs.Prelude.{◌≡◌};
+    ghost use Rattle.formula.specs.Heads.{class_number};
+
+    ghost from_gives = { λ class n. n ≡ class_number class };
+
+    fn from(class: Class) -> u8 {
+        class as u8
+    }
+}
+
+impl TryFrom<u8> for Class {
+    ghost use Rattle.std.specs.Prelude.{◌≡◌};
+    ghost use Rattle.formula.specs.Heads.{classes};
+    ghost use Rattle.formula.specs.Values.{numbered};
+
+    type Error = UnknownNumber;
+
+    ghost try_from_gives = { λ n r. r ≡ numbered classes n };
+
+    fn try_from(n: u8) -> Result<Class, UnknownNumber> {
+        match n {
+            0 => Ok(Class::Ord),
+            1 => Ok(Class::Op),
+            2 => Ok(Class::Bin),
+            3 => Ok(Class::Rel),
+            4 => Ok(Class::Open),
+            5 => Ok(Class::Close),
+            6 => Ok(Class::Punct),
+            7 => Ok(Class::Inner),
+            _ => Err(UnknownNumber(n)),
+        }
+    }
+}
+
 // Where the scripts of a large operator stand as limits.
-#[derive(Clone, Copy)]
+#[derive(Clone, Copy, PartialEq, Eq)]
 pub enum Limits {
     DisplayOnly,
     Always,
     Never,
 }
 
+impl TryFrom<u8> for Limits {
+    ghost use Rattle.std.specs.Prelude.{◌≡◌};
+    ghost use Rattle.formula.specs.Heads.{limit_kinds};
+    ghost use Rattle.formula.specs.Values.{numbered};
+
+    type Error = UnknownNumber;
+
+    ghost try_from_gives = { λ n r. r ≡ numbered limit_kinds n };
+
+    fn try_from(n: u8) -> Result<Limits, UnknownNumber> {
+        match n {
+            0 => Ok(Limits::DisplayOnly),
+            1 => Ok(Limits::Always),
+            2 => Ok(Limits::Never),
+            _ => Err(UnknownNumber(n)),
+        }
+    }
+}
+
 // The bar of a fraction: of the default thickness, or none.
-#[derive(Clone, Copy)]
+#[derive(Clone, Copy, PartialEq, Eq)]
 pub enum Bar {
     Default,
     Without,
 }
 
+impl TryFrom<u8> for Bar {
+    ghost use Rattle.std.specs.Prelude.{◌≡◌};
+    ghost use Rattle.formula.specs.Heads.{bars};
+    ghost use Rattle.formula.specs.Values.{numbered};
+
+    type Error = UnknownNumber;
+
+    ghost try_from_gives = { λ n r. r ≡ numbered bars n };
+
+    fn try_from(n: u8) -> Result<Bar, UnknownNumber> {
+        match n {
+            0 => Ok(Bar::Default),
+            1 => Ok(Bar::Without),
+            _ => Err(UnknownNumber(n)),
+        }
+    }
+}
+
 // The family and the code of a symbol of a delimiter; zero and zero where there is none.
-#[derive(Clone, Copy)]
+#[derive(Clone, Copy, PartialEq, Eq)]
 pub struct Pair {
     pub family: u8,
     pub code: u8,
 }
 
 // A variable delimiter: where its small symbol does not suffice, its large one is tried.
-#[derive(Clone, Copy)]
+#[derive(Clone, Copy, PartialEq, Eq)]
 pub struct Delimiter {
     pub small: Pair,
     pub large: Pair,
 }
 
 // What the scripts of an item are set to. A root has its sign, a fence its left delimiter and its right one.
-#[derive(Clone, Copy)]
+#[derive(Clone, Copy, PartialEq, Eq)]
 pub enum Base {
     Atom(Class, Limits),
     Over,
@@ -136,14 +196,14 @@ pub enum Base {
 }
 
 // What an item with fields is: a base with scripts, or a fraction.
-#[derive(Clone, Copy)]
+#[derive(Clone, Copy, PartialEq, Eq)]
 pub enum Kind {
     Scripted(Base),
     Fraction(Bar),
 }
 
-// The two letters with which an item opens.
-#[derive(Clone, Copy)]
+// The two letters with which an item opens. Two that open nothing are a variant, as in the definition `opens`.
+#[derive(Clone, Copy, PartialEq, Eq)]
 pub enum Mark {
     AT,
     OV,
@@ -157,8 +217,9 @@ pub enum Mark {
     Unknown,
 }
 
-// What an item says before its fields. A choice has four fields, each a list.
-#[derive(Clone, Copy)]
+// What an item says before its fields. A choice has four fields, each a list. That there is no item is a variant, as in the
+// definition `opening_of`, and one match has all cases.
+#[derive(Clone, Copy, PartialEq, Eq)]
 pub enum Opening {
     NoItem,
     Fields(Kind),
@@ -168,8 +229,9 @@ pub enum Opening {
 }
 
 // What a field says at its kind byte. A list has the number of bytes before its items and that of its items, or its
-// length is cut off, passes the end, or is too short for its kind.
-#[derive(Clone, Copy)]
+// length is cut off, passes the end, or is too short for its kind. That there is no field is a variant, as in the definition
+// `field_head`.
+#[derive(Clone, Copy, PartialEq, Eq)]
 pub enum FieldHead {
     NoField,
     Empty,
@@ -179,15 +241,15 @@ pub enum FieldHead {
 }
 
 // What keeps a formula from being read: an item that can't be read, or a list too deep.
-#[derive(Clone, Copy)]
+#[derive(Clone, Copy, PartialEq, Eq)]
 pub enum Fault {
     Unreadable,
     TooDeep,
 }
 
-// What reading a list comes to: a fault has its place.
-#[derive(Clone, Copy)]
-pub enum Verdict {
-    Good,
-    Faulty(Fault, usize),
+// A fault and its place.
+#[derive(Clone, Copy, PartialEq, Eq)]
+pub struct FaultAt {
+    pub fault: Fault,
+    pub place: usize,
 }

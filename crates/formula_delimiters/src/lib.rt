@@ -11,6 +11,7 @@ use formula::{Base, Delimiter, GREATEST_FAMILY, Kind, Opening, Pair};
 pub fn root_opening(s: &[u8]) -> Opening
     ensures { result ≡ root_opening s.now }
 {
+    // A test of the length, since a delimiter is read at a place.
     if s.len() < 4 {
         return Opening::NoItem;
     }
@@ -42,6 +43,7 @@ fn delimiter_at(s: &[u8], at: usize) -> Delimiter
     Delimiter { small, large }
 }
 
+#[tactic(auto, unfolding(formula::specs::Heads::root_of))]
 fn root(sign: Delimiter) -> Opening
     ensures { result ≡ root_of sign }
 {
@@ -52,10 +54,11 @@ fn root(sign: Delimiter) -> Opening
     }
 }
 
+#[tactic(auto, unfolding(formula::specs::Heads::fence_of))]
 fn fence(left: Delimiter, right: Delimiter) -> Opening
     ensures { result ≡ fence_of left right }
 {
-    if is_good_delimiter(left) & is_good_delimiter(right) {
+    if is_good_delimiter(left) && is_good_delimiter(right) {
         Opening::Fields(Kind::Scripted(Base::Fence(left, right)))
     } else {
         Opening::NoItem

@@ -18,39 +18,34 @@ use formula_kinds::{has_third, opening_bytes};
 pub fn field_head(s: &[u8]) -> FieldHead
     ensures { result ≡ field_head s.now }
 {
-    if s.len() == 0 {
+    let [kind, rest @ ..] = s else {
         return FieldHead::NoField;
+    };
+    match *kind {
+        EMPTY_KIND => FieldHead::Empty,
+        SYMBOL_KIND => symbol_head(rest),
+        other => list_head(other, rest),
     }
-    let kind = s[0];
-    let rest = &s[1..];
-    if kind == EMPTY_KIND {
-        return FieldHead::Empty;
-    }
-    if kind == SYMBOL_KIND {
-        return symbol_head(rest);
-    }
-    list_head(kind, rest)
 }
 
 // Whether the field whose kind byte is the first of s says that it is empty.
 pub fn is_empty(s: &[u8]) -> bool
     ensures { result ≡ is_empty (field_head s.now) }
 {
-    if s.len() == 0 {
-        return false;
+    match s {
+        [kind, ..] => *kind == EMPTY_KIND,
+        [] => false,
     }
-    s[0] == EMPTY_KIND
 }
 
 // Whether the field whose kind byte is the first of s says that it is a list.
 pub fn is_list(s: &[u8]) -> bool
     ensures { result ≡ is_list (field_head s.now) }
 {
-    if s.len() == 0 {
-        return false;
+    match s {
+        [kind, ..] => *kind == LIST_KIND || *kind == LONG_LIST_KIND,
+        [] => false,
     }
-    let kind = s[0];
-    (kind == LIST_KIND) | (kind == LONG_LIST_KIND)
 }
 
 // How many bytes a field has, by its head.
@@ -83,9 +78,10 @@ pub fn fields_end(s: &[u8], kind: Kind) -> usize
     let second = field_end(s, opening_bytes(kind));
     let third = field_end(s, second);
     if has_third(kind) {
-        return field_end(s, third);
+        field_end(s, third)
+    } else {
+        third
     }
-    third
 }
 
 // Where the list of a choice stands that has n before it; with all four before it, where the choice ends.
@@ -94,10 +90,8 @@ pub fn list_place(s: &[u8], n: usize) -> usize
     ensures { result ≡ list_place s.now n }
 {
     let mut at = CHOICE_OPENING_BYTES;
-    let mut passed: usize = 0;
-    while passed < n {
+    for _ in 0..n {
         at = field_end(s, at);
-        passed += 1;
     }
     at
 }
@@ -105,14 +99,14 @@ pub fn list_place(s: &[u8], n: usize) -> usize
 fn symbol_head(s: &[u8]) -> FieldHead
     ensures { result ≡ symbol_head s.now }
 {
-    if s.len() < 2 {
+    let [family, code, ..] = s else {
         return FieldHead::NoField;
+    };
+    if *family > GREATEST_FAMILY {
+        FieldHead::NoField
+    } else {
+        FieldHead::Symbol(*family, *code)
     }
-    let family = s[0];
-    if family > GREATEST_FAMILY {
-        return FieldHead::NoField;
-    }
-    FieldHead::Symbol(family, s[1])
 }
 
 // What a field says that is neither empty nor a symbol; s stands behind its kind byte.
@@ -127,13 +121,15 @@ fn list_head(kind: u8, s: &[u8]) -> FieldHead
     if s.len() < bytes {
         return FieldHead::CutSublist;
     }
-    let mut n = short(s[0], s[1]);
-    if kind == LONG_LIST_KIND {
-        n = words::word(s, 0) as usize;
+    let n = if kind == LONG_LIST_KIND {
+        let n = words::word(s, 0) as usize;
         if n <= GREATEST_SHORT {
             return FieldHead::CutSublist;
         }
-    }
+        n
+    } else {
+        short(s[0], s[1])
+    };
     if n > s.len() - bytes {
         return FieldHead::CutSublist;
     }
@@ -150,5 +146,5 @@ fn length_bytes(kind: u8) -> usize
 fn short(a: u8, b: u8) -> usize
     ensures { (result ≡ a + 256 * b) × (result ≤ greatest_short) }
 {
-    (a as usize) + (b as usize) * 256
+    u16::from_le_bytes([a, b]) as usize
 }

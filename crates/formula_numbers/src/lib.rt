@@ -5,7 +5,7 @@
 ghost use Rattle.std.specs.Prelude.{◌≡◌};
 ghost use Rattle.formula.specs.Heads.{fraction_opening, kern_within, kern_opening, style_opening};
 
-use formula::{Bar, DEFAULT_BAR, GREATEST_KERN, GREATEST_STYLE, Kind, Opening, WITHOUT_BAR};
+use formula::{Bar, GREATEST_KERN, GREATEST_STYLE, Kind, Opening};
 use scaled::Sp;
 
 const LEAST_KERN: i64 = -GREATEST_KERN;
@@ -13,49 +13,45 @@ const LEAST_KERN: i64 = -GREATEST_KERN;
 pub fn fraction_opening(s: &[u8]) -> Opening
     ensures { result ≡ fraction_opening s.now }
 {
-    if s.len() == 0 {
+    let [bar, ..] = s else {
         return Opening::NoItem;
+    };
+    match Bar::try_from(*bar) {
+        Ok(bar) => Opening::Fields(Kind::Fraction(bar)),
+        Err(_) => Opening::NoItem,
     }
-    let bar = s[0];
-    if bar == DEFAULT_BAR {
-        return Opening::Fields(Kind::Fraction(Bar::Default));
-    }
-    if bar == WITHOUT_BAR {
-        return Opening::Fields(Kind::Fraction(Bar::Without));
-    }
-    Opening::NoItem
 }
 
 pub fn kern_opening(s: &[u8]) -> Opening
     ensures { result ≡ kern_opening s.now }
 {
+    // A test of the length, since `word` reads at a place.
     if s.len() < 4 {
-        return Opening::NoItem;
+        Opening::NoItem
+    } else {
+        kern(words::signed(words::word(s, 0)))
     }
-    kern(words::signed(words::word(s, 0)))
 }
 
 fn kern(n: Sp) -> Opening
     ensures { result ≡ kern_within n.0 }
 {
-    if n.less(Sp(LEAST_KERN)) {
-        return Opening::NoItem;
+    if n.less(Sp(LEAST_KERN)) || Sp(GREATEST_KERN).less(n) {
+        Opening::NoItem
+    } else {
+        Opening::Kern(n)
     }
-    if Sp(GREATEST_KERN).less(n) {
-        return Opening::NoItem;
-    }
-    Opening::Kern(n)
 }
 
 pub fn style_opening(s: &[u8]) -> Opening
     ensures { result ≡ style_opening s.now }
 {
-    if s.len() == 0 {
+    let [style, ..] = s else {
         return Opening::NoItem;
+    };
+    if *style > GREATEST_STYLE {
+        Opening::NoItem
+    } else {
+        Opening::Restyle(*style)
     }
-    let style = s[0];
-    if style > GREATEST_STYLE {
-        return Opening::NoItem;
-    }
-    Opening::Restyle(style)
 }

@@ -2,39 +2,27 @@
 
 #![tactic(auto)]
 
-ghost use Rattle.std.specs.Prelude.{◌≡◌, ◌&&◌, eqb};
+ghost use Rattle.std.specs.Prelude.{◌≡◌};
 ghost use Rattle.formula.specs.Marks.{mark_of};
 ghost use Rattle.formula.specs.Heads.{opens, opening_of};
 
-use formula::{Base, Kind, LETTERS, Mark, Opening};
+use formula::{Base, Kind, Mark, Opening};
 use formula_atoms::atom_opening;
 use formula_delimiters::{fence_opening, root_opening};
 use formula_numbers::{fraction_opening, kern_opening, style_opening};
-
-// The marks, in the order of their letters.
-const MARKS: [Mark; 9] = [
-    Mark::AT,
-    Mark::OV,
-    Mark::UN,
-    Mark::FR,
-    Mark::KN,
-    Mark::ST,
-    Mark::C4,
-    Mark::RD,
-    Mark::FE,
-];
 
 // What opens with the first byte of s.
 pub fn opening(s: &[u8]) -> Opening
     ensures { result ≡ opening_of s.now }
 {
-    if s.len() < 2 {
+    let [a, b, rest @ ..] = s else {
         return Opening::NoItem;
-    }
-    opened(mark(s[0], s[1]), &s[2..])
+    };
+    opened(mark(*a, *b), rest)
 }
 
 // What opens behind a mark.
+#[tactic(auto, unfolding(formula::specs::Heads::opens))]
 fn opened(mark: Mark, s: &[u8]) -> Opening
     ensures { result ≡ opens mark s.now }
 {
@@ -52,22 +40,20 @@ fn opened(mark: Mark, s: &[u8]) -> Opening
     }
 }
 
-fn both(a: u8, b: u8, x: u8, y: u8) -> bool
-    ensures { result ≡ (eqb a x && eqb b y) }
-{
-    if a == x { b == y } else { false }
-}
-
+#[tactic(auto, unfolding(formula::specs::Marks::mark_of, formula::specs::Marks::mark_in))]
 fn mark(a: u8, b: u8) -> Mark
     ensures { result ≡ mark_of a b }
 {
-    let mut i: usize = 0;
-    while i < MARKS.len() {
-        let found = MARKS[i];
-        if both(a, b, LETTERS[i][0], LETTERS[i][1]) {
-            return found;
-        }
-        i += 1;
+    match (a, b) {
+        (b'A', b'T') => Mark::AT,
+        (b'O', b'V') => Mark::OV,
+        (b'U', b'N') => Mark::UN,
+        (b'F', b'R') => Mark::FR,
+        (b'K', b'N') => Mark::KN,
+        (b'S', b'T') => Mark::ST,
+        (b'C', b'4') => Mark::C4,
+        (b'R', b'D') => Mark::RD,
+        (b'F', b'E') => Mark::FE,
+        _ => Mark::Unknown,
     }
-    Mark::Unknown
 }

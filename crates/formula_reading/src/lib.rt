@@ -11,144 +11,137 @@ ghost use Rattle.formula.specs.Values.{told};
 ghost use Rattle.formula_reading.specs.Values.{part_read_of};
 
 use formula::{
-    CHOICE_LISTS, CHOICE_OPENING_BYTES, DEPTH_LIMIT, FORMULA_LIMIT, Fault, FieldHead, KERN_BYTES,
-    Kind, Opening, RESTYLE_BYTES, Verdict,
+    CHOICE_LISTS, CHOICE_OPENING_BYTES, DEPTH_LIMIT, FORMULA_LIMIT, Fault, FaultAt, FieldHead,
+    KERN_BYTES, Kind, Opening, RESTYLE_BYTES,
 };
 use formula_fields::{field_head, is_list};
 use formula_kinds::{has_third, holds_list, opening_bytes};
 use formula_openings::opening;
 
-// What reading an item or a field comes to: the place behind it, or a fault.
-#[derive(Clone, Copy)]
-pub enum PartRead {
-    Next(usize),
-    Stop(Fault, usize),
-}
+// An item that can't be read is a fault at its own first byte.
+const UNREADABLE: FaultAt = FaultAt {
+    fault: Fault::Unreadable,
+    place: 0,
+};
 
 // The formula itself is the first level.
-pub fn read_formula(s: &[u8]) -> Verdict
+pub fn read_formula(s: &[u8]) -> Result<(), FaultAt>
     ensures { result ≡ told (read_formula s.now) }
 {
     if s.len() > FORMULA_LIMIT {
-        return Verdict::Faulty(Fault::Unreadable, 0);
+        return Err(UNREADABLE);
     }
     read_list(s, DEPTH_LIMIT - 1)
 }
 
 // Reads a list whole; `levels` is how many levels may still be entered below it.
-#[cycle(read_choice_read_field_read_held_read_item_read_list_read_noad)]
-pub fn read_list(s: &[u8], levels: usize) -> Verdict
+#[cycle(reading)]
+pub fn read_list(s: &[u8], levels: usize) -> Result<(), FaultAt>
     ensures { result ≡ told (read levels s.now) }
 {
     let mut at: usize = 0;
+    // No count: only the reading of an item says where the next one stands.
     while at < s.len() {
-        let r = read_item(&s[at..], levels);
-        match r {
-            PartRead::Next(size) => {
-                at += size;
-            }
-            PartRead::Stop(fault, place) => {
-                return Verdict::Faulty(fault, at + place);
-            }
+        match read_item(&s[at..], levels) {
+            Ok(size) => at += size,
+            Err(e) => return Err(FaultAt {
+                fault: e.fault,
+                place: at + e.place,
+            }),
         }
     }
-    Verdict::Good
+    Ok(())
 }
 
-// Reads the item whose first byte is the first of s, which goes to the end of its list.
-#[cycle(read_choice_read_field_read_held_read_item_read_list_read_noad)]
-fn read_item(s: &[u8], levels: usize) -> PartRead
+// Reads the item whose first byte is the first of s, which goes to the end of its list; gives how many bytes it has.
+#[cycle(reading)]
+fn read_item(s: &[u8], levels: usize) -> Result<usize, FaultAt>
     ensures { result ≡ part_read_of (item_by long_format read levels s.now) }
 {
-    let o = opening(s);
-    match o {
-        Opening::NoItem => PartRead::Stop(Fault::Unreadable, 0),
+    match opening(s) {
+        Opening::NoItem => Err(UNREADABLE),
         Opening::Fields(kind) => read_noad(s, kind, levels),
-        Opening::Kern(_) => PartRead::Next(KERN_BYTES),
-        Opening::Restyle(_) => PartRead::Next(RESTYLE_BYTES),
+        Opening::Kern(_) => Ok(KERN_BYTES),
+        Opening::Restyle(_) => Ok(RESTYLE_BYTES),
         Opening::Choice => read_choice(s, levels),
     }
 }
 
 // Reads the fields of an item of a kind, in order.
-#[cycle(read_choice_read_field_read_held_read_item_read_list_read_noad)]
-fn read_noad(s: &[u8], kind: Kind, levels: usize) -> PartRead
+#[cycle(reading)]
+fn read_noad(s: &[u8], kind: Kind, levels: usize) -> Result<usize, FaultAt>
     requires { opening_of s.now ≡ Fields kind }
     ensures { result ≡ part_read_of (noad_at long_format read levels s.now kind) }
 {
-    let a = read_held(s, opening_bytes(kind), holds_list(kind), levels);
-    let PartRead::Next(second) = a else {
-        return a;
-    };
-    let b = read_field(s, second, levels);
-    let PartRead::Next(third) = b else {
-        return b;
-    };
+    let second = read_held(s, opening_bytes(kind), holds_list(kind), levels)?;
+    let third = read_field(s, second, levels)?;
     if has_third(kind) {
-        return read_field(s, third, levels);
+        read_field(s, third, levels)
+    } else {
+        Ok(third)
     }
-    PartRead::Next(third)
 }
 
 // Reads the lists of a choice, one behind the other.
-#[cycle(read_choice_read_field_read_held_read_item_read_list_read_noad)]
-fn read_choice(s: &[u8], levels: usize) -> PartRead
+#[cycle(reading)]
+fn read_choice(s: &[u8], levels: usize) -> Result<usize, FaultAt>
     requires { opening_of s.now ≡ Choice }
     ensures { result ≡ part_read_of (choice_at long_format read levels s.now) }
 {
     let mut at = CHOICE_OPENING_BYTES;
-    let mut left = CHOICE_LISTS;
-    while left > 0 {
-        let r = read_held(s, at, true, levels);
-        let PartRead::Next(end) = r else {
-            return r;
-        };
-        at = end;
-        left -= 1;
+    for _ in 0..CHOICE_LISTS {
+        at = read_held(s, at, true, levels)?;
     }
-    PartRead::Next(at)
+    Ok(at)
 }
 
 // Reads a field, which must be a list if `listed`; that it is one is judged before its depth.
-#[cycle(read_choice_read_field_read_held_read_item_read_list_read_noad)]
-fn read_held(s: &[u8], at: usize, listed: bool, levels: usize) -> PartRead
+#[cycle(reading)]
+fn read_held(s: &[u8], at: usize, listed: bool, levels: usize) -> Result<usize, FaultAt>
     requires { at ≤ length s.now }
     ensures { result ≡ part_read_of (field_at long_format read levels s.now at then_at held_in listed) }
 {
-    if listed & !is_list(&s[at..]) {
-        return PartRead::Stop(Fault::Unreadable, 0);
+    if listed && !is_list(&s[at..]) {
+        return Err(UNREADABLE);
     }
     read_field(s, at, levels)
 }
 
-// Reads the field whose kind byte stands at `at` of its item.
-#[cycle(read_choice_read_field_read_held_read_item_read_list_read_noad)]
-fn read_field(s: &[u8], at: usize, levels: usize) -> PartRead
+// Reads the field whose kind byte stands at `at` of its item; gives the place behind it.
+#[cycle(reading)]
+fn read_field(s: &[u8], at: usize, levels: usize) -> Result<usize, FaultAt>
     requires { at ≤ length s.now }
     ensures { result ≡ part_read_of (field_at long_format read levels s.now at) }
 {
-    let h = field_head(&s[at..]);
-    match h {
-        FieldHead::NoField => PartRead::Stop(Fault::Unreadable, 0),
-        FieldHead::Empty => PartRead::Next(at + 1),
-        FieldHead::Symbol(_, _) => PartRead::Next(at + 3),
+    match field_head(&s[at..]) {
+        FieldHead::NoField => Err(UNREADABLE),
+        FieldHead::Empty => Ok(at + 1),
+        FieldHead::Symbol(_, _) => Ok(at + 3),
         FieldHead::Sublist(opening, n) => {
             if levels == 0 {
-                return PartRead::Stop(Fault::TooDeep, at);
+                return Err(FaultAt {
+                    fault: Fault::TooDeep,
+                    place: at,
+                });
             }
             let start = at + opening;
             let end = start + n;
-            let v = read_list(&s[start..end], levels - 1);
-            match v {
-                Verdict::Good => PartRead::Next(end),
-                Verdict::Faulty(fault, place) => PartRead::Stop(fault, start + place),
+            match read_list(&s[start..end], levels - 1) {
+                Ok(()) => Ok(end),
+                Err(e) => Err(FaultAt {
+                    fault: e.fault,
+                    place: start + e.place,
+                }),
             }
         }
         FieldHead::CutSublist => {
             if levels == 0 {
-                return PartRead::Stop(Fault::TooDeep, at);
+                return Err(FaultAt {
+                    fault: Fault::TooDeep,
+                    place: at,
+                });
             }
-            PartRead::Stop(Fault::Unreadable, 0)
+            Err(UNREADABLE)
         }
     }
 }

@@ -4,28 +4,27 @@
 
 pub mod why;
 
-ghost use Rattle.std.specs.Prelude.{◌≡◌, ◌<◌};
+ghost use Rattle.std.specs.Prelude.{◌≡◌};
 ghost use Rattle.scaled.specs.Signed.{Within};
 ghost use Rattle.fractions.specs.Fractions.{bar_thickness, numerator_up, denominator_down, fraction_shifts, shifts_without_bar, least_from_bar, shifts_with_bar, final_shifts, across_of};
 ghost use Rattle.fractions.specs.Fractions as rule;
+ghost use Rattle.boxes.specs.Styles.{font_size};
 ghost use Rattle.boxes.specs.Values.{parameters_in, size_as, shifts_as, own_as, arranged_as};
 ghost use Rattle.boxes.specs.Bounds.{words, item_words, Moderate, ShiftsWithin, OwnWithin, Bounded};
 
-use boxes::parameters::{
-    AXIS_HEIGHT, DENOM1, DENOM2, NUM1, NUM2, NUM3, Parameters, RULE_THICKNESS, parameter,
-};
-use boxes::styles::{Style, font_size, is_display};
+use boxes::parameters::{Dimension, Parameters, parameter};
+use boxes::styles::{Style, is_display};
 use boxes::{Arranged, NULL_DELIMITER_WIDTH, Offset, Own, Shifts, Size, centred, origin};
 use formula::Bar;
 use fractions::{bar_of, cleared, enclosed, has_bar, least_clearance, rules_clear};
 use scaled::Sp;
 
+#[tactic(auto, unfolding(fractions::specs::Fractions::fraction))]
 pub fn fraction(p: &Parameters, style: Style, bar: Bar, x: Size, z: Size) -> Arranged
     requires { Moderate x × Moderate z }
     ensures { (arranged_as result ≡ rule.fraction (parameters_in p.now) style bar (size_as x) (size_as z)) × Bounded result }
 {
-    let size = font_size(style);
-    let theta = bar_thickness(p, size, bar);
+    let theta = bar_thickness(p, style, bar);
     let t = final_shifts(p, style, theta, x, z);
     let w = x.width.max(z.width);
     stacked(
@@ -33,17 +32,16 @@ pub fn fraction(p: &Parameters, style: Style, bar: Bar, x: Size, z: Size) -> Arr
         z,
         w,
         t,
-        bar_of(parameter(p, size, AXIS_HEIGHT), theta, w),
+        bar_of(parameter(p, style, Dimension::AxisHeight), theta, w),
     )
 }
 
 // 15: with thickness 0 there is no bar.
-pub fn bar_thickness(p: &Parameters, size: usize, bar: Bar) -> Sp
-    requires { size < 3 }
-    ensures { (result.0 ≡ bar_thickness (parameters_in p.now) size bar) × Within (words 1) result.0 }
+pub fn bar_thickness(p: &Parameters, style: Style, bar: Bar) -> Sp
+    ensures { (result.0 ≡ bar_thickness (parameters_in p.now) (font_size style) bar) × Within (words 1) result.0 }
 {
     match bar {
-        Bar::Default => parameter(p, size, RULE_THICKNESS),
+        Bar::Default => parameter(p, style, Dimension::RuleThickness),
         Bar::Without => Sp(0),
     }
 }
@@ -54,7 +52,7 @@ fn final_shifts(p: &Parameters, style: Style, theta: Sp, x: Size, z: Size) -> Sh
 {
     let t = fraction_shifts(p, style, theta);
     if has_bar(theta) {
-        let axis = parameter(p, font_size(style), AXIS_HEIGHT);
+        let axis = parameter(p, style, Dimension::AxisHeight);
         shifts_with_bar(axis, theta, least_from_bar(style, theta), x, z, t)
     } else {
         shifts_without_bar(p, style, x, z, t)
@@ -62,6 +60,7 @@ fn final_shifts(p: &Parameters, style: Style, theta: Sp, x: Size, z: Size) -> Sh
 }
 
 // 15b: the shifts at first.
+#[tactic(auto, unfolding(fractions::specs::Fractions::fraction_shifts))]
 fn fraction_shifts(p: &Parameters, style: Style, theta: Sp) -> Shifts
     ensures { (shifts_as result ≡ fraction_shifts (parameters_in p.now) style theta.0) × ShiftsWithin 1 result }
 {
@@ -71,30 +70,32 @@ fn fraction_shifts(p: &Parameters, style: Style, theta: Sp) -> Shifts
     }
 }
 
+#[tactic(auto, unfolding(scaled::specs::Length::pick))]
 fn numerator_up(p: &Parameters, style: Style, theta: Sp) -> Sp
     ensures { (result.0 ≡ numerator_up (parameters_in p.now) style theta.0) × Within (words 1) result.0 }
 {
-    let size = font_size(style);
     if is_display(style) {
-        return parameter(p, size, NUM1);
+        parameter(p, style, Dimension::Num1)
+    } else if has_bar(theta) {
+        parameter(p, style, Dimension::Num2)
+    } else {
+        parameter(p, style, Dimension::Num3)
     }
-    if has_bar(theta) {
-        return parameter(p, size, NUM2);
-    }
-    parameter(p, size, NUM3)
 }
 
+#[tactic(auto, unfolding(scaled::specs::Length::pick))]
 fn denominator_down(p: &Parameters, style: Style) -> Sp
     ensures { (result.0 ≡ denominator_down (parameters_in p.now) style) × Within (words 1) result.0 }
 {
-    let size = font_size(style);
     if is_display(style) {
-        return parameter(p, size, DENOM1);
+        parameter(p, style, Dimension::Denom1)
+    } else {
+        parameter(p, style, Dimension::Denom2)
     }
-    parameter(p, size, DENOM2)
 }
 
 // 15c: without a bar, both gain half of what the clearance lacks.
+#[tactic(auto, unfolding(fractions::specs::Fractions::shifts_without_bar))]
 fn shifts_without_bar(p: &Parameters, style: Style, x: Size, z: Size, t: Shifts) -> Shifts
     requires { Moderate x × Moderate z × ShiftsWithin 1 t }
     ensures { (shifts_as result ≡ shifts_without_bar (parameters_in p.now) style (size_as x) (size_as z) (shifts_as t)) × ShiftsWithin 12 result }
@@ -111,11 +112,12 @@ fn clearance(x: Size, z: Size, t: Shifts) -> Sp
 }
 
 // 15c.
+#[tactic(auto, unfolding(fractions::specs::Fractions::parted))]
 fn parted(phi: Sp, psi: Sp, t: Shifts) -> Shifts
     requires { Within (words 7) phi.0 × Within (words 4) psi.0 × ShiftsWithin 1 t }
     ensures { (shifts_as result ≡ rule.parted phi.0 psi.0 (shifts_as t)) × ShiftsWithin 12 result }
 {
-    if psi.less(phi) {
+    if psi < phi {
         let more = phi.minus(psi).half();
         Shifts {
             up: t.up.plus(more),
@@ -127,6 +129,7 @@ fn parted(phi: Sp, psi: Sp, t: Shifts) -> Shifts
 }
 
 // 15d: with a bar, each shift grows until its side is clear of the bar by φ.
+#[tactic(auto, unfolding(fractions::specs::Fractions::shifts_with_bar))]
 fn shifts_with_bar(axis: Sp, theta: Sp, phi: Sp, x: Size, z: Size, t: Shifts) -> Shifts
     requires { Within (words 1) axis.0 × Within (words 1) theta.0 × Within (words 7) phi.0 × Moderate x × Moderate z × ShiftsWithin 1 t }
     ensures { (shifts_as result ≡ shifts_with_bar axis.0 theta.0 phi.0 (size_as x) (size_as z) (shifts_as t)) × ShiftsWithin 12 result }
@@ -159,7 +162,6 @@ fn stacked(x: Size, z: Size, w: Sp, t: Shifts, bar: Own) -> Arranged
     requires { Moderate x × Moderate z × Within (words 2) w.0 × ShiftsWithin 12 t × OwnWithin item_words bar }
     ensures { (arranged_as result ≡ rule.stacked (size_as x) (size_as z) w.0 (shifts_as t) (own_as bar)) × Bounded result }
 {
-    let up = t.up;
     Arranged {
         size: Size {
             width: enclosed(w),
@@ -168,7 +170,7 @@ fn stacked(x: Size, z: Size, w: Sp, t: Shifts, bar: Own) -> Arranged
         },
         first: Offset {
             across: across_of(w, x),
-            up,
+            up: t.up,
         },
         second: Offset {
             across: across_of(w, z),

@@ -10,16 +10,17 @@ ghost use Rattle.fractions.specs.Reasons as rule;
 use crate::{bar_thickness, final_shifts, fraction_shifts};
 use boxes::Size;
 use boxes::parameters::Parameters;
-use boxes::styles::{Style, font_size};
+use boxes::styles::Style;
 use formula::Bar;
 use reasons::{Reason, Reasons, ShiftReason, corrected};
 use scaled::Sp;
 
+#[tactic(auto, unfolding(fractions::specs::Reasons::fraction_reasons))]
 pub fn fraction_reasons(p: &Parameters, style: Style, bar: Bar, x: Size, z: Size) -> Reasons
     requires { Moderate x × Moderate z }
     ensures { reasons_as result ≡ rule.fraction_reasons (parameters_in p.now) style bar (size_as x) (size_as z) }
 {
-    let theta = bar_thickness(p, font_size(style), bar);
+    let theta = bar_thickness(p, style, bar);
     let first = fraction_shifts(p, style, theta);
     let last = final_shifts(p, style, theta, x, z);
     Reasons {

@@ -20,7 +20,7 @@ use scaled::Sp;
 pub fn has_bar(theta: Sp) -> bool
     ensures { result ≡ has_bar theta.0 }
 {
-    Sp(0).less(theta)
+    theta > Sp(0)
 }
 
 // 15c: seven rules in display styles, three in others.
@@ -31,12 +31,13 @@ pub fn least_clearance(p: &Parameters, style: Style) -> Sp
 }
 
 // 15d: a shift of a box, where the free height between box and bar reaches from lower to upper.
+#[tactic(auto, unfolding(crate::specs::Fractions::cleared, scaled::specs::Length::pick))]
 pub fn cleared(phi: Sp, upper: Sp, lower: Sp, shift: Sp) -> Sp
     requires { Within (words 7) phi.0 × Within (words 2) upper.0 × Within (words 2) lower.0 × Within (words 1) shift.0 }
     ensures { (result.0 ≡ rule.cleared phi.0 upper.0 lower.0 shift.0) × Within (words 12) result.0 }
 {
     let free = upper.minus(lower);
-    if free.less(phi) {
+    if free < phi {
         shift.plus(phi.minus(free))
     } else {
         shift
@@ -44,6 +45,7 @@ pub fn cleared(phi: Sp, upper: Sp, lower: Sp, shift: Sp) -> Sp
 }
 
 // 15c and 15d: so many rules in display styles, and so many in others.
+#[tactic(auto, unfolding(scaled::specs::Length::pick))]
 pub fn rules_clear(style: Style, theta: Sp, display: u8, other: u8) -> Sp
     requires { Within (words 1) theta.0 × (display ≤ 7) × (other ≤ 7) }
     ensures { (result.0 ≡ theta.0 *ℤ pick (is_display style.level) (pos display) (pos other)) × Within (words 7) result.0 }

@@ -8,8 +8,9 @@ ghost use Rattle.answers.specs.Lent.{lent_of, index_after, client_index_after};
 ghost use Rattle.answers.specs.Answers.{measured, setting, buffer_after};
 ghost use Rattle.layout_answers.specs.Values.{answered_as};
 
-use layout_answers::Answer;
-use layout_find::{Finding, find};
+use font_index::Font;
+use layout_answers::{Answer, Refusal};
+use layout_find::find;
 use nodes::BYTES_IN_NODE;
 use walk::lists::set_list;
 
@@ -26,11 +27,7 @@ pub fn measure<'a>(
     ensures index_after { index.new ≡ index_after style table.now client.now index.old client_index.old }
     ensures client_index_after { client_index.new ≡ client_index_after style table.now client.now index.old client_index.old }
 {
-    let finding = find(style, table, client, formula, index, client_index);
-    match finding {
-        Finding::Boxed(_, size, count) => Answer::Accepted(size, count),
-        Finding::Refused(answer) => answer,
-    }
+    Ok(find(style, table, client, formula, index, client_index)?.accepted)
 }
 
 // The answer of setting. Nodes are written only where nothing is left to refuse.
@@ -48,26 +45,13 @@ pub fn set<'a>(
     ensures index_after { index.new ≡ index_after style table.now client.now index.old client_index.old }
     ensures client_index_after { client_index.new ≡ client_index_after style table.now client.now index.old client_index.old }
 {
-    let finding = find(style, table, client, formula, index, client_index);
-    match finding {
-        Finding::Boxed(s, size, count) => {
-            if nodes.len() / BYTES_IN_NODE < count {
-                return Answer::NoRoom;
-            }
-            let end = BYTES_IN_NODE * count;
-            let p = font::parameters(table);
-            set_list(
-                table,
-                client,
-                index,
-                client_index,
-                &p,
-                s,
-                formula,
-                &mut nodes[..end],
-            );
-            Answer::Accepted(size, count)
-        }
-        Finding::Refused(answer) => answer,
+    let found = find(style, table, client, formula, index, client_index)?;
+    if nodes.len() / BYTES_IN_NODE < found.accepted.count {
+        return Err(Refusal::NoRoom);
     }
+    let end = BYTES_IN_NODE * found.accepted.count;
+    let font = Font::new(table, client, index, client_index);
+    // No symbol is missing, as the walk that wrote no node found.
+    let _ = set_list(&font, found.style, formula, &mut nodes[..end]);
+    Ok(found.accepted)
 }

@@ -1,6 +1,6 @@
 -- What the parts of an answer stand for. Assumes nothing.
 use Rattle.boxes.specs.Values.{size_as}
-use Rattle.reasons.specs.Values.{shift_reason_as}
+use Rattle.reasons.specs.Values.{reasons_as}
 use Rattle.answers.specs.Answers.{Answered}
 use Rattle.answers.specs.Why.{WhyAnswered}
 use Rattle.layout_answers.specs.declared.report.SetReport.{SetReport}
@@ -10,5 +10,4 @@ abbrev pub set_report_as : SetReport → Answered
 set_report_as p = record { number = p.number; place = p.place; size = size_as p.size; count = p.count }
 
 abbrev pub why_report_as : WhyReport → WhyAnswered
-why_report_as p =
-    record { number = p.number; place = p.place; reasons = record { up = shift_reason_as p.up; down = shift_reason_as p.down } }
+why_report_as p = record { number = p.number; place = p.place; reasons = reasons_as p.reasons }

@@ -1,14 +1,15 @@
 -- From what the code finds to the answers of the definition, a law for each way out of it.
 --     left_alone, built_both          the words where a test before the reading refuses, and where none does
 --     stopped, fault_refused, formula_reads     what is found before the walk
---     whole_examined, missing_examined     what the walk without room comes to
+--     whole_examined, large_examined, missing_examined     what the walk without room comes to
 --     examined_found                  what the walk finds is what is found of the whole
 -- Assumes nothing.
 use mathlib.Core.Path.{◌≡◌, refl, sym, ap, ◌∙◌}
-use mathlib.Core.Bool.{Bool, true, and-eq-true_iff}
+use mathlib.Core.Bool.{Bool, true, false, and-eq-true_iff}
 use mathlib.Core.List.{List, [], ◌++◌}
 use mathlib.Core.Option.{some}
 use Prim.Native.Nat.{ℕ}
+use Rattle.std.specs.Prelude.{Result, Ok, Err}
 use lib.ListN.{drop}
 use Rattle.font.specs.Records.{character_records, client_records}
 use Rattle.font.specs.Font.{Font, font_with}
@@ -32,13 +33,12 @@ use Rattle.walk_fields.specs.declared.lines.Line as lines
 use Rattle.walk_fields.specs.Values.{line_fits}
 use Rattle.walk_fields.specs.Lists.{ListWhole}
 use Rattle.walk_fields.specs.ListLaws.{line_fits_lem}
-use Rattle.layout_answers.specs.declared.Answer.{Answer}
-use Rattle.layout_answers.specs.declared.Answer.TheVariants.{Missing}
-use Rattle.layout_answers.specs.Values.{answered_as}
+use Rattle.layout_answers.specs.declared.Refusal.{Refusal}
+use Rattle.layout_answers.specs.declared.Refusal.TheVariants.{Missing, TooLarge}
+use Rattle.layout_answers.specs.Values.{refusal_as}
 use Rattle.layout_test.specs.Tested.{Passes, Stops}
-use Rattle.layout_find.specs.declared.Finding.{Finding}
-use Rattle.layout_find.specs.declared.Finding.TheVariants.{Boxed, Refused}
-use Rattle.layout_find.specs.Found.{Refuses, read_result, Reads, Examined, Weighed, FindingOf}
+use Rattle.layout_find.specs.declared.Found.{Found}
+use Rattle.layout_find.specs.Found.{Refuses, read_result, Reads, Examined, FoundOf}
 
 -- ---- what is found before the walk, and the words
 
@@ -51,8 +51,8 @@ module _ (style : ℕ) (table client i j : List ℕ) where
   abbrev lent : Lent
   lent = lent_of i j
 
-  module _ (a : Answer) (h : Stops style table client lent a) where
-    pub stopped : (formula : List ℕ) → Refuses a (result_of style table client lent formula)
+  module _ (r : Refusal) (h : Stops style table client lent r) where
+    pub stopped : (formula : List ℕ) → Refuses r (result_of style table client lent formula)
     stopped formula = record { number = h.number; place = 0; result_is = h.result_is formula; answer_is = h.answer_is }
 
     pub left_alone : (i ≡ index_after style table client i j) × (j ≡ client_index_after style table client i j)
@@ -74,10 +74,10 @@ module _ (style : ℕ) (table client i j : List ℕ) where
       b.theirs_is ∙ sym (ap (λ (t : Bool). built_if t (client_records client) j) builds_is),
     )
 
-    pub fault_refused : (formula : List ℕ) (why : Fault) (place : ℕ) (a : Answer) → read_formula formula ≡ fault why place →
-        answered_as a ≡ refusal (fault_number why) place → Refuses a (result_of style table client lent formula)
+    pub fault_refused : (formula : List ℕ) (why : Fault) (place : ℕ) (r : Refusal) → read_formula formula ≡ fault why place →
+        refusal_as r ≡ refusal (fault_number why) place → Refuses r (result_of style table client lent formula)
     unfolding if_read
-    fault_refused formula why place a e answer_is =
+    fault_refused formula why place r e answer_is =
         record {
           number = fault_number why;
           place = place;
@@ -122,28 +122,26 @@ module _ (s : Style) (table client formula : List ℕ) where
     unfolding list_fits
     fits_is = sym (line_fits_lem w)
 
-    pub whole_examined : (r : Finding) → Weighed s c r → Examined s table client formula r
-    whole_examined (Boxed u z n) h =
-        let items : items_fit F s tree ≡ true = ((and-eq-true_iff (box_fits (set_list F no_sides s tree)) _).0 (sym (line_fits_lem w) ∙ h.0)).1 in (
-          h.1,
+    pub whole_examined : line_fits c ≡ true →
+        Examined s (record { ours = table; client = client }) formula (Ok (record { style = s; accepted = record { size = c.size; count = c.run.count } }))
+    whole_examined whole =
+        let items : items_fit F s tree ≡ true = ((and-eq-true_iff (box_fits (set_list F no_sides s tree)) _).0 (sym (line_fits_lem w) ∙ whole)).1 in (
+          refl,
           record {
             none_missing = w.present;
             fits = items;
-            result_is = box_is no_sides F s tree w.present (fits_is ∙ h.0);
-            size_is = ap size_as h.2 ∙ w.size_is items;
-            count_is = h.3 ∙ (w.run_is items).count_is;
+            result_is = box_is no_sides F s tree w.present (fits_is ∙ whole);
+            size_is = w.size_is items;
+            count_is = (w.run_is items).count_is;
           },
         )
-    whole_examined (Refused a) h =
-        record {
-          number = too_large_number;
-          place = 0;
-          result_is = large_refused no_sides F s tree w.present (fits_is ∙ h.0);
-          answer_is = ap answered_as h.1;
-        }
+
+    pub large_examined : line_fits c ≡ false → Refuses TooLarge (read_result s table client formula)
+    large_examined large =
+        record { number = too_large_number; place = 0; result_is = large_refused no_sides F s tree w.present (fits_is ∙ large); answer_is = refl }
 
 module _ (style : ℕ) (table client : List ℕ) (lent : Lent) (formula i j : List ℕ) (s : Style) (g : Reads style table client lent formula i j s) where
-  pub examined_found : (r : Finding) → Examined s table client formula r → FindingOf style table client lent formula i j r
-  examined_found (Boxed u z n) h = (rw h.0 g, rw h.0 h.1)
-  examined_found (Refused a) h =
+  pub examined_found : (r : Result Found Refusal) → Examined s (record { ours = table; client = client }) formula r → FoundOf style table client lent formula i j r
+  examined_found (Ok f) h = (rw h.0 g, rw h.0 h.1)
+  examined_found (Err r) h =
       record { number = h.number; place = h.place; result_is = g.result_is ∙ h.result_is; answer_is = h.answer_is }

@@ -2,12 +2,12 @@
 --     Refuses             a refusal
 --     read_result          the result for a formula that reads, in a style that there is
 --     Reads, Boxes        a formula that the walk may take, with both indexes, and one that is accepted
---     FindingOf, Examined, Weighed     what `find` and the functions below it find
+--     FoundOf, Examined     what `find` and the function below it find
 -- Assumes nothing.
-use Rattle.std.specs.Prelude.{◌≡◌, true, false, List, ℕ, ◌≤◌, length}
+use Rattle.std.specs.Prelude.{◌≡◌, true, false, List, ℕ, ◌≤◌, length, Result, Ok, Err}
 use Rattle.std.proofs.Math.Option.{none, some}
 use Rattle.font.specs.Table.{good_table}
-use Rattle.font.specs.Font.{font_with}
+use Rattle.font.specs.Font.{Tables, font_with}
 use Rattle.font_index.specs.Index.{Indexed}
 use Rattle.formula.specs.Format.{formula_limit}
 use Rattle.formula.specs.Reading.{good, read_formula}
@@ -20,22 +20,18 @@ use Rattle.setting.specs.Setting.{no_sides, set_list}
 use Rattle.setting.specs.Missing.{missing_items}
 use Rattle.setting.specs.Fitting.{items_fit}
 use Rattle.answers.specs.Lent.{Lent}
-use Rattle.answers.specs.Answers.{refusal, Result, boxed, refused, if_present, result_of}
-use Rattle.walk_fields.specs.declared.lines.Line.{Line}
-use Rattle.walk_fields.specs.Values.{line_fits}
-use Rattle.layout_answers.specs.declared.Answer.{Answer}
-use Rattle.layout_answers.specs.declared.Answer.TheVariants.{TooLarge}
-use Rattle.layout_answers.specs.Values.{answered_as}
-use Rattle.layout_find.specs.declared.Finding.{Finding}
-use Rattle.layout_find.specs.declared.Finding.TheVariants.{Boxed, Refused}
+use Rattle.answers.specs.Answers.{refusal, Result as Answer, boxed, refused, if_present, result_of}
+use Rattle.layout_answers.specs.declared.Refusal.{Refusal}
+use Rattle.layout_answers.specs.Values.{refusal_as}
+use Rattle.layout_find.specs.declared.Found.{Found}
 
-pub record Refuses (a : Answer) (r : Result) : Type 0 where
+pub record Refuses (a : Refusal) (r : Answer) : Type 0 where
   pub number : ℕ
   pub place : ℕ
   pub result_is : r ≡ refused number place
-  pub answer_is : answered_as a ≡ refusal number place
+  pub answer_is : refusal_as a ≡ refusal number place
 
-abbrev pub read_result : Style → List ℕ → List ℕ → List ℕ → Result
+abbrev pub read_result : Style → List ℕ → List ℕ → List ℕ → Answer
 read_result s table client formula =
     if_present (font_with table client) no_sides s (tree_of formula) (missing_items (font_with table client) s (tree_of formula))
 
@@ -57,16 +53,12 @@ pub record Boxes (s : Style) (table client formula : List ℕ) (z : Size) (n : �
   pub size_is : size_as z ≡ (set_list (font_with table client) no_sides s (tree_of formula)).size
   pub count_is : n ≡ length (set_list (font_with table client) no_sides s (tree_of formula)).nodes
 
-abbrev pub Weighed : Style → Line → Finding → Type 0
-Weighed s l (Boxed u z n) = (line_fits l ≡ true) × (u ≡ s) × (z ≡ l.size) × (n ≡ l.run.count)
-Weighed s l (Refused a) = (line_fits l ≡ false) × (a ≡ TooLarge)
-
-abbrev pub Examined : Style → List ℕ → List ℕ → List ℕ → Finding → Type 0
-Examined s table client formula (Boxed u z n) = (u ≡ s) × Boxes s table client formula z n
-Examined s table client formula (Refused a) = Refuses a (read_result s table client formula)
+abbrev pub Examined : Style → Tables → List ℕ → Result Found Refusal → Type 0
+Examined s t formula (Ok f) = (f.style ≡ s) × Boxes s t.ours t.client formula f.accepted.size f.accepted.count
+Examined s t formula (Err r) = Refuses r (read_result s t.ours t.client formula)
 
 -- the lent words are i and j then
-abbrev pub FindingOf : ℕ → List ℕ → List ℕ → Lent → List ℕ → List ℕ → List ℕ → Finding → Type 0
-FindingOf style table client lent formula i j (Boxed s z n) =
-    Reads style table client lent formula i j s × Boxes s table client formula z n
-FindingOf style table client lent formula i j (Refused a) = Refuses a (result_of style table client lent formula)
+abbrev pub FoundOf : ℕ → List ℕ → List ℕ → Lent → List ℕ → List ℕ → List ℕ → Result Found Refusal → Type 0
+FoundOf style table client lent formula i j (Ok f) =
+    Reads style table client lent formula i j f.style × Boxes f.style table client formula f.accepted.size f.accepted.count
+FoundOf style table client lent formula i j (Err r) = Refuses r (result_of style table client lent formula)

@@ -5,27 +5,18 @@
 use Rattle.std.specs.Prelude.{◌≡◌, List, ℕ}
 use Rattle.std.proofs.Common.{◌∙◌, arith}
 use Rattle.font.specs.Font.{font_with}
-use Rattle.font.specs.Values.{HoldsParameters}
 use Rattle.formula.specs.Places.{tree_of}
 use Rattle.boxes.specs.declared.styles.Style.{Style}
 use Rattle.boxes.specs.declared.Size.{Size}
-use Rattle.boxes.specs.ValueLaws.{taken_out}
 use Rattle.setting.specs.Setting.{no_sides, set_list}
 use Rattle.answers.specs.Lent.{Lent}
 use Rattle.answers.specs.Answers.{boxed, result_of}
 use Rattle.walk_fields.specs.Lists.{ListGiven}
 use Rattle.layout_find.specs.Found.{Reads, Boxes}
 
-pub given_list : {style : ℕ} {table client : List ℕ} {lent : Lent} {formula i j : List ℕ} {s : Style} (p : List (List ℕ)) →
-    Reads style table client lent formula i j s → HoldsParameters p table → ListGiven table client i j p formula
-unfolding font_with
-given_list {table = table} p h held =
-    record {
-      tables_good = h.indexed;
-      parameters_are = taken_out table p held;
-      readable = h.readable;
-      short = omega (arith, h.short);
-    }
+pub given_list : {style : ℕ} {table client : List ℕ} {lent : Lent} {formula i j : List ℕ} {s : Style} →
+    Reads style table client lent formula i j s → ListGiven formula
+given_list h = record { readable = h.readable; short = omega (arith, h.short) }
 
 pub found_is : {style : ℕ} {table client : List ℕ} {lent : Lent} {formula i j : List ℕ} {s : Style} {z : Size} {n : ℕ} →
     Reads style table client lent formula i j s → Boxes s table client formula z n →

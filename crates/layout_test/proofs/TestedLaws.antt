@@ -13,7 +13,7 @@ use Rattle.answers.specs.Lent.{Lent}
 use Rattle.answers.specs.Answers.{style_number, table_number, client_number, index_number}
 use Rattle.answers.proofs.AnswersLaws.{no_style, bad_table, bad_client, few_words}
 use Rattle.answers.proofs.LentLaws.{enough_is, Few, few_is, early}
-use Rattle.layout_answers.specs.declared.Answer.TheVariants.{NoStyle, BadTable, BadClient, FewWords}
+use Rattle.layout_answers.specs.declared.Refusal.TheVariants.{NoStyle, BadTable, BadClient, FewWords}
 use Rattle.layout_test.specs.Tested.{Passes, Stops}
 
 module _ (style : ℕ) (table client : List ℕ) (lent : Lent) where

@@ -5,42 +5,31 @@
 ghost use Rattle.answers.specs.Lent.{lends};
 ghost use Rattle.layout_test.specs.Tested.{Tested};
 
-use boxes::styles::{Numbered, Style, style_of};
+use boxes::styles::{Style, style_of};
 use font_index::INDEX_WORDS;
-use layout_answers::Answer;
+use layout_answers::Refusal;
 
-// What is found before anything of the formula is read: the style, or a refusal.
-#[derive(Clone, Copy)]
-pub enum Testing {
-    Passed(Style),
-    Refused(Answer),
-}
-
-// The tests of the style, our table, the client's and the lent words, in this order.
-pub fn tested<'a>(
+// The tests of the style, our table, the client's and the lent words, in this order. What passes them is the style.
+pub fn tested(
     style: u8,
-    table: &'a [u8],
-    client: &'a [u8],
+    table: &[u8],
+    client: &[u8],
     words: usize,
     client_words: usize,
-) -> Testing
+) -> Result<Style, Refusal>
     ensures { Tested style table.now client.now (lends words client_words) result }
 {
-    let numbered = style_of(style);
-    let Numbered::Styled(s) = numbered else {
-        return Testing::Refused(Answer::NoStyle);
+    let Some(style) = style_of(style) else {
+        return Err(Refusal::NoStyle);
     };
     if !font_test::is_good(table) {
-        return Testing::Refused(Answer::BadTable);
+        return Err(Refusal::BadTable);
     }
     if !font_test::is_good_client(table, client) {
-        return Testing::Refused(Answer::BadClient);
+        return Err(Refusal::BadClient);
     }
-    if words < INDEX_WORDS {
-        return Testing::Refused(Answer::FewWords);
+    if words < INDEX_WORDS || client_words < INDEX_WORDS {
+        return Err(Refusal::FewWords);
     }
-    if client_words < INDEX_WORDS {
-        return Testing::Refused(Answer::FewWords);
-    }
-    Testing::Passed(s)
+    Ok(style)
 }

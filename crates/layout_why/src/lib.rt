@@ -7,8 +7,9 @@ ghost use Rattle.answers.specs.Lent.{lent_of, index_after, client_index_after};
 ghost use Rattle.answers.specs.Why.{why_of};
 ghost use Rattle.layout_answers.specs.Values.{why_answer_as};
 
-use layout_answers::why::{WhyAnswer, answer_by};
-use layout_find::{Finding, find};
+use font_index::Font;
+use layout_answers::why::{WhyAnswer, WhyRefusal};
+use layout_find::find;
 use picking::why::why_at;
 
 pub fn why<'a>(
@@ -24,12 +25,7 @@ pub fn why<'a>(
     ensures index_after { index.new ≡ index_after style table.now client.now index.old client_index.old }
     ensures client_index_after { client_index.new ≡ client_index_after style table.now client.now index.old client_index.old }
 {
-    let finding = find(style, table, client, formula, index, client_index);
-    match finding {
-        Finding::Boxed(s, _, _) => {
-            let p = font::parameters(table);
-            answer_by(why_at(table, client, index, client_index, &p, s, place, formula))
-        }
-        Finding::Refused(answer) => WhyAnswer::Refused(answer),
-    }
+    let found = find(style, table, client, formula, index, client_index)?;
+    let font = Font::new(table, client, index, client_index);
+    why_at(&font, found.style, place, formula).ok_or(WhyRefusal::Unpicked)
 }

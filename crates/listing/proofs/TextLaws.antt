@@ -1,10 +1,11 @@
--- The lines by the tests that the code makes: of an answer's number, and of whether there is a shift.
+-- The lines by the code's cases: of a refusal, and by whether there is a shift.
 -- Assumes nothing.
 use mathlib.Core.Path.{◌≡◌, sym, ap}
 use mathlib.Core.Bool.{Bool, true, false, cond}
 use mathlib.Core.List.{List, [], ◌++◌}
-use Prim.Native.Nat.{ℕ}
-use borrow.Author.Tests.{eq-eqb, ne_eqb}
+use Prim.Native.Nat.{ℕ, ◌<◌}
+use native.Mathlib.Omega.{arith}
+use borrow.Author.Tests.{ne_eqb}
 use Rattle.answers.specs.Answers.{Answered, accepted_number}
 use Rattle.reasons.specs.Reasons.{ShiftReason}
 use Rattle.texts.specs.Decimals.{text_of}
@@ -15,13 +16,9 @@ module _ (a : Answered) where
   abbrev by : Bool → List ℕ
   by t = cond t (sizes_text a.size a.count) (refusal_text a.number a.place)
 
-  pub accepted_line : a.number ≡ accepted_number → sizes_text a.size a.count ≡ answer_text a
+  pub refused_line : 0 < a.number → refusal_text a.number a.place ≡ answer_text a
   unfolding answer_text
-  accepted_line e = sym (ap by (eq-eqb a.number accepted_number e))
-
-  pub refused_line : (a.number ≡ accepted_number → ⊥) → refusal_text a.number a.place ≡ answer_text a
-  unfolding answer_text
-  refused_line e = sym (ap by (ne_eqb a.number accepted_number e))
+  refused_line more = sym (ap by (ne_eqb a.number accepted_number (λ e. omega arith)))
 
 module _ (mark : List ℕ) (d : ShiftReason) where
   abbrev shown : Bool → List ℕ

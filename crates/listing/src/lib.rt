@@ -14,50 +14,49 @@ ghost use Rattle.texts.specs.Written.{Written, PutNear, number_text};
 
 use boxes::Size;
 use layout_answers::Answer;
-use layout_answers::report::report_of;
-use layout_answers::why::{WhyAnswer, why_report};
+use layout_answers::why::WhyAnswer;
 use nodes::BYTES_IN_NODE;
 use reasons::{Reason, ShiftReason};
 use std::io::Result;
-use texts::{LINE_SPACE, Number, of_count, of_length, print, put_bytes, put_number, refusal_text};
+use texts::{
+    LINE_SPACE, Number, of_count, of_length, print, put_bytes, put_number, refusal_text,
+    write_refusal,
+};
 
 // Prints an answer; the nodes of an acceptance are at the front of the buffer. An error ends it: what was printed before stays.
 pub fn write_answer(out: &impl Print, answer: Answer, nodes: &[u8]) -> Result<()> {
     let mut line = [0u8; LINE_SPACE];
     let end = answer_text(answer, &mut line);
     print(out, &line, end)?;
-    let report = report_of(answer);
-    write_nodes(out, nodes, report.count)
+    match answer {
+        Ok(accepted) => write_nodes(out, nodes, accepted.count),
+        Err(_) => Ok(()),
+    }
 }
 
 // Prints what decided an item's shifts, a line for each that there is, or the refusal. An error ends it: what was printed before stays.
 pub fn write_reasons(out: &impl Print, answer: WhyAnswer) -> Result<()> {
-    let mut line = [0u8; LINE_SPACE];
-    let report = why_report(answer);
-    if report.number != 0 {
-        let end = refusal_text(report.number, report.place, &mut line);
-        return print(out, &line, end);
+    match answer {
+        Ok(reasons) => {
+            write_shift(out, b"up ", reasons.up)?;
+            write_shift(out, b"down ", reasons.down)
+        }
+        Err(refusal) => write_refusal(out, refusal.number(), refusal.place()),
     }
-    let up = report.up;
-    let down = report.down;
-    let first = shift_text(b"up ", up, &mut line);
-    print(out, &line, first)?;
-    let second = shift_text(b"down ", down, &mut line);
-    print(out, &line, second)
+}
+
+fn write_shift(out: &impl Print, mark: &[u8], moved: ShiftReason) -> Result<()>
+    requires { length mark.now ≤ 6 }
+{
+    let mut line = [0u8; LINE_SPACE];
+    let end = shift_text(mark, moved, &mut line);
+    print(out, &line, end)
 }
 
 // The first `count` nodes, as far as the buffer has them.
 fn write_nodes(out: &impl Print, nodes: &[u8], count: usize) -> Result<()> {
-    let mut left = count;
-    let mut at: usize = 0;
-    while BYTES_IN_NODE <= nodes.len() - at {
-        if left == 0 {
-            return Ok(());
-        }
-        let end = at + BYTES_IN_NODE;
-        write_node(out, &nodes[at..end])?;
-        at = end;
-        left -= 1;
+    for node in nodes.chunks_exact(BYTES_IN_NODE).take(count) {
+        write_node(out, node)?;
     }
     Ok(())
 }
@@ -75,12 +74,10 @@ pub fn answer_text(answer: Answer, out: &mut [u8]) -> usize
     requires { 128 ≤ length out.old }
     ensures { Written (answer_text (answered_as answer)) out.old out.new result }
 {
-    let report = report_of(answer);
-    let size = report.size;
-    if report.number == 0 {
-        return sizes_text(size, report.count, out);
+    match answer {
+        Ok(accepted) => sizes_text(accepted.size, accepted.count, out),
+        Err(refusal) => refusal_text(refusal.number(), refusal.place(), out),
     }
-    refusal_text(report.number, report.place, out)
 }
 
 fn sizes_text(size: Size, count: usize, out: &mut [u8]) -> usize
@@ -99,44 +96,33 @@ pub fn shift_text(mark: &[u8], moved: ShiftReason, out: &mut [u8]) -> usize
     requires { (length mark.now ≤ 6) × (128 ≤ length out.old) }
     ensures { Written (shift_text mark.now (shift_reason_as moved)) out.old out.new result }
 {
-    let by = moved.by;
-    let shift = moved.shift;
-    if is_there(by) {
-        let a = put_bytes(mark, out, 0);
-        let b = put_reason(by, out, a);
-        let c = put_number(b"", of_length(shift), out, b);
-        return put_bytes(b"\n", out, c);
+    if !is_there(moved.by) {
+        return 0;
     }
-    0
+    let a = put_bytes(mark, out, 0);
+    let b = put_bytes(reason_mark(moved.by), out, a);
+    let c = put_number(b"", of_length(moved.shift), out, b);
+    put_bytes(b"\n", out, c)
 }
 
 fn is_there(by: Reason) -> bool
     ensures { result ≡ is_there by }
 {
-    match by {
-        Reason::None => false,
-        Reason::Drop => true,
-        Reason::Sigma => true,
-        Reason::XHeight => true,
-        Reason::Gap => true,
-        Reason::Psi => true,
-        Reason::Clearance => true,
-    }
+    !matches!(by, Reason::None)
 }
 
-// Writes the name of what decided a shift and a space at `at`, and gives the place behind them.
-fn put_reason(by: Reason, out: &mut [u8], at: usize) -> usize
-    requires { at + 10 ≤ length out.old }
-    ensures { PutNear 10 (reason_mark by) out.old out.new at result }
+// The name of what decided a shift, and a space.
+fn reason_mark(by: Reason) -> &'static [u8]
+    ensures { result.now ≡ reason_mark by }
 {
     match by {
-        Reason::None => put_bytes(b"", out, at),
-        Reason::Drop => put_bytes(b"drop ", out, at),
-        Reason::Sigma => put_bytes(b"sigma ", out, at),
-        Reason::XHeight => put_bytes(b"xheight ", out, at),
-        Reason::Gap => put_bytes(b"gap ", out, at),
-        Reason::Psi => put_bytes(b"psi ", out, at),
-        Reason::Clearance => put_bytes(b"clearance ", out, at),
+        Reason::None => b"",
+        Reason::Drop => b"drop ",
+        Reason::Sigma => b"sigma ",
+        Reason::XHeight => b"xheight ",
+        Reason::Gap => b"gap ",
+        Reason::Psi => b"psi ",
+        Reason::Clearance => b"clearance ",
     }
 }
 

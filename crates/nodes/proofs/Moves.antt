@@ -83,3 +83,6 @@ unfolding behind_nodes moved_bytes
 none_moved k dx dy b none =
     let j = room_for k (length b) in
     rw (none, moved_room dx dy 0 (drop j b) (omega arith)) (take-append-drop j b)
+
+-- the ways of the loop
+pub ruleset moving = (started, turn, finished)

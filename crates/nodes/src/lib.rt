@@ -13,6 +13,7 @@ use scaled::Sp;
 pub const BYTES_IN_NODE: usize = 18;
 
 // Writes a glyph's node at the front, if there is room.
+#[tactic(auto, using(crate::proofs::Stores::glyph_bytes))]
 pub fn put_glyph(buf: &mut [u8], x: Sp, y: Sp, size: u8, family: u8, code: u8)
     ensures { buf.new ≡ put (glyph x.0 y.0 size family code) buf.old }
 {
@@ -38,6 +39,7 @@ pub fn put_rule(buf: &mut [u8], before: usize, x: Sp, y: Sp, width: Sp, thicknes
 }
 
 // Writes a node by its mark, its place and its last two words.
+#[tactic(auto, using(crate::proofs::Stores::node_stores, crate::specs::BufferLaws::written_full))]
 fn put_node(buf: &mut [u8], m: u8, n: u8, x: Sp, y: Sp, p: u32, q: u32)
     ensures { buf.new ≡ written (node_of m n x.0 y.0 p q) buf.old }
 {
@@ -54,14 +56,11 @@ fn put_node(buf: &mut [u8], m: u8, n: u8, x: Sp, y: Sp, p: u32, q: u32)
 pub fn room(count: usize, len: usize) -> usize
     ensures { result ≡ room_for count len }
 {
-    if count <= len / BYTES_IN_NODE {
-        BYTES_IN_NODE * count
-    } else {
-        len
-    }
+    count.saturating_mul(BYTES_IN_NODE).min(len)
 }
 
 // Moves `count` nodes, which stand behind the first `before`, right by dx and up by dy, if they are all there.
+#[tactic(auto, using(crate::proofs::Moves::none_moved, crate::specs::Lent::behind_lent))]
 pub fn move_nodes(buf: &mut [u8], before: usize, count: usize, dx: Sp, dy: Sp)
     ensures { buf.new ≡ behind_nodes before (moved_front dx.0 dy.0 count) buf.old }
 {
@@ -73,6 +72,7 @@ pub fn move_nodes(buf: &mut [u8], before: usize, count: usize, dx: Sp, dy: Sp)
 }
 
 // Moves the first `count` nodes right by dx and up by dy, if they are all there.
+#[tactic(auto, using(crate::proofs::Moves::moving, crate::specs::BufferLaws::moved_room, crate::specs::BufferLaws::moved_full))]
 fn move_front(buf: &mut [u8], count: usize, dx: Sp, dy: Sp)
     ensures { buf.new ≡ moved_front dx.0 dy.0 count buf.old }
 {
@@ -90,6 +90,7 @@ fn move_front(buf: &mut [u8], count: usize, dx: Sp, dy: Sp)
 }
 
 // Adds two words to the x and the y of the node at `at`.
+#[tactic(auto, using(crate::proofs::Moves::head_behind))]
 fn move_node(buf: &mut [u8], at: usize, right: u32, up: u32)
     requires { at + bytes_in_node ≤ length buf.old }
     ensures { buf.new ≡ take at buf.old ++ moved_head right up (drop at buf.old) }
@@ -99,6 +100,7 @@ fn move_node(buf: &mut [u8], at: usize, right: u32, up: u32)
 }
 
 // Adds d to the word at `at`, modulo 2^32.
+#[tactic(auto, using(words::specs::WordLaws::four_rest), unfolding(crate::specs::Buffer::added_at))]
 fn add(buf: &mut [u8], at: usize, d: u32)
     requires { at + 4 ≤ length buf.old }
     ensures { buf.new ≡ added_at at d buf.old }

@@ -8,11 +8,11 @@ ghost use Rattle.nodes.specs.Values.{hull_of, marked, is_large, EmptyRun, LargeR
 
 use scaled::Sp;
 
-const GREATEST_LENGTH: i64 = 1_073_741_823;
+const GREATEST_LENGTH: u64 = 1_073_741_823;
 
 // What is known of some nodes: how many there are, and the least and the greatest x and y; without a node the lengths mean nothing.
 // Large, 1 in place of 0, where a list that they were set from passes the greatest length; then nothing else of it means anything.
-// It is a number and no bool so that the record has no gap that would be copied with it.
+// It is a number and no bool for speed: with a bool the record has a gap, which is copied with it.
 #[derive(Clone, Copy)]
 pub struct Run {
     pub count: usize,
@@ -43,12 +43,8 @@ impl Run {
         ensures { LargeRun result }
     {
         Run {
-            count: 0,
-            left: Sp(0),
-            right: Sp(0),
-            bottom: Sp(0),
-            top: Sp(0),
             large: 1,
+            ..Run::empty()
         }
     }
 
@@ -67,6 +63,7 @@ impl Run {
     }
 
     // Two runs, one behind the other.
+    #[tactic(auto, using(crate::proofs::RunCases::some_count, crate::proofs::RunCases::of_none, crate::proofs::RunCases::of_some), unfolding(crate::specs::Hull::joined))]
     pub fn joined(mut self, mut o: Run) -> Run
         requires { self.count + o.count < 2 ^ 64 }
         ensures { JoinedRun self o result }
@@ -91,6 +88,7 @@ impl Run {
     }
 
     // The nodes moved right by dx and up by dy.
+    #[tactic(auto, using(crate::proofs::RunCases::some_count, crate::proofs::RunCases::of_none, crate::proofs::RunCases::of_some), unfolding(crate::specs::Hull::moved_hull))]
     pub fn moved(self, dx: Sp, dy: Sp) -> Run
         requires { HullWithin reach (hull_of self) × Within reach dx.0 × Within reach dy.0 }
         ensures { MovedRun dx.0 dy.0 self result }
@@ -99,16 +97,16 @@ impl Run {
             return self;
         }
         Run {
-            count: self.count,
             left: self.left.plus(dx),
             right: self.right.plus(dx),
             bottom: self.bottom.plus(dy),
             top: self.top.plus(dy),
-            large: self.large,
+            ..self
         }
     }
 
     // Whether no list and no node passes the greatest length.
+    #[tactic(auto, using(crate::proofs::RunCases::marked_some, crate::proofs::RunCases::of_none, crate::proofs::RunCases::of_some), unfolding(crate::specs::Hull::hull_fits))]
     pub fn fits(self) -> bool
         ensures { result ≡ (not (is_large self) && hull_fits (hull_of self)) }
     {
@@ -123,6 +121,7 @@ impl Run {
 }
 
 // The mark of two runs, one of which may be large.
+#[tactic(auto, using(crate::proofs::RunCases::marked_some))]
 fn either(a: usize, b: usize) -> usize
     ensures { marked result ≡ (marked a || marked b) }
 {
@@ -133,5 +132,5 @@ fn either(a: usize, b: usize) -> usize
 pub fn within(z: Sp) -> bool
     ensures { result ≡ within z.0 }
 {
-    !z.less(Sp(-GREATEST_LENGTH)) & !Sp(GREATEST_LENGTH).less(z)
+    z.0.unsigned_abs() <= GREATEST_LENGTH
 }

@@ -15,7 +15,8 @@ use boxes::{Offset, Own, Size, no_own};
 use font::Metrics;
 use scaled::Sp;
 
-// A nucleus as the limits and the scripts see it.
+// A nucleus as the limits and the scripts see it. That it is moderate stands in contracts and not in the type, since `atom_nucleus` makes one
+// of a shape of any size.
 #[derive(Clone, Copy)]
 pub struct Nucleus {
     pub size: Size,
@@ -41,7 +42,7 @@ pub fn operator_nucleus(axis: Sp, m: Metrics, beside: bool) -> Nucleus
             across: Sp(0),
             up: down.negated(),
         },
-        delta: Sp::of_word(m.italic),
+        delta: Sp::from(m.italic),
         plain: false,
         own: no_own(),
     }
@@ -52,8 +53,8 @@ fn operator_shift(axis: Sp, m: Metrics) -> Sp
     requires { Within (words 1) axis.0 }
     ensures { (result.0 ≡ operator_shift axis.0 (metrics_as m)) × Within (words 2) result.0 }
 {
-    Sp::of_word(m.height)
-        .minus(Sp::of_word(m.depth))
+    Sp::from(m.height)
+        .minus(Sp::from(m.depth))
         .half()
         .minus(axis)
 }
@@ -64,8 +65,8 @@ fn operator_size(m: Metrics, beside: bool, down: Sp) -> Size
 {
     Size {
         width: operator_width(m, beside),
-        height: Sp(0).max(Sp::of_word(m.height).minus(down)),
-        depth: Sp(0).max(Sp::of_word(m.depth).plus(down)),
+        height: Sp(0).max(Sp::from(m.height).minus(down)),
+        depth: Sp(0).max(Sp::from(m.depth).plus(down)),
     }
 }
 
@@ -74,8 +75,8 @@ fn operator_width(m: Metrics, beside: bool) -> Sp
     ensures { (result.0 ≡ operator_width (metrics_as m) beside) × Within (words 2) result.0 }
 {
     if beside {
-        Sp::of_word(m.width)
+        Sp::from(m.width)
     } else {
-        Sp::of_word(m.width).plus(Sp::of_word(m.italic))
+        Sp::from(m.width).plus(Sp::from(m.italic))
     }
 }

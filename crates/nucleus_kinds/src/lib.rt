@@ -2,7 +2,7 @@
 
 #![tactic(auto)]
 
-ghost use Rattle.std.specs.Prelude.{◌≡◌, ◌&&◌, not};
+ghost use Rattle.std.specs.Prelude.{◌≡◌};
 ghost use Rattle.scaled.specs.Signed.{Within};
 ghost use Rattle.font.specs.Values.{metrics_as};
 ghost use Rattle.nucleus.specs.Nucleus.{box_nucleus, symbol_nucleus, atom_nucleus};
@@ -26,7 +26,7 @@ pub fn atom_nucleus(axis: Sp, operator: bool, limits: bool, subscript: bool, x: 
         Shape::Nothing => box_nucleus(zero_size()),
         Shape::Char(m) => {
             if operator {
-                operator_nucleus(axis, m, stands_beside(subscript, limits))
+                operator_nucleus(axis, m, subscript && !limits)
             } else {
                 symbol_nucleus(m, subscript)
             }
@@ -52,15 +52,14 @@ fn symbol_nucleus(m: Metrics, subscript: bool) -> Nucleus
     ensures { (nucleus_as result ≡ symbol_nucleus (metrics_as m) subscript) × ModerateNucleus result }
 {
     if subscript {
-        let size = Size {
-            width: Sp::of_word(m.width),
-            height: Sp::of_word(m.height),
-            depth: Sp::of_word(m.depth),
-        };
         Nucleus {
-            size,
+            size: Size {
+                width: Sp::from(m.width),
+                height: Sp::from(m.height),
+                depth: Sp::from(m.depth),
+            },
             first: origin(),
-            delta: Sp::of_word(m.italic),
+            delta: Sp::from(m.italic),
             plain: true,
             own: no_own(),
         }
@@ -75,23 +74,15 @@ fn symbol_nucleus(m: Metrics, subscript: bool) -> Nucleus
     }
 }
 
-fn stands_beside(subscript: bool, limits: bool) -> bool
-    ensures { result ≡ (subscript && not limits) }
-{
-    if subscript { !limits } else { false }
-}
-
+// Rules 9 and 10 stay two functions, as the definitions are: one for both would ask at each line which it is.
 // Rule 9: 3θ between the nucleus and the line, θ beyond the line.
 pub fn overline(theta: Sp, x: Size) -> Nucleus
     requires { Within (words 1) theta.0 × Moderate x }
     ensures { (nucleus_as result ≡ rule.overline theta.0 (size_as x)) × ModerateNucleus result }
 {
-    let width = x.width;
-    let depth = x.depth;
     let size = Size {
-        width,
         height: x.height.plus(theta.times(5)),
-        depth,
+        ..x
     };
     lined(size, theta, x.height.plus(theta.times(3)))
 }
@@ -101,12 +92,9 @@ pub fn underline(theta: Sp, x: Size) -> Nucleus
     requires { Within (words 1) theta.0 × Moderate x }
     ensures { (nucleus_as result ≡ rule.underline theta.0 (size_as x)) × ModerateNucleus result }
 {
-    let width = x.width;
-    let height = x.height;
     let size = Size {
-        width,
-        height,
         depth: x.depth.plus(theta.times(5)),
+        ..x
     };
     lined(
         size,
@@ -120,10 +108,9 @@ fn lined(size: Size, theta: Sp, up: Sp) -> Nucleus
     requires { SizeWithin 2 7 size × Within (words 1) theta.0 × Within (words 7) up.0 }
     ensures { (nucleus_as result ≡ rule.lined (size_as size) theta.0 up.0) × ModerateNucleus result }
 {
-    let width = size.width;
     let rule = Rule {
         corner: Offset { across: Sp(0), up },
-        width,
+        width: size.width,
         thickness: theta,
     };
     Nucleus {

@@ -9,7 +9,8 @@
 use mathlib.Core.Path.{◌≡◌, refl, sym, subst, ap, ap₂, ◌∙◌}
 use mathlib.Core.Bool.{Bool, true, false}
 use mathlib.Core.List.{List, [], ◌∷◌}
-use mathlib.Core.Option.{Option, none, some}
+use Rattle.std.specs.Prelude.{Option, Some, None}
+use mathlib.Core.Option.{Option as OptionOf, none, some}
 use Prim.Native.Nat.{ℕ, zero, suc, ◌+◌, ◌-◌, ◌≤◌, ◌<◌}
 use native.Mathlib.Omega.{arith}
 use lib.Dec.{leb, ltb}
@@ -53,11 +54,11 @@ pub entered_done : (u : Style) (s : List ℕ) (c : Span) (place : ℕ) → SpanI
 unfolding entered_of
 entered_done u s c place span = go (ltb place c.first) refl
   where
-    inner : Option Picked
+    inner : OptionOf Picked
     inner = pick_in u (place - c.first) (tree_of (part c s))
 
     go : (t : Bool) → ltb place c.first ≡ t →
-        StepDone (pick_span u place c s) place s (elim t [ true ↦ step.Nowhere | false ↦ step.Into u c.first c.end ])
+        StepDone (pick_span u place c s) place s (elim t [ true ↦ None | false ↦ Some (step.Into u c.first c.end) ])
     go true e = ap (λ (t : Bool). if_reached t (pick_in u (place - c.first) (tree_of (part c s)))) (lt-leb c.first place (ltb-true place c.first e))
     go false e =
         let low = ltb-false place c.first e in
@@ -68,34 +69,34 @@ entered_done u s c place span = go (ltb place c.first) refl
         }
 
 module _ (u : Style) (c : Span) (place : ℕ) where
-  entered_by : Bool → Step
-  entered_by t = elim t [ true ↦ step.Nowhere | false ↦ step.Into u c.first c.end ]
+  entered_by : Bool → Option Step
+  entered_by t = elim t [ true ↦ None | false ↦ Some (step.Into u c.first c.end) ]
 
-  pub not_entered : place < c.first → step.Nowhere ≡ entered_of u c place
+  pub not_entered : place < c.first → None ≡ entered_of u c place
   unfolding entered_of entered_by
   not_entered h = sym (ap entered_by (lt-ltb place c.first h))
 
-  pub is_entered : c.first ≤ place → step.Into u c.first c.end ≡ entered_of u c place
+  pub is_entered : c.first ≤ place → Some (step.Into u c.first c.end) ≡ entered_of u c place
   unfolding entered_of entered_by
   is_entered h = sym (ap entered_by (le-ltb place c.first h))
 
 -- what is wanted of a span, where the code has entered it
-pub entered_as : (u : Style) (s : List ℕ) (c : Span) (place : ℕ) {want : Option Picked} (r : Step) → SpanIn s c → want ≡ pick_span u place c s →
+pub entered_as : (u : Style) (s : List ℕ) (c : Span) (place : ℕ) {want : OptionOf Picked} (r : Option Step) → SpanIn s c → want ≡ pick_span u place c s →
     r ≡ entered_of u c place → StepDone want place s r
 entered_as u s c place {want} r span wanted is =
-    subst (λ (x : Step). StepDone want place s x) (sym is)
-    (subst (λ (w : Option Picked). StepDone w place s (entered_of u c place)) (sym wanted) (entered_done u s c place span))
+    subst (λ (x : Option Step). StepDone want place s x) (sym is)
+    (subst (λ (w : OptionOf Picked). StepDone w place s (entered_of u c place)) (sym wanted) (entered_done u s c place span))
 
 -- ---- a step as one from the list around
 
-module _ (want : Option Picked) (s : List ℕ) {at place : ℕ} (low : at ≤ place) (inside : at ≤ length s) where
-  pub behind_done : (r : Step) → StepDone want (place - at) (drop at s) r → StepDone want place s (behind_of at r)
-  behind_done step.Nowhere h = h
-  behind_done (step.Here u) h =
+module _ (want : OptionOf Picked) (s : List ℕ) {at place : ℕ} (low : at ≤ place) (inside : at ≤ length s) where
+  pub behind_done : (r : Option Step) → StepDone want (place - at) (drop at s) r → StepDone want place s (behind_of at r)
+  behind_done None h = h
+  behind_done (Some (step.Here u)) h =
       let is : at + (place - at) ≡ place = omega arith in
       let same : drop (place - at) (drop at s) ≡ drop place s = drop-drop (place - at) at s ∙ ap (λ (n : ℕ). drop n s) is in
       (omega (arith, h.0, length-drop at s), subst (HeadIs want u) same h.1)
-  behind_done (step.Into u a b) h =
+  behind_done (Some (step.Into u a b)) h =
       let long = length-drop at s in
       let span = h.span in
       let reached = h.reached in
@@ -118,10 +119,10 @@ module _ (want : Option Picked) (s : List ℕ) {at place : ℕ} (low : at ≤ pl
           rw e (ap (take (b - a)) (sym (drop-drop a at s)))
 
 -- a step keeps within the list
-pub short_step : (want : Option Picked) (place : ℕ) (b : List ℕ) (n : ℕ) (r : Step) → StepDone want place b r → n + length b ≤ formula_limit → ShortStep n r
-short_step want place b n step.Nowhere h l = tt
-short_step want place b n (step.Here u) h l = tt
-short_step want place b n (step.Into u first end) h l = (h.span.ordered, omega (arith, h.span.inside))
+pub short_step : (want : OptionOf Picked) (place : ℕ) (b : List ℕ) (n : ℕ) (r : Option Step) → StepDone want place b r → n + length b ≤ formula_limit → ShortStep n r
+short_step want place b n None h l = tt
+short_step want place b n (Some (step.Here u)) h l = tt
+short_step want place b n (Some (step.Into u first end)) h l = (h.span.ordered, omega (arith, h.span.inside))
 
 -- ---- the span of a field
 
@@ -220,13 +221,13 @@ module _ (s : List ℕ) (at : ℕ) (good : GoodFieldAt s at) (inside : at ≤ le
           subst (λ (k : ℕ). HeldSpan s at (span_of (at + opening) (at + k))) long (held_list (head_is ∙ is))
 
 -- the field in which the place lies
-pub held_as : (u : Style) (s : List ℕ) (at : ℕ) (c : Span) (place : ℕ) {want : Option Picked} (r : Step) → HeldSpan s at c →
+pub held_as : (u : Style) (s : List ℕ) (at : ℕ) (c : Span) (place : ℕ) {want : OptionOf Picked} (r : Option Step) → HeldSpan s at c →
     want ≡ pick_field u at place (field_in s at) → r ≡ entered_of u c place → StepDone want place s r
 held_as u s at c place r held wanted is = entered_as u s c place r held.span (wanted ∙ held.picks u place) is
 
 -- ---- an item with fields: the field in which the place lies
 
-or_in_none : (a : Option Picked) → a or_in none ≡ a
+or_in_none : (a : OptionOf Picked) → a or_in none ≡ a
 or_in_none none = refl
 or_in_none (some q) = refl
 
@@ -234,25 +235,25 @@ module _ (u : Style) (s : List ℕ) (kind : Kind) (opens : opening_of s ≡ Fiel
   pub noad_here : Noad s kind
   noad_here = noad_at_lem s kind opens r
 
-  pub head_starts : (want : Option Picked) → want ≡ pick_head u 0 s → HeadIs want u s
+  pub head_starts : (want : OptionOf Picked) → want ≡ pick_head u 0 s → HeadIs want u s
   unfolding pick_at
   head_starts want is =
       record { kind = kind; opens = opens; readable = r; is = is ∙ ap (λ (o : Opening). pick_at u 0 (item_of s o)) opens }
 
   -- at its first byte
-  pub step_here : (place : ℕ) → place ≡ 0 → StepDone (pick_head u place s) place s (step.Here u)
+  pub step_here : (place : ℕ) → place ≡ 0 → StepDone (pick_head u place s) place s (Some (step.Here u))
   step_here place e =
-      subst (λ (n : ℕ). StepDone (pick_head u n s) n s (step.Here u)) (sym e)
+      subst (λ (n : ℕ). StepDone (pick_head u n s) n s (Some (step.Here u))) (sym e)
       (omega (arith, noad_here.long, noad_here.end_in), head_starts _ refl)
 
   module _ (place : ℕ) (some : 0 < place) where
-    abbrev in_x : Option Picked
+    abbrev in_x : OptionOf Picked
     in_x = pick_field (first_style kind u) (opening_bytes kind) place (field_in s (opening_bytes kind))
 
-    abbrev in_y : Option Picked
+    abbrev in_y : OptionOf Picked
     in_y = pick_field (second_style kind u) (second s kind) place (field_in s (second s kind))
 
-    abbrev in_z : Option Picked
+    abbrev in_z : OptionOf Picked
     in_z = pick_field (third_style u) (third s kind) place (third_in s (has_third kind) (third s kind))
 
     fields : pick_head u place s ≡ in_x or_in in_y or_in in_z
@@ -287,15 +288,15 @@ module _ (u : Style) (s : List ℕ) (kind : Kind) (opens : opening_of s ≡ Fiel
     fields_first h =
         let y = pick_field_before (second_style kind u) (second s kind) place (field_in s (second s kind)) h in
         let z = z_before (omega (arith, noad_here.second_in)) in
-        fields ∙ ap₂ (λ (a b : Option Picked). in_x or_in a or_in b) y z ∙ or_in_none in_x
+        fields ∙ ap₂ (λ (a b : OptionOf Picked). in_x or_in a or_in b) y z ∙ or_in_none in_x
 
     pub fields_second : second s kind ≤ place → place < third s kind → pick_head u place s ≡ in_y
     fields_second low h =
-        fields ∙ ap₂ (λ (a b : Option Picked). a or_in in_y or_in b) (x_past low) (z_before h) ∙ or_in_none in_y
+        fields ∙ ap₂ (λ (a b : OptionOf Picked). a or_in in_y or_in b) (x_past low) (z_before h) ∙ or_in_none in_y
 
     pub fields_third : third s kind ≤ place → pick_head u place s ≡ in_z
     fields_third low =
-        fields ∙ ap₂ (λ (a b : Option Picked). a or_in b or_in in_z) (x_past (omega (arith, noad_here.second_in))) (y_past low)
+        fields ∙ ap₂ (λ (a b : OptionOf Picked). a or_in b or_in in_z) (x_past (omega (arith, noad_here.second_in))) (y_past low)
 
 -- ---- an item without fields
 
@@ -476,5 +477,5 @@ module _ {u : Style} {place : ℕ} {s : List ℕ} {first end : ℕ} {current : S
         head = subst (HeadIs (pick_in u place (tree_of s)) v) back (head_as (sym d.is) h);
       }
     where
-      head_as : {want want' : Option Picked} {b : List ℕ} → want ≡ want' → HeadIs want v b → HeadIs want' v b
+      head_as : {want want' : OptionOf Picked} {b : List ℕ} → want ≡ want' → HeadIs want v b → HeadIs want' v b
       head_as e k = record { kind = k.kind; opens = k.opens; readable = k.readable; is = sym e ∙ k.is }

@@ -6,7 +6,8 @@
 -- Assumes nothing.
 use mathlib.Core.Path.{◌≡◌, sym, ap, subst, ◌∙◌}
 use mathlib.Core.List.{List, [], ◌∷◌}
-use mathlib.Core.Option.{Option, none, some}
+use Rattle.std.specs.Prelude.{Option, None}
+use mathlib.Core.Option.{Option as OptionOf, none, some}
 use Prim.Native.Nat.{ℕ, ◌-◌, ◌≤◌}
 use lib.ListN.{length, take, drop}
 use denote.Enum.Declared.{tag_of}
@@ -30,8 +31,7 @@ use Rattle.arrange.specs.declared.Manner.TheVariants.{Plain}
 use Rattle.arrange.specs.Arrange.{first_style, second_style, third_style, first_manner}
 use Rattle.arrange.specs.Reasons.{reasons}
 use Rattle.reasons.specs.Reasons.{Reasons}
-use Rattle.reasons.specs.declared.ItemReasons.{ItemReasons}
-use Rattle.reasons.specs.declared.ItemReasons.TheVariants.{Nothing}
+use Rattle.reasons.specs.declared.Reasons.{Reasons as CodeReasons}
 use Rattle.reasons.specs.Values.{item_reasons_as}
 use Rattle.setting.specs.Setting.{signs_in, set_field}
 use Rattle.setting.proofs.FieldAlone.{fields_there, fields_fit}
@@ -42,26 +42,12 @@ use Rattle.picking.specs.Picking.{Spotted, ThirdGiven, ShapeDone, HeadReasonsAre
 
 -- ---- what the walk asks of a field
 
-module _ {t u i j : List ℕ} {p : List (List ℕ)} {s : List ℕ} (given : ListGiven t u i j p s) {at at' : ℕ} (is : at ≡ at') where
-  pub field_given : GoodFieldAt s at' → at' ≤ length s → FieldGiven t u i j p s at
-  field_given good inside =
-      record {
-        tables_good = given.tables_good;
-        parameters_are = given.parameters_are;
-        good = rw is good;
-        inside = rw is inside;
-        short = given.short;
-      }
+module _ {s : List ℕ} (given : ListGiven s) {at at' : ℕ} (is : at ≡ at') where
+  pub field_given : GoodFieldAt s at' → at' ≤ length s → FieldGiven s at
+  field_given good inside = record { good = rw is good; inside = rw is inside; short = given.short }
 
-  pub third_given : (kind : Kind) → GoodThird s (has_third kind) at' → at' ≤ length s → ThirdGiven t u i j p kind s at
-  third_given kind good inside =
-      record {
-        tables_good = given.tables_good;
-        parameters_are = given.parameters_are;
-        good = rw is good;
-        inside = rw is inside;
-        short = given.short;
-      }
+  pub third_given : (kind : Kind) → GoodThird s (has_third kind) at' → at' ≤ length s → ThirdGiven kind s at
+  third_given kind good inside = record { good = rw is good; inside = rw is inside; short = given.short }
 
 -- ---- the reasons of an item
 
@@ -75,7 +61,7 @@ module _ (F : Font) (u : Style) (kind : Kind) (s : List ℕ) (opens : opening_of
   abbrev z_set : Shape
   z_set = (set_field F (third_style u) Plain (third_in s (has_third kind) (third s kind))).shape
 
-  pub head_reasons : (P : Parameters) (x y z : CodeShape) (signs : Signs) (found : ItemReasons) → P ≡ F.parameter →
+  pub head_reasons : (P : Parameters) (x y z : CodeShape) (signs : Signs) (found : Option CodeReasons) → P ≡ F.parameter →
       ShapeDone F (first_style kind u) (first_manner kind u) (opening_bytes kind) (field_in s (opening_bytes kind)) x →
       ShapeDone F (second_style kind u) Plain (second s kind) (field_in s (second s kind)) y →
       ShapeDone F (third_style u) Plain (third s kind) (third_in s (has_third kind) (third s kind)) z →
@@ -105,10 +91,10 @@ without_fields : (o : Opening) (kind : Kind) → NoFields o → o ≡ Fields kin
 without_fields o kind other e = miss (0 ∷ 2 ∷ 3 ∷ 4 ∷ []) 1 tt (subst NoFields e other)
 
 module _ (F : Font) (u : Style) (s : List ℕ) {o : Opening} (read : o ≡ opening_of s) where
-  pub no_fields : (found : ItemReasons) → NoFields o → ItemReasonsAre F u s found
+  pub no_fields : (found : Option CodeReasons) → NoFields o → ItemReasonsAre F u s found
   no_fields found other kind opens = absurd (without_fields o kind other (read ∙ opens))
 
-  pub same_fields : {kind : Kind} (found : ItemReasons) → o ≡ Fields kind → HeadReasonsAre F u kind s found → ItemReasonsAre F u s found
+  pub same_fields : {kind : Kind} (found : Option CodeReasons) → o ≡ Fields kind → HeadReasonsAre F u kind s found → ItemReasonsAre F u s found
   same_fields {kind} found is are other opens =
       let same : kind ≡ other = cc (sym is ∙ read ∙ opens) in
       subst (λ (k : Kind). HeadReasonsAre F u k s found) same are
@@ -116,14 +102,14 @@ module _ (F : Font) (u : Style) (s : List ℕ) {o : Opening} (read : o ≡ openi
 -- ---- the item that starts at a place
 
 module _ (F : Font) (u : Style) (place : ℕ) (s : List ℕ) where
-  by_pick : Option Picked → Option Reasons
+  by_pick : OptionOf Picked → OptionOf Reasons
   by_pick q = elim q [ none ↦ none | some x ↦ picked_reasons F x ]
 
-  pub place_without_reasons : pick_in u place (tree_of s) ≡ none → PlaceReasonsAre F u place (tree_of s) Nothing
+  pub place_without_reasons : pick_in u place (tree_of s) ≡ none → PlaceReasonsAre F u place (tree_of s) None
   unfolding reasons_at by_pick
   place_without_reasons e there fits = sym (ap by_pick e)
 
-  pub place_reasons : {v : Style} {end : ℕ} (found : ItemReasons) → Spotted (pick_in u place (tree_of s)) v place s end →
+  pub place_reasons : {v : Style} {end : ℕ} (found : Option CodeReasons) → Spotted (pick_in u place (tree_of s)) v place s end →
       ItemReasonsAre F v (take (end - place) (drop place s)) found → PlaceReasonsAre F u place (tree_of s) found
   unfolding reasons_at by_pick
   place_reasons found spot are there fits =

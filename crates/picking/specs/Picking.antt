@@ -6,9 +6,9 @@
 --     ShapeDone, HeadReasonsAre     the shape of a field; the reasons of the item at the head of some bytes
 -- Assumes nothing.
 use Rattle.std.specs.Prelude.{◌≡◌, true, false, List, ℕ, ◌+◌, ◌-◌, ◌≤◌, ◌<◌, leb, ltb, length, take, drop}
-use Rattle.std.proofs.Math.Option.{Option, none, some}
-use Rattle.font.specs.Font.{Font, font_with}
-use Rattle.font_index.specs.Index.{Indexed}
+use Rattle.std.specs.Prelude.{Option, Some, None}
+use Rattle.std.proofs.Math.Option.{Option as OptionOf, none, some}
+use Rattle.font.specs.Font.{Font}
 use Rattle.formula.specs.declared.Kind.{Kind}
 use Rattle.formula.specs.declared.Opening.TheVariants.{Fields}
 use Rattle.formula.specs.Tree.{Items, Field, opening_bytes}
@@ -17,10 +17,10 @@ use Rattle.formula.specs.Places.{Readable, tree_of, has_third, second, third, fi
 use Rattle.formula.specs.Format.{formula_limit}
 use Rattle.boxes.specs.declared.styles.Style.{Style}
 use Rattle.boxes.specs.declared.Shape.{Shape}
-use Rattle.boxes.specs.Values.{parameters_in, shape_as}
+use Rattle.boxes.specs.Values.{shape_as}
 use Rattle.boxes.specs.Bounds.{ModerateShape}
 use Rattle.arrange.specs.declared.Manner.{Manner}
-use Rattle.reasons.specs.declared.ItemReasons.{ItemReasons}
+use Rattle.reasons.specs.declared.Reasons.{Reasons}
 use Rattle.reasons.specs.Values.{item_reasons_as}
 use Rattle.setting.specs.Setting.{set_field}
 use Rattle.setting.specs.Missing.{missing_field, missing_items}
@@ -32,11 +32,10 @@ use Rattle.walk_looks.specs.Seen.{part}
 use Rattle.picking.specs.declared.Step.{Step}
 use Rattle.picking.specs.declared.Step.TheVariants as step
 use Rattle.picking.specs.declared.Spot.{Spot}
-use Rattle.picking.specs.declared.Spot.TheVariants as spot
 
 -- ---- a span of s, for a place of s
 
-abbrev pub pick_span : Style → ℕ → Span → List ℕ → Option Picked
+abbrev pub pick_span : Style → ℕ → Span → List ℕ → OptionOf Picked
 pick_span u place c s = if_reached (leb c.first place) (pick_in u (place - c.first) (tree_of (part c s)))
 
 pub record SpanIn (s : List ℕ) (c : Span) : Type 0 where
@@ -52,12 +51,12 @@ pub record HeldSpan (s : List ℕ) (at : ℕ) (c : Span) : Type 0 where
   pub picks : (u : Style) (place : ℕ) → pick_field u at place (field_in s at) ≡ pick_span u place c s
 
 -- into the items of a span, if the place is not before them
-unfoldable pub entered_of : Style → Span → ℕ → Step
-entered_of u c place = elim (ltb place c.first) [ true ↦ step.Nowhere | false ↦ step.Into u c.first c.end ]
+unfoldable pub entered_of : Style → Span → ℕ → Option Step
+entered_of u c place = elim (ltb place c.first) [ true ↦ None | false ↦ Some (step.Into u c.first c.end) ]
 
 -- ---- the item at the head of some bytes
 
-abbrev pub pick_head : Style → ℕ → List ℕ → Option Picked
+abbrev pub pick_head : Style → ℕ → List ℕ → OptionOf Picked
 pick_head u place s = pick_at u place (item_of s (opening_of s))
 
 -- one with fields
@@ -65,7 +64,7 @@ abbrev pub head_picked : Style → Kind → List ℕ → Picked
 head_picked u kind s =
     picked u kind (field_in s (opening_bytes kind)) (field_in s (second s kind)) (third_in s (has_third kind) (third s kind))
 
-pub record HeadIs (want : Option Picked) (u : Style) (s : List ℕ) : Type 0 where
+pub record HeadIs (want : OptionOf Picked) (u : Style) (s : List ℕ) : Type 0 where
   pub kind : Kind
   pub opens : opening_of s ≡ Fields kind
   pub readable : Readable s
@@ -73,7 +72,7 @@ pub record HeadIs (want : Option Picked) (u : Style) (s : List ℕ) : Type 0 whe
 
 -- ---- a step
 
-pub record Entered (want : Option Picked) (u : Style) (place : ℕ) (s : List ℕ) (c : Span) : Type 0 where
+pub record Entered (want : OptionOf Picked) (u : Style) (place : ℕ) (s : List ℕ) (c : Span) : Type 0 where
   pub reached : c.first ≤ place
   pub span : SpanIn s c
   pub is : want ≡ pick_in u (place - c.first) (tree_of (part c s))
@@ -81,42 +80,40 @@ pub record Entered (want : Option Picked) (u : Style) (place : ℕ) (s : List �
 abbrev pub span_of : ℕ → ℕ → Span
 span_of first end = record { first = first; end = end }
 
-abbrev pub StepDone : Option Picked → ℕ → List ℕ → Step → Type 0
-StepDone want place s step.Nowhere = want ≡ none
-StepDone want place s (step.Here u) = (place < length s) × HeadIs want u (drop place s)
-StepDone want place s (step.Into u first end) = Entered want u place s (span_of first end)
+abbrev pub StepDone : OptionOf Picked → ℕ → List ℕ → Option Step → Type 0
+StepDone want place s None = want ≡ none
+StepDone want place s (Some (step.Here u)) = (place < length s) × HeadIs want u (drop place s)
+StepDone want place s (Some (step.Into u first end)) = Entered want u place s (span_of first end)
 
 -- the same step, where so many bytes stand before
-abbrev pub behind_of : ℕ → Step → Step
-behind_of n step.Nowhere = step.Nowhere
-behind_of n (step.Here u) = step.Here u
-behind_of n (step.Into u first end) = step.Into u (n + first) (n + end)
+abbrev pub behind_of : ℕ → Option Step → Option Step
+behind_of n None = None
+behind_of n (Some (step.Here u)) = Some (step.Here u)
+behind_of n (Some (step.Into u first end)) = Some (step.Into u (n + first) (n + end))
 
-abbrev pub ShortStep : ℕ → Step → Type 0
-ShortStep n step.Nowhere = Unit {0}
-ShortStep n (step.Here u) = Unit {0}
-ShortStep n (step.Into u first end) = (first ≤ end) × (n + end ≤ formula_limit)
+abbrev pub ShortStep : ℕ → Option Step → Type 0
+ShortStep n None = Unit {0}
+ShortStep n (Some (step.Here u)) = Unit {0}
+ShortStep n (Some (step.Into u first end)) = (first ≤ end) × (n + end ≤ formula_limit)
 
 -- ---- the item that is picked
 
-pub record Spotted (want : Option Picked) (u : Style) (place : ℕ) (s : List ℕ) (end : ℕ) : Type 0 where
+pub record Spotted (want : OptionOf Picked) (u : Style) (place : ℕ) (s : List ℕ) (end : ℕ) : Type 0 where
   pub low : place < end
   pub inside : end ≤ length s
   pub head : HeadIs want u (take (end - place) (drop place s))
 
-abbrev pub PickedBy : Option Picked → ℕ → List ℕ → Spot → Type 0
-PickedBy want place s spot.Nowhere = want ≡ none
-PickedBy want place s (spot.Item u end) = Spotted want u place s end
+abbrev pub PickedBy : OptionOf Picked → ℕ → List ℕ → Option Spot → Type 0
+PickedBy want place s None = want ≡ none
+PickedBy want place s (Some r) = Spotted want r.style place s r.end
 
-abbrev pub PickDone : Style → ℕ → List ℕ → Spot → Type 0
+abbrev pub PickDone : Style → ℕ → List ℕ → Option Spot → Type 0
 PickDone u place s r = PickedBy (pick_in u place (tree_of s)) place s r
 
 -- ---- its reasons
 
 -- what is given for a third field that may be there
-pub record ThirdGiven (t u i j : List ℕ) (p : List (List ℕ)) (kind : Kind) (s : List ℕ) (at : ℕ) : Type 0 where
-  pub tables_good : Indexed t u i j
-  pub parameters_are : parameters_in p ≡ (font_with t u).parameter
+pub record ThirdGiven (kind : Kind) (s : List ℕ) (at : ℕ) : Type 0 where
   pub good : GoodThird s (has_third kind) at
   pub inside : at ≤ length s
   pub short : length s ≤ formula_limit
@@ -126,13 +123,13 @@ pub record ShapeDone (F : Font) (u : Style) (manner : Manner) (at : ℕ) (f : Fi
   pub moderate : ModerateShape r
   pub is : missing_field F u manner at f ≡ none → field_fits F u manner f ≡ true → shape_as r ≡ (set_field F u manner f).shape
 
-abbrev pub HeadReasonsAre : Font → Style → Kind → List ℕ → ItemReasons → Type 0
+abbrev pub HeadReasonsAre : Font → Style → Kind → List ℕ → Option Reasons → Type 0
 HeadReasonsAre F u kind s r = Sound F (head_picked u kind s) → item_reasons_as r ≡ picked_reasons F (head_picked u kind s)
 
-abbrev pub ItemReasonsAre : Font → Style → List ℕ → ItemReasons → Type 0
+abbrev pub ItemReasonsAre : Font → Style → List ℕ → Option Reasons → Type 0
 ItemReasonsAre F u s r = (kind : Kind) → opening_of s ≡ Fields kind → HeadReasonsAre F u kind s r
 
 -- the item that starts at a place of a list, if nothing is missing of the list and all in it fits
-abbrev pub PlaceReasonsAre : Font → Style → ℕ → Items → ItemReasons → Type 0
+abbrev pub PlaceReasonsAre : Font → Style → ℕ → Items → Option Reasons → Type 0
 PlaceReasonsAre F u place l r =
     missing_items F u l ≡ none → items_fit F u l ≡ true → item_reasons_as r ≡ reasons_at F u place l

@@ -24,15 +24,14 @@ use walk_looks::places::look_at;
 
 // An item with fields that is set in a style, and the end of the list that holds it.
 #[derive(Clone, Copy)]
-enum Spot {
-    Nowhere,
-    Item(Style, usize),
+struct Spot {
+    style: Style,
+    end: usize,
 }
 
 // Where the look leads from a list, or from an item at its head.
 #[derive(Clone, Copy)]
 enum Step {
-    Nowhere,
     // The place is the first byte of an item in this style.
     Here(Style),
     // It lies in a list that starts in this style, from its first item to its end, or behind that.
@@ -40,7 +39,7 @@ enum Step {
 }
 
 // The item that starts at a place of the list s, which starts in a style.
-fn pick(style: Style, place: usize, s: &[u8]) -> Spot
+fn pick(style: Style, place: usize, s: &[u8]) -> Option<Spot>
     requires { tree.Readable s.now × (length s.now ≤ formula_limit) }
     ensures { PickDone style place s.now result }
 {
@@ -48,15 +47,10 @@ fn pick(style: Style, place: usize, s: &[u8]) -> Spot
     let mut end = s.len();
     let mut current = style;
     loop {
-        let step = step_in(current, place - first, &s[first..end]);
-        match step {
-            Step::Nowhere => {
-                return Spot::Nowhere;
-            }
-            Step::Here(found) => {
-                return Spot::Item(found, end);
-            }
-            Step::Into(inner, from, to) => {
+        match step_in(current, place - first, &s[first..end]) {
+            None => return None,
+            Some(Step::Here(style)) => return Some(Spot { style, end }),
+            Some(Step::Into(inner, from, to)) => {
                 current = inner;
                 end = first + to;
                 first += from;
@@ -66,59 +60,61 @@ fn pick(style: Style, place: usize, s: &[u8]) -> Spot
 }
 
 // From a list: to the item in which the place lies.
-fn step_in(style: Style, place: usize, s: &[u8]) -> Step
+fn step_in(style: Style, place: usize, s: &[u8]) -> Option<Step>
     requires { tree.Readable s.now × (length s.now ≤ formula_limit) }
     ensures { StepDone (pick_in style place (tree.tree_of s.now)) place s.now result }
 {
     let mut at: usize = 0;
     let mut current = style;
+    // Each step is as long as the item that it passes.
     while at < s.len() {
         let sight = look_at(current, &s[at..]);
         let next = at + sight.bytes;
         if place < next {
             return behind(at, step_at(current, place - at, &s[at..]));
         }
-        let style_behind = sight.style;
-        current = style_behind;
+        current = sight.style;
         at = next;
     }
-    Step::Nowhere
+    None
 }
 
 // A step from an item, as one from the list in which so many bytes stand before the item.
-fn behind(before: usize, step: Step) -> Step
+fn behind(before: usize, step: Option<Step>) -> Option<Step>
     requires { ShortStep before step }
     ensures { result ≡ behind_of before step }
 {
     match step {
-        Step::Nowhere => Step::Nowhere,
-        Step::Here(style) => Step::Here(style),
-        Step::Into(style, first, end) => Step::Into(style, before + first, before + end),
+        Some(Step::Into(style, first, end)) => Some(Step::Into(
+            style,
+            before + first,
+            before + end,
+        )),
+        _ => step,
     }
 }
 
 // From the item at the head of s, in which the place lies.
-fn step_at(style: Style, place: usize, s: &[u8]) -> Step
+fn step_at(style: Style, place: usize, s: &[u8]) -> Option<Step>
     requires { tree.Readable s.now × (length s.now ≤ formula_limit) × (0 < length s.now) × (place < tree.item_size s.now (opening_of s.now)) }
     ensures { StepDone (pick_head style place s.now) place s.now result }
 {
-    let o = opening(s);
-    match o {
-        Opening::NoItem => Step::Nowhere, // not in a list that reads
+    match opening(s) {
+        Opening::NoItem => None, // not in a list that reads
         Opening::Fields(kind) => step_from(style, kind, place, s),
-        Opening::Kern(_) => Step::Nowhere,
-        Opening::Restyle(_) => Step::Nowhere,
+        Opening::Kern(_) => None,
+        Opening::Restyle(_) => None,
         Opening::Choice => entered(style, taken_span(style, s), place),
     }
 }
 
 // From an item with fields.
-fn step_from(style: Style, kind: Kind, place: usize, s: &[u8]) -> Step
+fn step_from(style: Style, kind: Kind, place: usize, s: &[u8]) -> Option<Step>
     requires { tree.Readable s.now × (length s.now ≤ formula_limit) × (opening_of s.now ≡ Fields kind) × (place < tree.end s.now kind) }
     ensures { StepDone (pick_head style place s.now) place s.now result }
 {
     if place == 0 {
-        return Step::Here(style);
+        return Some(Step::Here(style));
     }
     let x = held(s, opening_bytes(kind));
     if place < x.end {
@@ -131,7 +127,7 @@ fn step_from(style: Style, kind: Kind, place: usize, s: &[u8]) -> Step
     if has_third(kind) {
         return entered(third_style(style), held(s, y.end), place);
     }
-    Step::Nowhere
+    None
 }
 
 // The items of the field whose kind byte stands at a place of s, up to the field's end; one that is no list has none.
@@ -151,11 +147,11 @@ fn held(s: &[u8], at: usize) -> Span
 }
 
 // Into the items of a span, if the place is not before them.
-fn entered(style: Style, span: Span, place: usize) -> Step
+fn entered(style: Style, span: Span, place: usize) -> Option<Step>
     ensures { result ≡ entered_of style span place }
 {
     if place < span.first {
-        return Step::Nowhere;
+        return None;
     }
-    Step::Into(style, span.first, span.end)
+    Some(Step::Into(style, span.first, span.end))
 }

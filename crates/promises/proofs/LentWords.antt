@@ -1,5 +1,5 @@
 -- The words that a call is lent for the indexes (change request 9), of a formula and of a list between any two sides. What measuring leaves
--- is `measuring_leaves` (answers/specs/LentLaws.antt).
+-- is `measuring_leaves` (answers/proofs/LentLaws.antt).
 --     setting_leaves, why_leaves    setting and asking why leave the words for both indexes as measuring does, on 7 and on 9 too
 --                                   (`unpicked_leaves`)
 --     words_last, words_settle      what a call has built is left as it is by any later call with the same tables, and what any call has left

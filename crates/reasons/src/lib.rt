@@ -8,6 +8,7 @@ ghost use Rattle.reasons.specs.Values.{shift_reason_as};
 
 use scaled::Sp;
 
+// None stands here and not in an Option, since the definitions of reasons and of their stages take it as one of the quantities.
 #[derive(Clone, Copy)]
 pub enum Reason {
     None,
@@ -33,13 +34,6 @@ pub struct Reasons {
     pub down: ShiftReason,
 }
 
-// Of an item, where it has such shifts.
-#[derive(Clone, Copy)]
-pub enum ItemReasons {
-    Nothing,
-    By(Reasons),
-}
-
 // A shift that is not there.
 pub fn unshifted() -> ShiftReason
     ensures { shift_reason_as result ≡ rule.unshifted }
@@ -51,21 +45,13 @@ pub fn unshifted() -> ShiftReason
 }
 
 // A stage that comes to this shift is named exactly if it changed the one before it.
+#[tactic(auto, unfolding(crate::specs::Reasons::corrected))]
 pub fn corrected(name: Reason, shift: Sp, before: ShiftReason) -> ShiftReason
     ensures { shift_reason_as result ≡ rule.corrected name shift.0 (shift_reason_as before) }
 {
-    if differs(shift, before.shift) {
+    if shift != before.shift {
         ShiftReason { by: name, shift }
     } else {
         before
     }
-}
-
-fn differs(a: Sp, b: Sp) -> bool
-    ensures { result ≡ rule.differs a.0 b.0 }
-{
-    if a.less(b) {
-        return true;
-    }
-    b.less(a)
 }

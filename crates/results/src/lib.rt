@@ -7,8 +7,8 @@ ghost use Rattle.std.specs.Prelude.{◌≡◌};
 ghost use Rattle.results.specs.Results.{accepted, refusal};
 ghost use Rattle.results.specs.Values.{report_as};
 
-// An answer's number, its place, and how many bytes were written.
-#[derive(Clone, Copy)]
+// An answer's number, its place, and how many bytes were written: the words that C gets, so no Result.
+#[derive(Clone, Copy, PartialEq, Eq)]
 pub struct Report {
     pub number: u8,
     pub place: usize,

@@ -13,8 +13,8 @@ use Rattle.boxes.specs.declared.styles.Style.{Style}
 use Rattle.boxes.specs.Styles.{is_display, font_size}
 use Rattle.boxes.specs.Parameters.{Parameters, x_height, rule_thickness}
 use Rattle.boxes.specs.Boxes.{Size}
-use Rattle.boxes.specs.Holding.{Upright, Holds, rule_size}
-use Rattle.roots.specs.Roots.{least_clearance, clearance, Radical, rooted, root}
+use Rattle.boxes.specs.Holding.{Upright}
+use Rattle.roots.specs.Roots.{least_clearance, clearance, rooted, root}
 use Rattle.roots.specs.HoldingLaws.{RadicalHolds}
 
 -- ψ is not negative

@@ -11,8 +11,8 @@ ghost use Rattle.roots.specs.Roots as rule;
 ghost use Rattle.roots.specs.Values.{radical_as};
 ghost use Rattle.roots.specs.Bounds.{ModerateRadical};
 
-use boxes::parameters::{Parameters, RULE_THICKNESS, X_HEIGHT, parameter};
-use boxes::styles::{Style, font_size, is_display};
+use boxes::parameters::{Dimension, Parameters, parameter};
+use boxes::styles::{Style, is_display};
 use boxes::{Offset, Rule, Size};
 use scaled::Sp;
 
@@ -33,9 +33,10 @@ pub fn sign_extent(p: &Parameters, style: Style, x: Size) -> Sp
     x.height
         .plus(x.depth)
         .plus(least_clearance(p, style))
-        .plus(parameter(p, font_size(style), RULE_THICKNESS))
+        .plus(parameter(p, style, Dimension::RuleThickness))
 }
 
+#[tactic(auto, unfolding(crate::specs::Roots::root))]
 pub fn root(p: &Parameters, style: Style, x: Size, y: Size) -> Radical
     requires { Moderate x × Moderate y }
     ensures { (radical_as result ≡ rule.root (parameters_in p.now) style (size_as x) (size_as y)) × ModerateRadical result }
@@ -44,25 +45,26 @@ pub fn root(p: &Parameters, style: Style, x: Size, y: Size) -> Radical
 }
 
 // ψ at first.
+#[tactic(auto, unfolding(scaled::specs::Length::pick))]
 fn least_clearance(p: &Parameters, style: Style) -> Sp
     ensures { (result.0 ≡ least_clearance (parameters_in p.now) style) × Within (words 2) result.0 }
 {
-    let size = font_size(style);
-    let theta = parameter(p, size, RULE_THICKNESS);
+    let theta = parameter(p, style, Dimension::RuleThickness);
     if is_display(style) {
-        theta.plus(parameter(p, size, X_HEIGHT).quarter())
+        theta.plus(parameter(p, style, Dimension::XHeight).quarter())
     } else {
         theta.plus(theta.quarter())
     }
 }
 
 // ψ grows by half of the excess where the sign is deeper than the nucleus with ψ above it.
+#[tactic(auto, unfolding(scaled::specs::Length::pick))]
 fn clearance(psi: Sp, x: Size, y: Size) -> Sp
     requires { Within (words 2) psi.0 × Moderate x × Moderate y }
     ensures { (result.0 ≡ rule.clearance psi.0 (size_as x) (size_as y)) × Within (words 3) result.0 }
 {
     let excess = y.depth.minus(x.height.plus(x.depth).plus(psi));
-    if Sp(0).less(excess) {
+    if excess > Sp(0) {
         psi.plus(excess.half())
     } else {
         psi
@@ -75,21 +77,24 @@ fn rooted(psi: Sp, x: Size, y: Size) -> Radical
     ensures { (radical_as result ≡ rule.rooted psi.0 (size_as x) (size_as y)) × ModerateRadical result }
 {
     let up = x.height.plus(psi);
-    let across = y.width;
-    let width = x.width;
-    let thickness = y.height;
     Radical {
         size: Size {
-            width: across.plus(width),
-            height: up.plus(thickness).plus(thickness),
+            width: y.width.plus(x.width),
+            height: up.plus(y.height).plus(y.height),
             depth: x.depth.max(y.depth.minus(up)),
         },
         sign: Offset { across: Sp(0), up },
         rule: Rule {
-            corner: Offset { across, up },
-            width,
-            thickness,
+            corner: Offset {
+                across: y.width,
+                up,
+            },
+            width: x.width,
+            thickness: y.height,
         },
-        nucleus: Offset { across, up: Sp(0) },
+        nucleus: Offset {
+            across: y.width,
+            up: Sp(0),
+        },
     }
 }

@@ -7,15 +7,12 @@
 --     within_by               the value is within a bound
 --     eq_by, le_by            an equation, an order
 -- Assumes nothing.
-use Rattle.std.specs.Prelude.{◌≡◌, ℕ, ◌+◌, ◌-◌, ◌*◌, ◌/◌, ◌^◌, ◌≤◌, ◌<◌, max, min, ℤ, pos, neg_ℤ, ◌+ℤ◌, ◌-ℤ◌, ◌*ℤ◌, ◌≤ℤ◌}
-use Rattle.std.proofs.Common.{arith, SFits, to_z, of_z}
+use Rattle.std.specs.Prelude.{ℕ, ◌+◌, ◌-◌, ◌*◌, ◌/◌, ◌^◌, ◌≤◌, ◌<◌, max, min, ℤ, pos, neg_ℤ, ◌+ℤ◌, ◌-ℤ◌, ◌*ℤ◌}
+use Rattle.std.proofs.Common.{to_z, of_z}
 use Rattle.std.specs.Int.Signed.{shr_z, quot_z}
 use Rattle.std.specs.Int.{w64}
-use Rattle.std.proofs.lemmas.Int.{to_z_pos, to_z-of_z}
 use Rattle.scaled.specs.Length.{max_ℤ, min_ℤ, half, units_in_quad, at_quad}
-use Rattle.scaled.specs.Signed.{above, below, Within, DifferenceOf, own, parts_is, parts_same, parts_le}
-use Rattle.scaled.specs.Signed.{parts_add, parts_sub, parts_neg, parts_times, parts_product, parts_max, parts_min}
-use Rattle.scaled.specs.Signed.{parts_half, parts_floor, parts_units, fits_parts, quot_floor}
+use Rattle.scaled.specs.Signed.{above, below}
 
 infixl 6 ◌⊕◌ ◌⊖◌
 pub data Exp : Type 0 where

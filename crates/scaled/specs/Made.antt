@@ -8,12 +8,12 @@
 --     Less          a test, and what it says by the parts; `less` makes it
 --     pick_yes, pick_no     a choice whose test is known
 -- Assumes nothing.
-use Rattle.std.specs.Prelude.{◌≡◌, Bool, true, false, ℕ, ◌+◌, ◌*◌, ◌/◌, ◌^◌, ◌≤◌, ◌<◌, ℤ, pos, negsuc}
-use Rattle.std.proofs.Common.{arith, le_refl, ltb-true, ltb-false}
+use Rattle.std.specs.Prelude.{◌≡◌, Bool, true, false, ℕ, ◌+◌, ◌^◌, ◌≤◌, ◌<◌, ℤ, pos}
+use Rattle.std.proofs.Common.{ltb-true, ltb-false}
 use Rattle.std.specs.Int.Signed.{lt_z}
-use Rattle.scaled.specs.Length.{pick, at_quad, units_in_quad}
-use Rattle.scaled.specs.Signed.{above, below, Within, NotNegative, own, lt_test, parts_is, parts_same, within_times}
-use Rattle.scaled.specs.Linear.{Exp, #, ◌⊕◌, ◌⊖◌, neg, times, greatest, least, halved, floor, units, den, hi, lo, Ok}
+use Rattle.scaled.specs.Length.{pick}
+use Rattle.scaled.specs.Signed.{above, below, own, lt_test}
+use Rattle.scaled.specs.Linear.{Exp, #, ◌⊕◌, ◌⊖◌, neg, times, greatest, least, halved, floor, units, den, hi, lo}
 
 -- 255 times that fits 64 bits, and the sum of 131,072 lengths of 2 ^ 33 each is within it
 abbrev pub reach : ℕ

@@ -10,21 +10,14 @@ ghost use Rattle.scaled.specs.Signed.{Within, NotNegative};
 ghost use Rattle.scaled.specs.Made.{reach, Sum, Difference, Negation, Multiple, Half, Floor, Greatest, Least, FromWord, AtQuad, Less};
 
 // Scaled points, 65,536 to the point.
-#[derive(Clone, Copy)]
+#[derive(Clone, Copy, PartialEq, Eq, PartialOrd, Ord)]
 pub struct Sp(pub i64);
 
 // Math units: a unit has a length only at a quad.
-#[derive(Clone, Copy)]
+#[derive(Clone, Copy, PartialEq, Eq, PartialOrd, Ord)]
 pub struct Mu(pub i64);
 
 impl Sp {
-    // A length from a table's word.
-    pub fn of_word(w: u32) -> Sp
-        ensures { FromWord w result.0 }
-    {
-        Sp(w as i64)
-    }
-
     pub fn plus(self, o: Sp) -> Sp
         requires { Within reach self.0 × Within reach o.0 }
         ensures { Sum self.0 o.0 result.0 }
@@ -87,19 +80,27 @@ impl Sp {
     pub fn less(self, o: Sp) -> bool
         ensures { Less self.0 o.0 result }
     {
-        self.0 < o.0
+        self < o
     }
 
     pub fn max(self, o: Sp) -> Sp
         ensures { Greatest self.0 o.0 result.0 }
     {
-        if self.less(o) { o } else { self }
+        Ord::max(self, o)
     }
 
     pub fn min(self, o: Sp) -> Sp
         ensures { Least self.0 o.0 result.0 }
     {
-        if o.less(self) { o } else { self }
+        Ord::min(self, o)
+    }
+}
+
+impl From<u32> for Sp {
+    fn from(w: u32) -> Sp
+        ensures { FromWord w result.0 }
+    {
+        Sp(i64::from(w))
     }
 }
 

@@ -13,7 +13,7 @@ ghost use Rattle.nucleus.specs.Bounds.{ModerateNucleus};
 
 use boxes::parameters::Parameters;
 use boxes::styles::Style;
-use boxes::{Arranged, Offset, Script, Size, origin};
+use boxes::{Arranged, Offset, Size, origin};
 use nucleus::Nucleus;
 use scaled::Sp;
 use script_shifts::{pair_shifts, subscript_candidates, superscript_candidates};
@@ -22,28 +22,26 @@ use scripts::greatest;
 // The blank behind each script.
 const SCRIPT_SPACE: i64 = 32768;
 
+#[tactic(auto, unfolding(scripts::specs::Scripts::scripted))]
 pub fn scripted(
     p: &Parameters,
     style: Style,
     n: Nucleus,
-    superscript: Script,
-    subscript: Script,
+    superscript: Option<Size>,
+    subscript: Option<Size>,
 ) -> Arranged
     requires { ModerateNucleus n × ModerateScript superscript × ModerateScript subscript }
     ensures { (arranged_as result ≡ rule.scripted (parameters_in p.now) style (nucleus_as n) (script_as superscript) (script_as subscript)) × Bounded result }
 {
-    match superscript {
-        Script::Absent => match subscript {
-            Script::Absent => without_scripts(n),
-            Script::Given(y) => with_subscript(p, style, n, y),
-        },
-        Script::Given(x) => match subscript {
-            Script::Absent => with_superscript(p, style, n, x),
-            Script::Given(y) => with_pair(p, style, n, x, y),
-        },
+    match (superscript, subscript) {
+        (None, None) => without_scripts(n),
+        (Some(x), None) => with_superscript(p, style, n, x),
+        (None, Some(y)) => with_subscript(p, style, n, y),
+        (Some(x), Some(y)) => with_pair(p, style, n, x, y),
     }
 }
 
+#[tactic(auto, unfolding(scripts::specs::Scripts::reach))]
 fn without_scripts(n: Nucleus) -> Arranged
     requires { ModerateNucleus n }
     ensures { (arranged_as result ≡ without_scripts (nucleus_as n)) × Bounded result }
@@ -56,8 +54,11 @@ fn with_superscript(p: &Parameters, style: Style, n: Nucleus, x: Size) -> Arrang
     ensures { (arranged_as result ≡ with_superscript (nucleus_as n) (size_as x) (superscript_up (parameters_in p.now) style (nucleus_as n) (size_as x))) × Bounded result }
 {
     let up = greatest(superscript_candidates(p, style, n, x));
-    let across = n.size.width;
-    alone(n, x, Offset { across, up }, origin(), up)
+    let place = Offset {
+        across: n.size.width,
+        up,
+    };
+    alone(n, x, place, origin(), up)
 }
 
 fn with_subscript(p: &Parameters, style: Style, n: Nucleus, y: Size) -> Arranged
@@ -65,11 +66,15 @@ fn with_subscript(p: &Parameters, style: Style, n: Nucleus, y: Size) -> Arranged
     ensures { (arranged_as result ≡ with_subscript (nucleus_as n) (size_as y) (subscript_down (parameters_in p.now) style (nucleus_as n) (size_as y))) × Bounded result }
 {
     let up = greatest(subscript_candidates(p, style, n, y)).negated();
-    let across = n.size.width;
-    alone(n, y, origin(), Offset { across, up }, up)
+    let place = Offset {
+        across: n.size.width,
+        up,
+    };
+    alone(n, y, origin(), place, up)
 }
 
 // One script z, its baseline up from the nucleus's: down where that is negative.
+#[tactic(auto, unfolding(scripts::specs::Scripts::reach))]
 fn alone(n: Nucleus, z: Size, second: Offset, third: Offset, up: Sp) -> Arranged
     requires { ModerateNucleus n × Moderate z × OffsetWithin item_words second × OffsetWithin item_words third × Within (words 8) up.0 }
     ensures { (arranged_as result ≡ rule.alone (nucleus_as n) (size_as z) (offset_as second) (offset_as third) up.0) × Bounded result }
@@ -86,20 +91,16 @@ fn with_pair(p: &Parameters, style: Style, n: Nucleus, x: Size, y: Size) -> Arra
     ensures { (arranged_as result ≡ with_pair (nucleus_as n) (size_as x) (size_as y) (pair_shifts (parameters_in p.now) style (nucleus_as n) (size_as x) (size_as y))) × Bounded result }
 {
     let t = pair_shifts(p, style, n, x, y);
-    let up = t.up;
-    let second = Offset {
-        across: n.size.width.plus(n.delta),
-        up,
-    };
-    let across = n.size.width;
-    let third = Offset {
-        across,
-        up: t.down.negated(),
-    };
     assembled(
         n,
-        second,
-        third,
+        Offset {
+            across: n.size.width.plus(n.delta),
+            up: t.up,
+        },
+        Offset {
+            across: n.size.width,
+            up: t.down.negated(),
+        },
         pair_width(n, x, y),
         pair_reach(x.height, t.up, y.height, t.down),
         pair_reach(y.depth, t.down, x.depth, t.up),
@@ -117,6 +118,7 @@ fn pair_width(n: Nucleus, x: Size, y: Size) -> Sp
 }
 
 // How far a pair reaches to the side that one script is shifted toward, and the other away from.
+#[tactic(auto, unfolding(scripts::specs::Scripts::reach))]
 fn pair_reach(near: Sp, toward: Sp, far: Sp, away: Sp) -> Sp
     requires { Within (words 1) near.0 × Within (words 24) toward.0 × Within (words 1) far.0 × Within (words 24) away.0 }
     ensures { (result.0 ≡ pair_reach near.0 toward.0 far.0 away.0) × Within (words item_words) result.0 }
@@ -129,17 +131,15 @@ fn assembled(n: Nucleus, second: Offset, third: Offset, w: Sp, top: Sp, bottom: 
     requires { ModerateNucleus n × OffsetWithin item_words second × OffsetWithin item_words third × Within (words 4) w.0 × Within (words item_words) top.0 × Within (words item_words) bottom.0 }
     ensures { (arranged_as result ≡ rule.assembled (nucleus_as n) (offset_as second) (offset_as third) w.0 top.0 bottom.0) × Bounded result }
 {
-    let first = n.first;
-    let own = n.own;
     Arranged {
         size: Size {
             width: n.size.width.plus(w),
             height: n.size.height.max(top),
             depth: n.size.depth.max(bottom),
         },
-        first,
+        first: n.first,
         second,
         third,
-        own,
+        own: n.own,
     }
 }

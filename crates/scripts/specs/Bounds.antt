@@ -1,15 +1,14 @@
 -- How far from zero candidates for a shift lie, in words of the font table.
 -- Assumes nothing.
-use Rattle.std.specs.Prelude.{ℕ}
+use Rattle.std.specs.Prelude.{ℕ, Option, Some, None}
+use Rattle.scaled.specs.declared.Sp.{Sp}
 use Rattle.scaled.specs.Signed.{Within}
 use Rattle.boxes.specs.Bounds.{words}
-use Rattle.scripts.specs.declared.Free.{Free}
-use Rattle.scripts.specs.declared.Free.TheVariants.{Unasked, Asked}
 use Rattle.scripts.specs.declared.Candidates.{Candidates}
 
-abbrev pub FreeWithin : ℕ → Free → Type 0
-FreeWithin k Unasked = Unit {0}
-FreeWithin k (Asked z) = Within (words k) z.0
+abbrev pub FreeWithin : ℕ → Option Sp → Type 0
+FreeWithin k None = Unit {0}
+FreeWithin k (Some z) = Within (words k) z.0
 
 pub record CandidatesWithin (k : ℕ) (c : Candidates) : Type 0 where
   pub dropped : Within (words k) c.dropped.0

@@ -14,12 +14,13 @@ ghost use Rattle.boxes.specs.Bounds.{words, ShiftsWithin};
 ghost use Rattle.nucleus.specs.Bounds.{ModerateNucleus};
 
 use boxes::Shifts;
-use boxes::parameters::{Parameters, SUB_DROP, SUP_DROP, parameter};
-use boxes::styles::{Style, font_size, superscript_style};
+use boxes::parameters::{Dimension, Parameters, parameter};
+use boxes::styles::{Style, superscript_style};
 use nucleus::Nucleus;
 use scaled::Sp;
 
 // 18a: the shifts that a nucleus which is no plain symbol asks for, at the size of the superscript's style.
+#[tactic(auto, unfolding(crate::specs::Scripts::drops))]
 pub fn drops(p: &Parameters, style: Style, n: Nucleus) -> Shifts
     requires { ModerateNucleus n }
     ensures { (shifts_as result ≡ rule.drops (parameters_in p.now) style (nucleus_as n)) × ShiftsWithin 8 result }
@@ -30,10 +31,10 @@ pub fn drops(p: &Parameters, style: Style, n: Nucleus) -> Shifts
             down: Sp(0),
         };
     }
-    let size = font_size(superscript_style(style));
+    let style = superscript_style(style);
     Shifts {
-        up: n.size.height.minus(parameter(p, size, SUP_DROP)),
-        down: n.size.depth.plus(parameter(p, size, SUB_DROP)),
+        up: n.size.height.minus(parameter(p, style, Dimension::SupDrop)),
+        down: n.size.depth.plus(parameter(p, style, Dimension::SubDrop)),
     }
 }
 
@@ -44,33 +45,28 @@ pub struct Candidates {
     pub dropped: Sp,
     // The font's least shift.
     pub least: Sp,
-    pub free: Free,
+    // What keeps the script's other edge free, where a rule asks for that.
+    pub free: Option<Sp>,
 }
 
-// What keeps the script's other edge free, where a rule asks for that.
-#[derive(Clone, Copy)]
-pub enum Free {
-    Unasked,
-    Asked(Sp),
-}
-
+#[tactic(auto, unfolding(crate::specs::Scripts::greatest))]
 pub fn greatest(c: Candidates) -> Sp
     ensures { (result.0 ≡ rule.greatest (candidates_as c)) × (CandidatesWithin 8 c → Within (words 8) result.0) }
 {
     let shift = c.dropped.max(c.least);
-    let free = c.free;
-    match free {
-        Free::Unasked => shift,
-        Free::Asked(edge) => shift.max(edge),
+    match c.free {
+        None => shift,
+        Some(edge) => shift.max(edge),
     }
 }
 
 // 18e: both go up by ψ, if it is positive.
+#[tactic(auto, unfolding(crate::specs::Scripts::lifted))]
 pub fn lifted(psi: Sp, t: Shifts) -> Shifts
     requires { Within (words 10) psi.0 × ShiftsWithin 14 t }
     ensures { (shifts_as result ≡ rule.lifted psi.0 (shifts_as t)) × ShiftsWithin 24 result }
 {
-    if Sp(0).less(psi) {
+    if psi > Sp(0) {
         Shifts {
             up: t.up.plus(psi),
             down: t.down.minus(psi),

@@ -21,7 +21,7 @@ use Rattle.setting.specs.Setting.{no_sides, set_items, set_list}
 use Rattle.setting.specs.Missing.{missing_items}
 use Rattle.setting.specs.Fitting.{box_fits, items_fit, list_fits}
 use Rattle.answers.specs.Lent.{Lent, enough}
-use Rattle.answers.specs.Answers.{Result, refused, accepted_number, style_number, table_number, client_number, index_number, fault_number, if_fits, if_present, if_read, if_enough, if_client, if_good, if_style, result_between, result_of, Answered, refusal, measured_by, measured_between, measured, set_by, setting_between, setting, buffer_by, buffer_between, buffer_after}
+use Rattle.answers.specs.Answers.{Result, refused, accepted_number, style_number, table_number, client_number, index_number, fault_number, if_fits, if_present, if_read, if_enough, if_client, if_good, if_style, result_between, Answered, refusal, measured_by, measured_between, measured, set_by, setting_between, setting, buffer_by, buffer_between, buffer_after}
 
 -- ---- what is answered
 

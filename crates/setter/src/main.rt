@@ -10,8 +10,7 @@ ghost use Rattle.setter.specs.Thin.{thin_setting, thin_buffer};
 
 use files::{CLIENT_SPACE, TABLE_SPACE, read_full, read_table};
 use font_index::INDEX_WORDS;
-use layout_answers::Answer;
-use layout_answers::report::report_of;
+use layout_answers::{Answer, Refusal};
 use std::io::Result;
 
 // The longest formula that the program takes. The library takes longer ones.
@@ -35,17 +34,17 @@ fn main(rt: HostRuntime) -> Result<()> {
 
 // Without a style there is no style that is known.
 fn show<'a>(out: &impl Print, table: &'a [u8], client: &'a [u8], input: &[u8]) -> Result<()> {
-    if input.len() == 0 {
-        return listing::write_answer(out, Answer::NoStyle, input);
-    }
+    let Some((style, formula)) = input.split_first() else {
+        return listing::write_answer(out, Err(Refusal::NoStyle), input);
+    };
     let mut nodes = [0u8; NODE_SPACE];
     let mut index = [0u64; INDEX_WORDS];
     let mut client_index = [0u64; INDEX_WORDS];
     let answer = answer_to(
-        input[0],
+        *style,
         table,
         client,
-        &input[1..],
+        formula,
         &mut nodes,
         &mut index,
         &mut client_index,
@@ -72,10 +71,6 @@ fn answer_to<'a>(
     if formula.len() <= LONGEST {
         return layout::set(style, table, client, formula, nodes, index, client_index);
     }
-    let tested = layout::measure(style, table, client, &formula[..0], index, client_index);
-    let report = report_of(tested);
-    if report.number == 0 {
-        return Answer::Unreadable(0);
-    }
-    tested
+    layout::measure(style, table, client, &[], index, client_index)?;
+    Err(Refusal::Unreadable(0))
 }

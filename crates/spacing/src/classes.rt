@@ -5,13 +5,6 @@ ghost use Rattle.spacing.specs.Values.{neighbour_as};
 
 use formula::{Base, Class, Kind};
 
-// The class of the nearest atom to one side, or the end of the list.
-#[derive(Clone, Copy)]
-pub enum Neighbour {
-    End,
-    Atom(Class),
-}
-
 // Fractions count as Inner (rule 15e).
 pub fn class_of(kind: Kind) -> Class
     ensures { result ≡ class_of kind }
@@ -28,75 +21,42 @@ fn base_class(base: Base) -> Class
 {
     match base {
         Base::Atom(class, _) => class,
-        Base::Over => Class::Ord,
-        Base::Under => Class::Ord,
-        Base::Root(_) => Class::Ord,
+        Base::Over | Base::Under | Base::Root(_) => Class::Ord,
         Base::Fence(_, _) => Class::Inner,
     }
 }
 
-// The class of an atom between its left neighbour, after its change, and its right one, before it.
-pub fn changed_class(left: Neighbour, class: Class, right: Neighbour) -> Class
+// The class of an atom between its left neighbour, after its change, and its right one, before it. Neighbours are the nearest atoms, where the
+// list has one to that side.
+#[tactic(auto, unfolding(crate::specs::Classes::changed_class))]
+pub fn changed_class(left: Option<Class>, class: Class, right: Option<Class>) -> Class
     ensures { result ≡ changed_class (neighbour_as left) class (neighbour_as right) }
 {
     match class {
-        Class::Ord => Class::Ord,
-        Class::Op => Class::Op,
-        Class::Bin => changed_bin(left, right),
-        Class::Rel => Class::Rel,
-        Class::Open => Class::Open,
-        Class::Close => Class::Close,
-        Class::Punct => Class::Punct,
-        Class::Inner => Class::Inner,
+        Class::Bin if opens_operand(left) || closes_operand(right) => Class::Ord,
+        _ => class,
     }
-}
-
-fn changed_bin(left: Neighbour, right: Neighbour) -> Class
-    ensures { result ≡ bin_changed (opens_operand (neighbour_as left) || closes_operand (neighbour_as right)) }
-{
-    if opens_operand(left) {
-        return Class::Ord;
-    }
-    if closes_operand(right) {
-        return Class::Ord;
-    }
-    Class::Bin
 }
 
 // Rule 5: behind what a Bin becomes Ord.
-fn opens_operand(left: Neighbour) -> bool
+fn opens_operand(left: Option<Class>) -> bool
     ensures { result ≡ opens_operand (neighbour_as left) }
 {
     match left {
-        Neighbour::End => true,
-        Neighbour::Atom(class) => match class {
-            Class::Ord => false,
-            Class::Op => true,
-            Class::Bin => true,
-            Class::Rel => true,
-            Class::Open => true,
-            Class::Close => false,
-            Class::Punct => true,
-            Class::Inner => false,
-        },
+        None => true,
+        Some(class) => matches!(
+            class,
+            Class::Op | Class::Bin | Class::Rel | Class::Open | Class::Punct
+        ),
     }
 }
 
 // Rule 6: before what a Bin becomes Ord.
-fn closes_operand(right: Neighbour) -> bool
+fn closes_operand(right: Option<Class>) -> bool
     ensures { result ≡ closes_operand (neighbour_as right) }
 {
     match right {
-        Neighbour::End => true,
-        Neighbour::Atom(class) => match class {
-            Class::Ord => false,
-            Class::Op => false,
-            Class::Bin => false,
-            Class::Rel => true,
-            Class::Open => false,
-            Class::Close => true,
-            Class::Punct => true,
-            Class::Inner => false,
-        },
+        None => true,
+        Some(class) => matches!(class, Class::Rel | Class::Close | Class::Punct),
     }
 }

@@ -12,9 +12,8 @@ ghost use Rattle.spacing.specs.Spacing.{chart, space_before};
 ghost use Rattle.boxes.specs.Values.{parameters_in};
 ghost use Rattle.spacing.specs.Values.{neighbour_as, Digits};
 
-use crate::classes::Neighbour;
-use boxes::parameters::{Parameters, QUAD, parameter};
-use boxes::styles::{Style, font_size, is_large};
+use boxes::parameters::{Dimension, Parameters, parameter};
+use boxes::styles::{Style, is_large};
 use formula::Class;
 use scaled::{Mu, Sp};
 
@@ -32,13 +31,14 @@ const CHART: [[u8; 8]; 8] = [
 ];
 
 // The space before an atom of class right, none before the first.
-pub fn space_before(p: &Parameters, style: Style, left: Neighbour, right: Class) -> Sp
+#[tactic(auto, unfolding(crate::specs::Spacing::space_before))]
+pub fn space_before(p: &Parameters, style: Style, left: Option<Class>, right: Class) -> Sp
     ensures { (result.0 ≡ space_before (parameters_in p.now) style (neighbour_as left) right) × Within (2 ^ 32) result.0 }
 {
     match left {
-        Neighbour::End => Sp(0),
-        Neighbour::Atom(class) => {
-            let quad = parameter(p, font_size(style), QUAD);
+        None => Sp(0),
+        Some(class) => {
+            let quad = parameter(p, style, Dimension::Quad);
             Mu(units(is_large(style), class, right) as i64).at(quad)
         }
     }
@@ -60,14 +60,5 @@ fn entry(left: Class, right: Class) -> u8
 fn column(class: Class) -> usize
     ensures { (result ≡ class_number class) × (result < 8) }
 {
-    match class {
-        Class::Ord => 0,
-        Class::Op => 1,
-        Class::Bin => 2,
-        Class::Rel => 3,
-        Class::Open => 4,
-        Class::Close => 5,
-        Class::Punct => 6,
-        Class::Inner => 7,
-    }
+    usize::from(u8::from(class))
 }

@@ -1,4 +1,3 @@
 -- What the proofs of the functions use. Assumes nothing.
 mod DecimalLaws
-mod SignedBits
 mod Examples

@@ -3,7 +3,7 @@
 
 #![tactic(auto)]
 
-ghost use Rattle.std.specs.Prelude.{◌≡◌, ◌++◌, ◌+◌, ◌≤◌, nat_abs, length};
+ghost use Rattle.std.specs.Prelude.{◌≡◌, ◌++◌, ◌+◌, ◌≤◌, length};
 ghost use Rattle.texts.specs.Decimals.{decimal_of, text_of};
 ghost use Rattle.texts.specs.Refusals.{refusal_text, too_long_text};
 ghost use Rattle.texts.specs.Written.{Written, Put, PutNear, number_text};
@@ -15,7 +15,7 @@ use std::io::Result;
 pub const LINE_SPACE: usize = 128;
 
 // A number by its sign and how far it lies from zero.
-#[derive(Clone, Copy)]
+#[derive(Clone, Copy, PartialEq, Eq)]
 pub struct Number {
     pub minus: bool,
     pub size: u64,
@@ -65,22 +65,9 @@ pub fn too_long_text(taken: usize, out: &mut [u8]) -> usize
 pub fn of_length(length: Sp) -> Number
     ensures { number_text result ≡ text_of length.0 }
 {
-    let minus = length.less(Sp(0));
     Number {
-        minus: minus,
-        size: magnitude(length),
-    }
-}
-
-// How far a length lies from zero.
-fn magnitude(length: Sp) -> u64
-    ensures { result ≡ nat_abs length.0 }
-{
-    if length.less(Sp(0)) {
-        let m = -1 - length.0;
-        m as u64 + 1
-    } else {
-        length.0 as u64
+        minus: length.0 < 0,
+        size: length.0.unsigned_abs(),
     }
 }
 
@@ -120,10 +107,7 @@ pub fn put_bytes(text: &[u8], out: &mut [u8], at: usize) -> usize
     requires { at + length text.now ≤ length out.old }
     ensures { Put text.now out.old out.new at result }
 {
-    let mut i = 0;
-    while i < text.len() {
-        out[at + i] = text[i];
-        i += 1;
-    }
-    at + i
+    let end = at + text.len();
+    out[at..end].copy_from_slice(text);
+    end
 }

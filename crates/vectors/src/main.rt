@@ -57,9 +57,7 @@ fn run(
 ) -> Result<()> {
     let mut ours: usize = 0;
     let mut theirs: usize = 0;
-    let mut left = MOST_CASES;
-    while left > 0 {
-        left -= 1;
+    for _ in 0..MOST_CASES {
         let letter = read_byte(file);
         if letter == b'T' {
             ours = read_long(file, table);

@@ -4,7 +4,8 @@
 ghost use Rattle.std.specs.Prelude.{◌<◌};
 
 use crate::{MOST_CASES, read_byte, read_long, read_word};
-use dvi_calls::{Answer, report_of};
+use dvi_calls::report_of;
+use results::Report;
 use std::fs;
 use std::io::{Read, Result};
 use std::rt::Files;
@@ -27,9 +28,7 @@ pub fn run_file(rt: &(impl Files + Print + Eprint)) -> Result<()> {
 
 // Goes from case to case; the buffers hold what is converted, and the result.
 fn run(out: &impl Print, file: &mut impl Read, bytes: &mut [u8], res: &mut [u8]) -> Result<()> {
-    let mut left = MOST_CASES;
-    while left > 0 {
-        left -= 1;
+    for _ in 0..MOST_CASES {
         let letter = read_byte(file);
         if !is_page(letter) {
             return Ok(());
@@ -50,24 +49,23 @@ fn show(out: &impl Print, letter: u8, bytes: &[u8], room: usize, res: &mut [u8])
     if res.len() < room {
         return Ok(());
     }
-    if letter == b'N' {
-        let answer = dvi_calls::write(bytes, &mut res[..room]);
-        write_answer(out, answer, res)
+    let answer = if letter == b'N' {
+        dvi_calls::write(bytes, &mut res[..room])
     } else {
-        let answer = dvi_calls::read(bytes, &mut res[..room]);
-        write_answer(out, answer, res)
-    }
+        dvi_calls::read(bytes, &mut res[..room])
+    };
+    write_report(out, report_of(answer), res)
 }
 
-fn write_answer(out: &impl Print, answer: Answer, res: &[u8]) -> Result<()> {
-    let report = report_of(answer);
+// The bytes that were written, or the refusal.
+pub fn write_report(out: &impl Print, report: Report, res: &[u8]) -> Result<()> {
     if report.number == 0 {
         return write_front(out, res, report.bytes);
     }
     write_refusal(out, report.number, report.place)
 }
 
-pub fn write_front(out: &impl Print, res: &[u8], size: usize) -> Result<()> {
+fn write_front(out: &impl Print, res: &[u8], size: usize) -> Result<()> {
     if size <= res.len() {
         write_bytes(out, &res[..size])?;
     }
@@ -76,7 +74,7 @@ pub fn write_front(out: &impl Print, res: &[u8], size: usize) -> Result<()> {
 
 fn write_bytes(out: &impl Print, bytes: &[u8]) -> Result<()> {
     out.write_all(b"bytes ")?;
-    if bytes.len() == 0 {
+    if bytes.is_empty() {
         out.write_all(b"-")?;
     }
     write_pairs(out, bytes)?;
@@ -84,26 +82,18 @@ fn write_bytes(out: &impl Print, bytes: &[u8]) -> Result<()> {
 }
 
 fn write_pairs(out: &impl Print, bytes: &[u8]) -> Result<()> {
-    let mut i: usize = 0;
-    while i < bytes.len() {
-        write_byte(out, bytes[i])?;
-        i += 1;
+    for byte in bytes {
+        write_byte(out, *byte)?;
     }
     Ok(())
 }
 
 fn write_byte(out: &impl Print, byte: u8) -> Result<()> {
-    let mut pair = [0u8; 2];
-    pair[0] = digit(byte / 16);
-    pair[1] = digit(byte % 16);
-    out.write_all(&pair)
+    out.write_all(&[digit(byte / 16), digit(byte % 16)])
 }
 
 fn digit(n: u8) -> u8
     requires { n < 16 }
 {
-    if n < 10 {
-        return b'0' + n;
-    }
-    b'a' + (n - 10)
+    if n < 10 { b'0' + n } else { b'a' + (n - 10) }
 }

@@ -2,15 +2,12 @@
 // typed.bin: 'Q', a four-byte length and a name table, which holds from there on; 'E' for a text to be read or 'U' for a formula to be
 // written as text, a four-byte length, the bytes, and a four-byte room.
 
-ghost use Rattle.std.specs.Prelude.{◌≤◌};
-
-use crate::pages::write_front;
+use crate::pages::write_report;
 use crate::{MOST_CASES, read_byte, read_long, read_word};
-use eqn_calls::{Answer, report_of};
+use eqn_calls::report_of;
 use std::fs;
 use std::io::{Read, Result};
 use std::rt::Files;
-use texts::write_refusal;
 
 // A case that is longer is cut.
 const NAME_SPACE: usize = 16_384;
@@ -39,9 +36,7 @@ fn run(
     res: &mut [u8],
 ) -> Result<()> {
     let mut named: usize = 0;
-    let mut left = MOST_CASES;
-    while left > 0 {
-        left -= 1;
+    for _ in 0..MOST_CASES {
         let letter = read_byte(file);
         if letter == b'Q' {
             named = read_long(file, names);
@@ -70,26 +65,11 @@ fn show<'a>(
     lent: usize,
     res: &mut [u8],
 ) -> Result<()> {
-    let room = lesser(lent, res.len());
-    if letter == b'E' {
-        let answer = eqn_calls::read(names, bytes, &mut res[..room]);
-        write_answer(out, answer, res)
+    let room = lent.min(res.len());
+    let answer = if letter == b'E' {
+        eqn_calls::read(names, bytes, &mut res[..room])
     } else {
-        let answer = eqn_calls::write(names, bytes, &mut res[..room]);
-        write_answer(out, answer, res)
-    }
-}
-
-fn write_answer(out: &impl Print, answer: Answer, res: &[u8]) -> Result<()> {
-    let report = report_of(answer);
-    if report.number == 0 {
-        return write_front(out, res, report.bytes);
-    }
-    write_refusal(out, report.number, report.place)
-}
-
-fn lesser(a: usize, b: usize) -> usize
-    ensures { (result ≤ a) × (result ≤ b) }
-{
-    if a < b { a } else { b }
+        eqn_calls::write(names, bytes, &mut res[..room])
+    };
+    write_report(out, report_of(answer), res)
 }

@@ -7,6 +7,7 @@
 --                                with one; `along_next`, `along_stop` its first item is set, or lacks a symbol
 --     rest_given                 what is given to the setter of what is left
 -- Assumes nothing.
+use Rattle.std.specs.Prelude.{Result, Ok, Err, None}
 use mathlib.Core.Path.{◌≡◌, refl, sym, subst, ap, ap₂, ◌∙◌}
 use mathlib.Core.Bool.{Bool, true, false, not, ◌&&◌, ◌||◌, or-false, and-true, and_assoc, and-eq-true_iff}
 use mathlib.Core.List.{List, ◌++◌, append-nil}
@@ -50,18 +51,15 @@ use Rattle.setting.specs.Missing.{◌or_else◌, later, missing_item, missing_it
 use Rattle.setting.specs.Fitting.{item_fits, items_fit}
 use Rattle.setting.specs.FieldInPlace.{after_nodes, sized}
 use Rattle.setting.proofs.FieldInPlace.{set_items_after}
+use Rattle.walk_fields.specs.declared.fields.Missing.{Missing}
 use Rattle.walk_fields.specs.declared.lines.Line as lines
-use Rattle.walk_fields.specs.declared.lines.ItemsSet.TheVariants as items
 use Rattle.walk_fields.specs.Values.{bare_line}
 use Rattle.walk_fields.specs.Bounds.{stride}
 use Rattle.walk_fields.specs.Lines.{KernedLine, StyledLine}
 use Rattle.walk_fields.specs.Lists.{Added, ItemsGiven, ItemsDone}
 use Rattle.walk_fields.specs.ListLaws.{line_more}
-use Rattle.walk.specs.declared.lists.ItemSet.{ItemSet}
-use Rattle.walk.specs.declared.lists.ItemSet.TheVariants as steps
-use Rattle.walk.specs.declared.lists.StretchSet.{StretchSet}
-use Rattle.walk.specs.declared.lists.StretchSet.TheVariants as stretches
-use Rattle.walk.specs.Walked.{Along, class_behind, OpenedDone, ItemDone, StretchDone}
+use Rattle.walk.specs.declared.lists.Stretch.{Stretch}
+use Rattle.walk.specs.Walked.{Along, class_behind, OpenedDone, ItemDone, StepDone, StretchDone}
 
 -- ---- what goes behind a line
 
@@ -139,21 +137,21 @@ added_style F right n l r b k =
 
 -- an item by its opening
 pub item_as : (F : Font) (beyond : Neighbour) (bytes : List ℕ) (l : lines.Line) (b b' : List ℕ) {o : Opening} → opening_of bytes ≡ o →
-    (r : ItemSet) → OpenedDone F beyond bytes o l b r b' → ItemDone F beyond bytes l b r b'
+    (r : Result Stretch Missing) → OpenedDone F beyond bytes o l b r b' → ItemDone F beyond bytes l b r b'
 item_as F beyond bytes l b b' opens r d = subst (λ (o : Opening). OpenedDone F beyond bytes o l b r b') (sym opens) d
 
 module _ (F : Font) (beyond : Neighbour) (bytes : List ℕ) (l r : lines.Line) (b : List ℕ) where
-  pub kern_done : {n : Sp} → opening_of bytes ≡ Kern n → KernedLine l n.0 r → ItemDone F beyond bytes l b (steps.Next kern_bytes r) b
+  pub kern_done : {n : Sp} → opening_of bytes ≡ Kern n → KernedLine l n.0 r → ItemDone F beyond bytes l b (Ok (record { bytes = kern_bytes; line = r })) b
   unfolding missing_item
   kern_done {n} opens k =
-      item_as F beyond bytes l b b opens (steps.Next kern_bytes r)
+      item_as F beyond bytes l b b opens (Ok (record { bytes = kern_bytes; line = r }))
       (refl, refl, added_kern F (class_behind l.style beyond bytes (Kern n)) n.0 l r b (kern_small bytes n opens) k)
 
   pub style_done : {n : ℕ} → opening_of bytes ≡ Restyle n → StyledLine l (restyled l.style n) r →
-      ItemDone F beyond bytes l b (steps.Next restyle_bytes r) b
+      ItemDone F beyond bytes l b (Ok (record { bytes = restyle_bytes; line = r })) b
   unfolding missing_item
   style_done {n} opens k =
-      item_as F beyond bytes l b b opens (steps.Next restyle_bytes r)
+      item_as F beyond bytes l b b opens (Ok (record { bytes = restyle_bytes; line = r }))
       (refl, refl, added_style F (class_behind l.style beyond bytes (Restyle n)) n l r b k)
 
 -- the same by other names, of no fewer bytes
@@ -222,9 +220,9 @@ later_again a b none = refl
 later_again a b (some place) = ap some (omega arith)
 
 -- behind so many bytes
-abbrev pub shifted : ℕ → StretchSet → StretchSet
-shifted at (stretches.UpTo n l) = stretches.UpTo (at + n) l
-shifted at (stretches.Missing place) = stretches.Missing (at + place)
+abbrev pub shifted : ℕ → Result Stretch Missing → Result Stretch Missing
+shifted at (Ok c) = Ok (record { bytes = at + c.bytes; line = c.line })
+shifted at (Err m) = Err (record { place = at + m.place })
 
 module _ (F : Font) (beyond : Neighbour) where
   pub along_start : (s : List ℕ) (l₀ : lines.Line) (b₀ : List ℕ) → Readable s → Along F beyond s l₀ b₀ 0 l₀ b₀
@@ -264,15 +262,16 @@ module _ (F : Font) (beyond : Neighbour) where
         ∙ ap (λ (n : ℕ). missing_item F l.style first or_else later n (missing_items F there (tree_of (drop size s))))
         (item_bytes_lem s (opening_of s) stepped.item)
 
-    pub item_lacks : {missing : ℕ} → ItemDone F beyond s l b (steps.Missing missing) v →
-        ItemsDone F beyond (tree_of s) (length s) l b (items.Missing missing) v
+    pub item_lacks : {m : Missing} → ItemDone F beyond s l b (Err m) v → ItemsDone F beyond (tree_of s) (length s) l b (Err m) v
     item_lacks (lacks, near, kept) =
         let within = stepped.fits in
         (lacks_first ∙ rw lacks, omega arith, kept_more within kept)
 
-    pub item_along : {n : ℕ} {r : lines.Line} → ItemDone F beyond s l b (steps.Next n r) v → (0 < n) × Along F beyond s l b n r v
+    pub item_along : {c : Stretch} → ItemDone F beyond s l b (Ok c) v → (0 < c.bytes) × Along F beyond s l b c.bytes c.line v
     unfolding items_fit set_items style_after
-    item_along {n} {r} (present, is, added) =
+    item_along {c} (present, is, added) =
+        let n = c.bytes in
+        let r = c.line in
         let p = stepped in
         let positive = p.some in
         let within = p.fits in
@@ -300,7 +299,7 @@ module _ (F : Font) (beyond : Neighbour) where
         )
 
   module _ {s : List ℕ} {l₀ : lines.Line} {b₀ : List ℕ} {at : ℕ} {l : lines.Line} {b : List ℕ} (a : Along F beyond s l₀ b₀ at l b) where
-    pub along_done : length s ≤ at → ItemsDone F beyond (tree_of s) (length s) l₀ b₀ (items.Whole l) b
+    pub along_done : length s ≤ at → ItemsDone F beyond (tree_of s) (length s) l₀ b₀ (Ok l) b
     unfolding missing_items items_fit set_items style_after later
     along_done over =
         let low = a.low in
@@ -324,10 +323,10 @@ module _ (F : Font) (beyond : Neighbour) where
       back = put_mid j (length b - j) b v
 
       -- it lacks a symbol
-      pub along_lacks : {missing : ℕ} → ItemsDone F beyond (tree_of left) (length left) l lent (items.Missing missing) v →
-          ItemsDone F beyond (tree_of s) (length s) l₀ b₀ (items.Missing (at + missing)) back
+      pub along_lacks : {m : Missing} → ItemsDone F beyond (tree_of left) (length left) l lent (Err m) v →
+          ItemsDone F beyond (tree_of s) (length s) l₀ b₀ (Err (record { place = at + m.place })) back
       unfolding later
-      along_lacks {missing} done =
+      along_lacks done =
           let d = rw (tail_part s at) at done in
           let low = a.low in
           let rests = length-drop at s in
@@ -374,15 +373,16 @@ module _ (F : Font) (beyond : Neighbour) where
           }
 
       -- or up to a choice
-      pub along_stretch : (r : StretchSet) → StretchDone F beyond left l lent r v → StretchDone F beyond s l₀ b₀ (shifted at r) back
-      along_stretch (stretches.UpTo n r) (further, stops) =
+      pub along_stretch : (r : Result Stretch Missing) → StretchDone F beyond left l lent r v → StretchDone F beyond s l₀ b₀ (shifted at r) back
+      along_stretch (Ok c) (further, stops) =
+          let n = c.bytes in
           let rest : drop n left ≡ drop (at + n) s = ap (drop n) (tail_part s at) ∙ drop-drop n at s in
           let long = length-drop at s in
           (along_more further, λ more. sym (ap opening_of rest) ∙ stops (rw (tail_part s at) (omega arith)))
-      along_stretch (stretches.Missing missing) lacks = along_lacks lacks
+      along_stretch (Err m) lacks = along_lacks lacks
 
       -- or it starts with a choice
-      pub along_halt : ItemDone F beyond left l lent steps.AtChoice v → StretchDone F beyond s l₀ b₀ (stretches.UpTo at l) back
+      pub along_halt : StepDone F beyond left l lent (Ok None) v → StretchDone F beyond s l₀ b₀ (Ok (record { bytes = at; line = l })) back
       along_halt (opens, same) =
           let kept : back ≡ b = rest_back j b v ∙ ap (λ (r : List ℕ). take j b ++ r) (same ∙ rest_lent j b) ∙ take-append-drop j b in
           (subst (Along F beyond s l₀ b₀ at l) (sym kept) a, λ more. sym (ap opening_of (tail_part s at)) ∙ opens)
@@ -391,26 +391,25 @@ module _ (F : Font) (beyond : Neighbour) where
         left_some : Readable left × (0 < length left)
         left_some = rw (tail_part s at) (a.rest, omega (arith, length-drop at s))
 
-        pub along_stop : {missing : ℕ} → ItemDone F beyond left l lent (steps.Missing missing) v →
-            ItemsDone F beyond (tree_of s) (length s) l₀ b₀ (items.Missing (at + missing)) back
+        pub along_stop : {m : Missing} → ItemDone F beyond left l lent (Err m) v →
+            ItemsDone F beyond (tree_of s) (length s) l₀ b₀ (Err (record { place = at + m.place })) back
         along_stop d = along_lacks (item_lacks left l lent v left_some.0 left_some.1 d)
 
-        pub along_next : {n : ℕ} {r : lines.Line} → ItemDone F beyond left l lent (steps.Next n r) v →
-            (0 < n) × Along F beyond s l₀ b₀ (at + n) r back
+        pub along_next : {c : Stretch} → ItemDone F beyond left l lent (Ok c) v → (0 < c.bytes) × Along F beyond s l₀ b₀ (at + c.bytes) c.line back
         along_next d = let one = item_along left l lent v left_some.0 left_some.1 d in (one.0, along_more one.1)
 
 -- what the setter of the rest is given, and how long that is
-pub rest_given : {t u i j : List ℕ} {p : List (List ℕ)} {F : Font} {beyond : Neighbour} {s : List ℕ} {l₀ : lines.Line} {b₀ : List ℕ}
-    {at : ℕ} {l : lines.Line} {b : List ℕ} → ItemsGiven t u i j p s l₀ → Along F beyond s l₀ b₀ at l b →
+pub rest_given : {F : Font} {beyond : Neighbour} {s : List ℕ} {l₀ : lines.Line} {b₀ : List ℕ}
+    {at : ℕ} {l : lines.Line} {b : List ℕ} → ItemsGiven s l₀ → Along F beyond s l₀ b₀ at l b →
     let rest = take (length s - at) (drop at s) in
-    ItemsGiven t u i j p rest l × (length rest ≡ length s - at)
+    ItemsGiven rest l × (length rest ≡ length s - at)
 rest_given {s = s} {at = at} given a =
     let long = length-drop at s in
     let short = given.list.short in
     let low = a.low in
     rw (tail_part s at) (
       record {
-        list = record { tables_good = given.list.tables_good; parameters_are = given.list.parameters_are; readable = a.rest; short = omega arith };
+        list = record { readable = a.rest; short = omega arith };
         small = line_more (omega arith) (a.added.grows (formula_limit - length s) given.small);
       },
       omega arith,

@@ -2,6 +2,7 @@
 --     choice_given    what the list's setter is given
 --     choice_lacks, choice_done     a symbol is missing in it, or all of it is set
 -- Assumes nothing.
+use Rattle.std.specs.Prelude.{Ok, Err}
 use mathlib.Core.Path.{◌≡◌, refl, sym, ap, ap₂, ◌∙◌}
 use mathlib.Core.List.{List}
 use Prim.Native.Nat.{ℕ, ◌+◌, ◌-◌, ◌≤◌, ◌<◌}
@@ -24,23 +25,22 @@ use Rattle.setting.proofs.SettingLaws.{style_behind_choice_lem, set_item_choice,
 use Rattle.walk_looks.specs.declared.current.Span.{Span}
 use Rattle.walk_looks.specs.Seen.{part, lists_before, TakenSpan, SetsAlike}
 use Rattle.walk_looks.specs.TakenLaws.{place_taken}
+use Rattle.walk_fields.specs.declared.fields.Missing.{Missing}
 use Rattle.walk_fields.specs.declared.lines.Line as lines
-use Rattle.walk_fields.specs.declared.lines.ItemsSet.TheVariants as all
 use Rattle.walk_fields.specs.Values.{bare_line}
 use Rattle.walk_fields.specs.Lists.{ItemsGiven, ItemsDone}
 use Rattle.walk_fields.specs.ListLaws.{line_more}
-use Rattle.walk.specs.declared.lists.ItemSet.TheVariants as step
 use Rattle.walk.specs.Walked.{OpenedGiven, class_behind, ItemDone}
 use Rattle.walk.proofs.AlongLaws.{item_as, added_like}
 
-pub choice_given : {t u i j : List ℕ} {p : List (List ℕ)} {s : List ℕ} {l : lines.Line} {style : Style} {c : Span} →
-    OpenedGiven t u i j p s Choice l → TakenSpan style s c → ItemsGiven t u i j p (part c s) l × (length (part c s) < length s)
+pub choice_given : {s : List ℕ} {l : lines.Line} {style : Style} {c : Span} →
+    OpenedGiven s Choice l → TakenSpan style s c → ItemsGiven (part c s) l × (length (part c s) < length s)
 choice_given given span =
     let list = given.items.list in
     let short = list.short in
     let shorter = span.shorter in (
       record {
-        list = record { tables_good = list.tables_good; parameters_are = list.parameters_are; readable = span.readable; short = omega arith };
+        list = record { readable = span.readable; short = omega arith };
         small = line_more (omega arith) given.items.small;
       },
       omega arith,
@@ -68,15 +68,15 @@ module _ (F : Font) (beyond : Neighbour) {s : List ℕ} (l : lines.Line) (b b' :
       ∙ ap₂ (λ (n : ℕ) (k : Items). later (n + list_opening_bytes (items_bytes k)) (missing_items F style k)) (sym (place_taken s chosen style)) (sym span.tree)
       ∙ ap (λ (n : ℕ). later n (missing_items F style items)) (ap (λ (n : ℕ). list_place s (lists_before style) + list_opening_bytes n) (items_bytes_lem (part c s) span.readable) ∙ sym span.first_is)
 
-  pub choice_lacks : {place : ℕ} → ItemsDone F beyond items (length (part c s)) l b (all.Missing place) b' →
-      ItemDone F beyond s l b (step.Missing (c.first + place)) b' × (c.first + place ≤ length s)
+  pub choice_lacks : {m : Missing} → ItemsDone F beyond items (length (part c s)) l b (Err m) b' →
+      ItemDone F beyond s l b (Err (record { place = c.first + m.place })) b' × (c.first + m.place ≤ length s)
   unfolding later
-  choice_lacks {place} (lacks, low, kept) =
+  choice_lacks {m} (lacks, low, kept) =
       let inside = span.inside in
       let ordered = span.ordered in
       let end_in = chosen.places_in choice_lists in
-      let near : c.first + place ≤ list_place s choice_lists = omega (arith, length-take (c.end - c.first) (drop c.first s)) in
-      (item_as F beyond s l b b' opens (step.Missing (c.first + place)) (lacks_is ∙ ap (later c.first) lacks, near, kept_more long kept), omega arith)
+      let near : c.first + m.place ≤ list_place s choice_lists = omega (arith, length-take (c.end - c.first) (drop c.first s)) in
+      (item_as F beyond s l b b' opens (Err (record { place = c.first + m.place })) (lacks_is ∙ ap (later c.first) lacks, near, kept_more long kept), omega arith)
 
   -- the class beyond it, and its line
   abbrev right : Neighbour
@@ -96,13 +96,13 @@ module _ (F : Font) (beyond : Neighbour) {s : List ℕ} (l : lines.Line) (b b' :
         ∙ ap (set_items F right (bare_line l)) span.tree
         ∙ sym (set_item_choice F right (bare_line l) (list_in s 0) (list_in s 1) (list_in s 2) (list_in s 3))
 
-    pub choice_done : {r : lines.Line} → ItemsDone F m items (length (part c s)) l b (all.Whole r) b' →
-        ItemDone F beyond s l b (step.Next n r) b'
+    pub choice_done : {r : lines.Line} → ItemsDone F m items (length (part c s)) l b (Ok r) b' →
+        ItemDone F beyond s l b (Ok (record { bytes = n; line = r })) b'
     unfolding later
     choice_done {r} (present, added) =
         let fits : items_fit F style items ≡ item_fits F style chosen_item =
         ap (items_fit F style) span.tree ∙ sym (item_fits_choice F style (list_in s 0) (list_in s 1) (list_in s 2) (list_in s 3)) in
-        item_as F beyond s l b b' opens (step.Next n r) (
+        item_as F beyond s l b b' opens (Ok (record { bytes = n; line = r })) (
           lacks_is ∙ ap (later c.first) present,
           ends,
           added_like fits (ap (λ (k : Line). k.style) line_is) (λ h. line_is) (omega (arith, long)) added,

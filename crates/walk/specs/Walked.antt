@@ -1,10 +1,10 @@
--- What the setters of the cycle ask and promise beside those of lists and fields: an item (`ItemDone`), the items up to a choice
--- (`StretchDone`), a choice (`ChoiceDone`), and an item whose first field, or first two, stand in the buffer (`SecondDone`, `ThirdDone`): it is
--- what it comes to from the buffer before its first field.
+-- What the setters of the cycle ask and promise beside those of lists and fields: an item (`ItemDone`), an item that is no choice
+-- (`StepDone`), the items up to a choice (`StretchDone`), and an item whose first field, or first two, stand in the buffer (`SecondDone`,
+-- `ThirdDone`): it is what it comes to from the buffer before its first field.
 -- Assumes nothing.
-use Rattle.std.specs.Prelude.{◌≡◌, Bool, true, ◌&&◌, List, ℕ, ◌≤◌, ◌<◌, length, drop}
+use Rattle.std.specs.Prelude.{◌≡◌, Bool, true, ◌&&◌, List, Option, Some, None, Result, Ok, Err, ℕ, ◌≤◌, ◌<◌, length, drop}
 use Rattle.std.proofs.Math.Option.{none, some}
-use Rattle.font.specs.Font.{Font, font_with}
+use Rattle.font.specs.Font.{Font, Tables, font_in}
 use Rattle.formula.specs.declared.Kind.{Kind}
 use Rattle.formula.specs.declared.Opening.{Opening}
 use Rattle.formula.specs.declared.Opening.TheVariants.{Choice, Fields}
@@ -18,19 +18,16 @@ use Rattle.setting.specs.Missing.{later, missing_item, missing_items}
 use Rattle.setting.specs.Fitting.{item_fits, items_fit}
 use Rattle.arrange.specs.declared.OwnCounts.{OwnCounts}
 use Rattle.walk_fields.specs.declared.fields.FieldBox as fields
+use Rattle.walk_fields.specs.declared.fields.Missing.{Missing}
 use Rattle.walk_fields.specs.declared.lines.Line as lines
-use Rattle.walk_fields.specs.declared.lines.ItemsSet.TheVariants as items
 use Rattle.walk_fields.specs.Values.{bare_line}
 use Rattle.walk_fields.specs.Lists.{ItemsGiven, Added, ItemsDone}
 use Rattle.walk_items.specs.Standing.{One, Two}
-use Rattle.walk.specs.declared.lists.ItemSet.{ItemSet}
-use Rattle.walk.specs.declared.lists.ItemSet.TheVariants as step
-use Rattle.walk.specs.declared.lists.StretchSet.{StretchSet}
-use Rattle.walk.specs.declared.lists.StretchSet.TheVariants as stretch
+use Rattle.walk.specs.declared.lists.Stretch.{Stretch}
 
 -- and what opens at its head
-pub record OpenedGiven (t u i j : List ℕ) (p : List (List ℕ)) (s : List ℕ) (o : Opening) (l : lines.Line) : Type 0 where
-  pub items : ItemsGiven t u i j p s l
+pub record OpenedGiven (s : List ℕ) (o : Opening) (l : lines.Line) : Type 0 where
+  pub items : ItemsGiven s l
   pub opens : opening_of s ≡ o
 
 -- the class of the atom that follows the item that opens with o at the head of some bytes, behind a line of the style s
@@ -38,19 +35,24 @@ abbrev pub class_behind : Style → Neighbour → List ℕ → Opening → Neigh
 class_behind s beyond bytes o =
     next_class (style_behind s (item_of bytes o)) beyond (tree_of (drop (item_size bytes o) bytes))
 
--- that item; a choice is left alone
-abbrev pub OpenedDone : Font → Neighbour → List ℕ → Opening → lines.Line → List ℕ → ItemSet → List ℕ → Type 0
-OpenedDone F beyond bytes o line b (step.Next n r) b' =
+-- that item
+abbrev pub OpenedDone : Font → Neighbour → List ℕ → Opening → lines.Line → List ℕ → Result Stretch Missing → List ℕ → Type 0
+OpenedDone F beyond bytes o line b (Ok c) b' =
     (missing_item F line.style (item_of bytes o) ≡ none)
-    × (n ≡ item_size bytes o)
+    × (c.bytes ≡ item_size bytes o)
     × Added (item_fits F line.style (item_of bytes o))
-    (set_item F (class_behind line.style beyond bytes o) (bare_line line) (item_of bytes o)) n line b r b'
-OpenedDone F beyond bytes o line b (step.Missing place) b' =
-    (missing_item F line.style (item_of bytes o) ≡ some place) × (place ≤ item_size bytes o) × Kept (item_size bytes o) b b'
-OpenedDone F beyond bytes o line b step.AtChoice b' = (o ≡ Choice) × (b' ≡ b)
+    (set_item F (class_behind line.style beyond bytes o) (bare_line line) (item_of bytes o)) c.bytes line b c.line b'
+OpenedDone F beyond bytes o line b (Err m) b' =
+    (missing_item F line.style (item_of bytes o) ≡ some m.place) × (m.place ≤ item_size bytes o) × Kept (item_size bytes o) b b'
 
-abbrev pub ItemDone : Font → Neighbour → List ℕ → lines.Line → List ℕ → ItemSet → List ℕ → Type 0
+abbrev pub ItemDone : Font → Neighbour → List ℕ → lines.Line → List ℕ → Result Stretch Missing → List ℕ → Type 0
 ItemDone F beyond bytes line b r b' = OpenedDone F beyond bytes (opening_of bytes) line b r b'
+
+-- the same, but that a choice is left alone
+abbrev pub StepDone : Font → Neighbour → List ℕ → lines.Line → List ℕ → Result (Option Stretch) Missing → List ℕ → Type 0
+StepDone F beyond bytes line b (Ok (Some c)) b' = ItemDone F beyond bytes line b (Ok c) b'
+StepDone F beyond bytes line b (Ok None) b' = (opening_of bytes ≡ Choice) × (b' ≡ b)
+StepDone F beyond bytes line b (Err m) b' = ItemDone F beyond bytes line b (Err m) b'
 
 -- the items before a place of a list have been set, behind the line l₀, which is now l, and b₀ is now b: what is missing, what fits, the
 -- style and the line of the whole go on from there
@@ -70,39 +72,33 @@ abbrev pub StopsAt : List ℕ → ℕ → Type 0
 StopsAt s at = at < length s → opening_of (drop at s) ≡ Choice
 
 -- the first items of a list, up to a choice
-abbrev pub StretchDone : Font → Neighbour → List ℕ → lines.Line → List ℕ → StretchSet → List ℕ → Type 0
-StretchDone F beyond s line b (stretch.UpTo n l) b' = Along F beyond s line b n l b' × StopsAt s n
-StretchDone F beyond s line b (stretch.Missing place) b' =
-    ItemsDone F beyond (tree_of s) (length s) line b (items.Missing place) b'
+abbrev pub StretchDone : Font → Neighbour → List ℕ → lines.Line → List ℕ → Result Stretch Missing → List ℕ → Type 0
+StretchDone F beyond s line b (Ok c) b' = Along F beyond s line b c.bytes c.line b' × StopsAt s c.bytes
+StretchDone F beyond s line b (Err m) b' = ItemsDone F beyond (tree_of s) (length s) line b (Err m) b'
 
 -- there are some
-abbrev pub Onward : StretchSet → Type 0
-Onward (stretch.UpTo n l) = 0 < n
-Onward (stretch.Missing place) = Unit {0}
-
--- the choice at the head of some bytes
-abbrev pub ChoiceDone : Font → Neighbour → List ℕ → lines.Line → List ℕ → StretchSet → List ℕ → Type 0
-ChoiceDone F beyond bytes line b (stretch.UpTo n r) b' = ItemDone F beyond bytes line b (step.Next n r) b'
-ChoiceDone F beyond bytes line b (stretch.Missing place) b' = ItemDone F beyond bytes line b (step.Missing place) b'
+abbrev pub Onward : Result Stretch Missing → Type 0
+Onward (Ok c) = 0 < c.bytes
+Onward (Err m) = Unit {0}
 
 -- ---- the fields of an item, one behind another
 
 -- the first field of the item that opens stands in the buffer v
-pub record SecondGiven (t u i j : List ℕ) (p : List (List ℕ)) (s : List ℕ) (kind : Kind) (l : lines.Line) (own : OwnCounts) (a : fields.FieldBox) (v : List ℕ) : Type 0 where
-  pub opened : OpenedGiven t u i j p s (Fields kind) l
+pub record SecondGiven (t : Tables) (s : List ℕ) (kind : Kind) (l : lines.Line) (own : OwnCounts) (a : fields.FieldBox) (v : List ℕ) : Type 0 where
+  pub opened : OpenedGiven s (Fields kind) l
   pub from : List ℕ
-  pub one : One (font_with t u) l.style kind s own.before own.behind from a v
+  pub one : One (font_in t) l.style kind s own.before own.behind from a v
 
 -- and the second
-pub record ThirdGiven (t u i j : List ℕ) (p : List (List ℕ)) (s : List ℕ) (kind : Kind) (l : lines.Line) (own : OwnCounts) (a b : fields.FieldBox) (v : List ℕ) : Type 0 where
-  pub opened : OpenedGiven t u i j p s (Fields kind) l
+pub record ThirdGiven (t : Tables) (s : List ℕ) (kind : Kind) (l : lines.Line) (own : OwnCounts) (a b : fields.FieldBox) (v : List ℕ) : Type 0 where
+  pub opened : OpenedGiven s (Fields kind) l
   pub from : List ℕ
-  pub two : Two (font_with t u) l.style kind s own.before own.behind from a b v
+  pub two : Two (font_in t) l.style kind s own.before own.behind from a b v
 
-abbrev pub SecondDone : Font → Neighbour → List ℕ → Kind → lines.Line → OwnCounts → fields.FieldBox → List ℕ → ItemSet → List ℕ → Type 0
+abbrev pub SecondDone : Font → Neighbour → List ℕ → Kind → lines.Line → OwnCounts → fields.FieldBox → List ℕ → Result Stretch Missing → List ℕ → Type 0
 SecondDone F beyond s kind l own a v r v' =
     (b₀ : List ℕ) → One F l.style kind s own.before own.behind b₀ a v → ItemDone F beyond s l b₀ r v'
 
-abbrev pub ThirdDone : Font → Neighbour → List ℕ → Kind → lines.Line → OwnCounts → fields.FieldBox → fields.FieldBox → List ℕ → ItemSet → List ℕ → Type 0
+abbrev pub ThirdDone : Font → Neighbour → List ℕ → Kind → lines.Line → OwnCounts → fields.FieldBox → fields.FieldBox → List ℕ → Result Stretch Missing → List ℕ → Type 0
 ThirdDone F beyond s kind l own a b v r v' =
     (b₀ : List ℕ) → Two F l.style kind s own.before own.behind b₀ a b v → ItemDone F beyond s l b₀ r v'

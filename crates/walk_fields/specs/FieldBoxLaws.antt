@@ -3,7 +3,7 @@
 --     symbol_whole, symbol_missing     a symbol: its glyph at the reference point, or its place
 --     list_whole, list_missing         a list, from what the list comes to
 -- Assumes nothing.
-use Rattle.std.specs.Prelude.{◌≡◌, refl, ℕ, ◌+◌, ◌-◌, ◌≤◌, ◌<◌, pos}
+use Rattle.std.specs.Prelude.{◌≡◌, refl, Ok, Err, ℕ, ◌+◌, ◌-◌, ◌≤◌, ◌<◌, pos}
 use Rattle.std.proofs.Math.Path.{sym, ap, subst}
 use Rattle.std.proofs.Common.{◌∙◌}
 use Rattle.std.proofs.Math.Bool.{true, and-eq-true_iff}
@@ -34,16 +34,14 @@ use Rattle.setting.specs.Fitting.{field_fits, items_fit, box_fits}
 use Rattle.walk_symbols.specs.declared.symbols.Symbol as symbols
 use Rattle.walk_symbols.specs.Values.{symbol_as}
 use Rattle.walk_fields.specs.declared.fields.FieldBox as fields
-use Rattle.walk_fields.specs.declared.fields.FieldSet.TheVariants.{Whole, Missing}
 use Rattle.walk_fields.specs.declared.lines.Line as lines
-use Rattle.walk_fields.specs.declared.lines.ItemsSet.TheVariants as items
 use Rattle.walk_fields.specs.Values.{line_fits}
 use Rattle.walk_fields.specs.Fields.{EmptyField, FieldDone, LineField}
 use Rattle.walk_fields.specs.Lists.{ListDone}
 use Rattle.walk_fields.specs.ListLaws.{line_fits_lem}
 
 module _ (F : Font) (s : Style) (manner : Manner) (at end : ℕ) (b : List ℕ) where
-  pub field_empty : (c : fields.FieldBox) → at ≤ end → EmptyField end c → FieldDone F s manner empty at end b (Whole c) b
+  pub field_empty : (c : fields.FieldBox) → at ≤ end → EmptyField end c → FieldDone F s manner empty at end b (Ok c) b
   unfolding missing_field field_fits set_field
   field_empty c inside e =
       let none_there = e.run_is.count_is in
@@ -63,7 +61,7 @@ module _ (F : Font) (s : Style) (manner : Manner) (at end : ℕ) (b : List ℕ) 
     pub symbol_whole : (m : symbols.Symbol) (r : Run) (b' : List ℕ) →
         symbol_in F (font_size s) (is_enlarged manner) family code ≡ some (symbol_as m) → PointRun (pos 0) (pos 0) r →
         b' ≡ put (glyph (pos 0) (pos 0) (font_size s) family m.code) b →
-        FieldDone F s manner (symbol family code) at end b (Whole (record { end = end; shape = Char m.metrics; run = r })) b'
+        FieldDone F s manner (symbol family code) at end b (Ok (record { end = end; shape = Char m.metrics; run = r })) b'
     unfolding set_field symbol_field_box missing_field absent_at field_fits
     symbol_whole m r b' found point written =
         let n = glyph (pos 0) (pos 0) (font_size s) family m.code in
@@ -89,14 +87,14 @@ module _ (F : Font) (s : Style) (manner : Manner) (at end : ℕ) (b : List ℕ) 
         )
 
     pub symbol_missing : symbol_in F (font_size s) (is_enlarged manner) family code ≡ none →
-        FieldDone F s manner (symbol family code) at end b (Missing at) b
+        FieldDone F s manner (symbol family code) at end b (Err (record { place = at })) b
     unfolding missing_field absent_at
     symbol_missing lacks = (ap (absent_at at) lacks, omega arith, kept_all _ b)
 
   -- the list's n bytes stand behind its opening
   module _ (l : Items) (n : ℕ) (goes : end ≡ at + list_opening_bytes (items_bytes l) + n) (b' : List ℕ) where
-    pub list_whole : (line : lines.Line) (c : fields.FieldBox) → ListDone F (sides_of manner) s l n b (items.Whole line) b' → LineField end line c →
-        FieldDone F s manner (list l) at end b (Whole c) b'
+    pub list_whole : (line : lines.Line) (c : fields.FieldBox) → ListDone F (sides_of manner) s l n b (Ok line) b' → LineField end line c →
+        FieldDone F s manner (list l) at end b (Ok c) b'
     unfolding missing_field field_fits set_field set_list later
     list_whole line c (w, drawn, kept) p =
         let fits : line_fits line ≡ field_fits F s manner (list l) = line_fits_lem w in
@@ -120,8 +118,8 @@ module _ (F : Font) (s : Style) (manner : Manner) (at end : ℕ) (b : List ℕ) 
           kept_more (omega arith) kept,
         )
 
-    pub list_missing : (place : ℕ) → ListDone F (sides_of manner) s l n b (items.Missing place) b' →
-        FieldDone F s manner (list l) at end b (Missing (at + list_opening_bytes (items_bytes l) + place)) b'
+    pub list_missing : (place : ℕ) → ListDone F (sides_of manner) s l n b (Err (record { place = place })) b' →
+        FieldDone F s manner (list l) at end b (Err (record { place = at + list_opening_bytes (items_bytes l) + place })) b'
     unfolding missing_field later
     list_missing place (lacks, low, kept) =
         (ap (later (at + list_opening_bytes (items_bytes l))) lacks, omega arith, kept_more (omega arith) kept)

@@ -5,7 +5,7 @@
 --     list_given                    what the setter of a list is given
 --     list_goes, head_list          a list, by what its setter came to
 -- Assumes nothing.
-use Rattle.std.specs.Prelude.{◌≡◌, refl, true, List, ℕ, ◌+◌, ◌-◌, ◌≤◌, ◌<◌, length, take, drop}
+use Rattle.std.specs.Prelude.{◌≡◌, refl, true, List, Result, Ok, Err, ℕ, ◌+◌, ◌-◌, ◌≤◌, ◌<◌, length, take, drop}
 use Rattle.std.proofs.Common.{sym, subst, ap, ◌∙◌, arith, length-drop}
 use Rattle.font.specs.Font.{Font}
 use Rattle.formula.specs.declared.FieldHead.{FieldHead}
@@ -23,11 +23,8 @@ use Rattle.spacing.specs.Classes.{Neighbour}
 use Rattle.arrange.specs.declared.Manner.{Manner}
 use Rattle.setting.specs.Setting.{Sides, sides_of}
 use Rattle.walk_fields.specs.declared.fields.FieldBox as fields
-use Rattle.walk_fields.specs.declared.fields.FieldSet.{FieldSet}
-use Rattle.walk_fields.specs.declared.fields.FieldSet.TheVariants.{Whole, Missing}
+use Rattle.walk_fields.specs.declared.fields.Missing.{Missing}
 use Rattle.walk_fields.specs.declared.lines.Line as lines
-use Rattle.walk_fields.specs.declared.lines.ItemsSet.{ItemsSet}
-use Rattle.walk_fields.specs.declared.lines.ItemsSet.TheVariants as items
 use Rattle.walk_fields.specs.Bounds.{LineWithin}
 use Rattle.walk_fields.specs.Fields.{EmptyField, FieldDone, ClosedField, ListGoes, ListField}
 use Rattle.walk_fields.specs.Lists.{ListGiven, FieldGiven, HeadDone, ItemsGiven, ItemsDone, ListDone}
@@ -36,12 +33,10 @@ use Rattle.walk_fields.specs.ListLaws.{start_within, list_whole_of, list_lacks_o
 use Rattle.walk_fields.specs.FieldBoxLaws.{field_empty, list_whole, list_missing}
 
 -- what the setter of a field is given, by what that of its item is
-pub field_given : {t u i j : List ℕ} {p : List (List ℕ)} {s : List ℕ} {at place : ℕ} → ListGiven t u i j p s → at ≡ place → GoodFieldAt s place →
-    place ≤ length s → FieldGiven t u i j p s at
+pub field_given : {s : List ℕ} {at place : ℕ} → ListGiven s → at ≡ place → GoodFieldAt s place →
+    place ≤ length s → FieldGiven s at
 field_given {s = s} given is good inside =
     record {
-      tables_good = given.tables_good;
-      parameters_are = given.parameters_are;
       good = subst (GoodFieldAt s) (sym is) good;
       inside = omega (arith, is, inside);
       short = given.short;
@@ -55,7 +50,7 @@ pub record Head (s : List ℕ) (at : ℕ) (h : FieldHead) (end : ℕ) : Type 0 w
   pub good : GoodField (drop at s) h
 
 -- as the code finds it: r in the rest of the item, and its bytes n
-pub head_at_lem : {t u i j : List ℕ} {p : List (List ℕ)} {s : List ℕ} {at n : ℕ} {r h : FieldHead} → FieldGiven t u i j p s at →
+pub head_at_lem : {s : List ℕ} {at n : ℕ} {r h : FieldHead} → FieldGiven s at →
     r ≡ field_head (take (length s - at) (drop at s)) → n ≡ head_bytes r → r ≡ h → Head s at h (at + n)
 head_at_lem {s = s} {at} {n} {r} {h} given read size is =
     let here : head_at s at ≡ h = sym (read ∙ ap field_head (tail_part s at)) ∙ is in
@@ -77,7 +72,7 @@ empty_is (Sublist opening n) e = let z : ◌≡◌ {A = ℕ} 0 1 = cc in absurd 
 empty_is CutSublist e = let z : ◌≡◌ {A = ℕ} 0 1 = cc in absurd (omega arith)
 
 -- a head has so few bytes that they can be added up
-pub head_short : {t u i j : List ℕ} {p : List (List ℕ)} {s : List ℕ} {at : ℕ} {r : FieldHead} → FieldGiven t u i j p s at →
+pub head_short : {s : List ℕ} {at : ℕ} {r : FieldHead} → FieldGiven s at →
     r ≡ field_head (take (length s - at) (drop at s)) → at + head_bytes r ≤ formula_limit
 head_short {s = s} {at} {r} given read =
     let o = head_at_lem given read refl refl in
@@ -85,19 +80,19 @@ head_short {s = s} {at} {r} given read =
     omega (arith, o.inside)
 
 module _ (F : Font) (st : Style) (manner : Manner) (b b' : List ℕ) {s : List ℕ} {at end : ℕ} where
-  head_done : {h : FieldHead} → Head s at h end → (r : FieldSet) →
+  head_done : {h : FieldHead} → Head s at h end → (r : Result fields.FieldBox Missing) →
       FieldDone F st manner (field_of (drop at s) h) at end b r b' → HeadDone F st manner s at b r b'
   head_done {h} o r d =
       subst (λ (h : FieldHead). FieldDone F st manner (field_of (drop at s) h) at (at + head_bytes h) b r b') (sym o.is)
       (subst (λ (e : ℕ). FieldDone F st manner (field_of (drop at s) h) at e b r b') o.goes d)
 
-  pub head_symbol : {family code : ℕ} → Head s at (Symbol family code) end → (r : FieldSet) →
+  pub head_symbol : {family code : ℕ} → Head s at (Symbol family code) end → (r : Result fields.FieldBox Missing) →
       FieldDone F st manner (symbol family code) at end b r b' → HeadDone F st manner s at b r b'
   head_symbol o r d = head_done o r d
 
   -- the list of n bytes behind the opening, whose setter comes to l between the sides of its manner
   module _ {opening n : ℕ} (o : Head s at (Sublist opening n) end) (sides : Sides) (between : sides ≡ sides_of manner)
-      {start : lines.Line} (empty-line : StartLine sides.left st start) (l : ItemsSet)
+      {start : lines.Line} (empty-line : StartLine sides.left st start) (l : Result lines.Line Missing)
       (d : let part = take (end - (at + opening)) (drop (at + opening) s) in
       ItemsDone F sides.right (tree_of part) (length part) start b l b') where
     inner : take (end - (at + opening)) (drop (at + opening) s) ≡ contents opening n (drop at s)
@@ -117,37 +112,37 @@ module _ (F : Font) (st : Style) (manner : Manner) (b b' : List ℕ) {s : List �
     goes_on_lem = omega (arith, o.goes, opens)
 
     -- what it came to, of the bytes of the list
-    items_done : (r : ItemsSet) → l ≡ r → ItemsDone F sides.right tree n start b r b'
+    items_done : (r : Result lines.Line Missing) → l ≡ r → ItemsDone F sides.right tree n start b r b'
     items_done r is =
-        let Done : List ℕ → ℕ → ItemsSet → Type 0 = λ p k r. ItemsDone F sides.right (tree_of p) k start b r b' in
+        let Done : List ℕ → ℕ → Result lines.Line Missing → Type 0 = λ p k r. ItemsDone F sides.right (tree_of p) k start b r b' in
         let part = contents opening n (drop at s) in
         subst (Done part n) is
         (subst (λ (k : ℕ). Done part k l) (contents_shorter (drop at s) opening n o.is).0
         (subst (λ (p : List ℕ). Done p (length p) l) inner d))
 
     -- a line of its own bytes alone
-    head_line : {line : lines.Line} → l ≡ items.Whole line → LineWithin (0 + n) line
-    head_line {line} is = (items_done (items.Whole line) is).1.grows 0 (start_within 0 empty-line)
+    head_line : {line : lines.Line} → l ≡ Ok line → LineWithin (0 + n) line
+    head_line {line} is = (items_done (Ok line) is).1.grows 0 (start_within 0 empty-line)
 
-    head_whole : {P : Parameters} {line : lines.Line} {c : fields.FieldBox} → P ≡ F.parameter → l ≡ items.Whole line →
-        ClosedField P st sides.right end line c → HeadDone F st manner s at b (Whole c) b'
+    head_whole : {P : Parameters} {line : lines.Line} {c : fields.FieldBox} → P ≡ F.parameter → l ≡ Ok line →
+        ClosedField P st sides.right end line c → HeadDone F st manner s at b (Ok c) b'
     head_whole {P} {line} {c} params is p =
         let closed = p.closed in
         let end_is = subst (λ (P : Parameters). ClosedLine P st sides.right line closed) params p.closed_is in
-        let w = subst (λ (sides : Sides). ListDone F sides st tree n b (items.Whole closed) b') between
-        (list_whole_of F sides tree n b b' empty-line line closed (items_done (items.Whole line) is) end_is) in
-        head_done o (Whole c) (list_whole F st manner at end b tree n goes_on_lem b' closed c w p.part_is)
+        let w = subst (λ (sides : Sides). ListDone F sides st tree n b (Ok closed) b') between
+        (list_whole_of F sides tree n b b' empty-line line closed (items_done (Ok line) is) end_is) in
+        head_done o (Ok c) (list_whole F st manner at end b tree n goes_on_lem b' closed c w p.part_is)
 
-    head_missing : {place : ℕ} → l ≡ items.Missing place →
-        HeadDone F st manner s at b (Missing (at + opening + place)) b' × (at + opening + place ≤ length s)
-    head_missing {place} is =
-        let w = list_lacks_of F sides tree n b b' empty-line place (items_done (items.Missing place) is) in
+    head_missing : {m : Missing} → l ≡ Err m →
+        HeadDone F st manner s at b (Err (record { place = at + opening + m.place })) b' × (at + opening + m.place ≤ length s)
+    head_missing {m} is =
+        let w = list_lacks_of F sides tree n b b' empty-line m (items_done (Err m) is) in
         let e : at + list_opening_bytes (items_bytes tree) ≡ at + opening = omega (arith, opens) in
         let low = w.1 in
         let in_List = o.inside in (
-          head_done o (Missing (at + opening + place))
-              (subst (λ (k : ℕ). FieldDone F st manner (list tree) at end b (Missing (k + place)) b') e
-              (list_missing F st manner at end b tree n goes_on_lem b' place w)),
+          head_done o (Err (record { place = at + opening + m.place }))
+              (subst (λ (k : ℕ). FieldDone F st manner (list tree) at end b (Err (record { place = k + m.place })) b') e
+              (list_missing F st manner at end b tree n goes_on_lem b' m.place w)),
           omega (arith, o.goes),
         )
 
@@ -155,35 +150,35 @@ module _ (F : Font) (st : Style) (manner : Manner) (b b' : List ℕ) {s : List �
     pub list_goes : length s ≤ formula_limit → ListGoes (at + opening) l
     list_goes short = go l refl
       where
-        go : (r : ItemsSet) → l ≡ r → ListGoes (at + opening) r
-        go (items.Whole line) is = line_more (omega (arith, o.goes, o.inside)) (head_line is)
-        go (items.Missing place) is = omega (arith, (head_missing is).1)
+        go : (r : Result lines.Line Missing) → l ≡ r → ListGoes (at + opening) r
+        go (Ok line) is = line_more (omega (arith, o.goes, o.inside)) (head_line is)
+        go (Err m) is = omega (arith, (head_missing is).1)
 
-    pub head_list : {P : Parameters} → P ≡ F.parameter → (r : FieldSet) → ListField P st sides.right (at + opening) end l r →
+    pub head_list : {P : Parameters} → P ≡ F.parameter → (r : Result fields.FieldBox Missing) → ListField P st sides.right (at + opening) end l r →
         HeadDone F st manner s at b r b'
     head_list {P} params r d = go l refl r d
       where
-        go : (came : ItemsSet) → l ≡ came → (r : FieldSet) → ListField P st sides.right (at + opening) end came r →
+        go : (came : Result lines.Line Missing) → l ≡ came → (r : Result fields.FieldBox Missing) → ListField P st sides.right (at + opening) end came r →
             HeadDone F st manner s at b r b'
-        go (items.Whole line) is (Whole c) p = head_whole params is p
-        go (items.Whole line) is (Missing there) p = absurd p
-        go (items.Missing place) is (Whole c) e = absurd e
-        go (items.Missing place) is (Missing there) e =
-            subst (λ (k : ℕ). HeadDone F st manner s at b (Missing k) b') (sym e) (head_missing is).0
+        go (Ok line) is (Ok c) p = head_whole params is p
+        go (Ok line) is (Err there) p = absurd p
+        go (Err m) is (Ok c) e = absurd e
+        go (Err m) is (Err there) e =
+            subst (λ (k : ℕ). HeadDone F st manner s at b (Err (record { place = k })) b') (sym e) (head_missing is).0
 
 module _ (F : Font) (st : Style) (manner : Manner) (b : List ℕ) {s : List ℕ} {at end : ℕ} where
   pub head_empty : {h : FieldHead} {c : fields.FieldBox} → Head s at h end → field_of (drop at s) h ≡ empty → EmptyField end c →
-      HeadDone F st manner s at b (Whole c) b
+      HeadDone F st manner s at b (Ok c) b
   head_empty {h} {c} o none_there e =
-      head_done F st manner b b o (Whole c)
-      (subst (λ (f : Field). FieldDone F st manner f at end b (Whole c) b) (sym none_there)
+      head_done F st manner b b o (Ok c)
+      (subst (λ (f : Field). FieldDone F st manner f at end b (Ok c) b) (sym none_there)
       (field_empty F st manner at end b c (omega (arith, o.goes)) e))
 
 -- what the setter of a list is given, and that the list is shorter than what holds the item
-pub list_given : {t u i j : List ℕ} {p : List (List ℕ)} {s : List ℕ} {at end opening n : ℕ} {left : Neighbour} {st : Style} {start : lines.Line} → FieldGiven t u i j p s at →
+pub list_given : {s : List ℕ} {at end opening n : ℕ} {left : Neighbour} {st : Style} {start : lines.Line} → FieldGiven s at →
     Head s at (Sublist opening n) end → StartLine left st start →
     let part = take (end - (at + opening)) (drop (at + opening) s) in
-    ItemsGiven t u i j p part start × (length part < length s)
+    ItemsGiven part start × (length part < length s)
 list_given {s = s} {at} {end} {opening} {n} given o empty-line =
     let shorter = contents_shorter (drop at s) opening n o.is in
     let rest = length-drop at s in
@@ -195,8 +190,6 @@ list_given {s = s} {at} {end} {opening} {n} given o empty-line =
       record {
         list =
             record {
-              tables_good = given.tables_good;
-              parameters_are = given.parameters_are;
               readable = o.good;
               short = omega arith;
             };

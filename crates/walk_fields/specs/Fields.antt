@@ -1,7 +1,7 @@
 -- What a field that is set alone comes to (`FieldDone`), and a line that is a whole list as a field (`ListField`).
 -- Of what passes the greatest length nothing is promised but that it does so, and how many nodes it has at most.
 -- Assumes nothing.
-use Rattle.std.specs.Prelude.{◌≡◌, true, not, List, ℕ, ◌+◌, ◌-◌, ◌^◌, ◌≤◌, ◌<◌}
+use Rattle.std.specs.Prelude.{◌≡◌, true, not, List, Result, Ok, Err, ℕ, ◌+◌, ◌-◌, ◌^◌, ◌≤◌, ◌<◌}
 use Rattle.std.proofs.Math.Option.{none, some}
 use Rattle.font.specs.Font.{Font}
 use Rattle.formula.specs.Tree.{Field}
@@ -15,17 +15,14 @@ use Rattle.boxes.specs.Bounds.{ModerateShape}
 use Rattle.nodes.specs.Bounds.{greatest_length}
 use Rattle.nodes.specs.Drawn.{Drawn}
 use Rattle.nodes.specs.Kept.{Kept}
-use Rattle.nodes.specs.Hull.{hull, HullWithin}
+use Rattle.nodes.specs.Hull.{HullWithin}
 use Rattle.nodes.specs.Values.{hull_of, is_large, EmptyRun}
 use Rattle.setting.specs.Setting.{set_field}
 use Rattle.setting.specs.Missing.{missing_field}
 use Rattle.setting.specs.Fitting.{field_fits}
 use Rattle.walk_fields.specs.declared.fields.FieldBox as fields
-use Rattle.walk_fields.specs.declared.fields.FieldSet.{FieldSet}
-use Rattle.walk_fields.specs.declared.fields.FieldSet.TheVariants as field
+use Rattle.walk_fields.specs.declared.fields.Missing.{Missing}
 use Rattle.walk_fields.specs.declared.lines.Line as lines
-use Rattle.walk_fields.specs.declared.lines.ItemsSet.{ItemsSet}
-use Rattle.walk_fields.specs.declared.lines.ItemsSet.TheVariants as items
 use Rattle.walk_fields.specs.Values.{FieldBoxIs, line_fits}
 use Rattle.walk_fields.specs.Bounds.{LineWithin}
 use Rattle.walk_fields.specs.Lines.{ClosedLine}
@@ -49,12 +46,12 @@ pub record FieldWhole (F : Font) (s : Style) (manner : Manner) (f : Field) (at e
   pub small : FieldBoxWithin at c
   pub is : field_fits F s manner f ≡ true → FieldBoxIs (set_field F s manner f) c
 
-abbrev pub FieldDone : Font → Style → Manner → Field → ℕ → ℕ → List ℕ → FieldSet → List ℕ → Type 0
-FieldDone F s manner f at end b (field.Whole c) b' =
+abbrev pub FieldDone : Font → Style → Manner → Field → ℕ → ℕ → List ℕ → Result fields.FieldBox Missing → List ℕ → Type 0
+FieldDone F s manner f at end b (Ok c) b' =
     FieldWhole F s manner f at end c × (field_fits F s manner f ≡ true → Drawn (set_field F s manner f).nodes b b')
     × Kept (end - at) b b'
-FieldDone F s manner f at end b (field.Missing place) b' =
-    (missing_field F s manner at f ≡ some place) × (place ≤ end) × Kept (end - at) b b'
+FieldDone F s manner f at end b (Err m) b' =
+    (missing_field F s manner at f ≡ some m.place) × (m.place ≤ end) × Kept (end - at) b b'
 
 -- ---- from a line
 
@@ -74,12 +71,12 @@ pub record ClosedField (P : Parameters) (s : Style) (right : Neighbour) (end : �
   pub part_is : LineField end closed c
 
 -- what the setter of a list came to, whose items stand at a place of its item, and the field from that
-abbrev pub ListGoes : ℕ → ItemsSet → Type 0
-ListGoes first (items.Whole l) = LineWithin formula_limit l
-ListGoes first (items.Missing place) = first + place < 2 ^ 64
+abbrev pub ListGoes : ℕ → Result lines.Line Missing → Type 0
+ListGoes first (Ok l) = LineWithin formula_limit l
+ListGoes first (Err m) = first + m.place < 2 ^ 64
 
-abbrev pub ListField : Parameters → Style → Neighbour → ℕ → ℕ → ItemsSet → FieldSet → Type 0
-ListField P s right first end (items.Whole l) (field.Whole c) = ClosedField P s right end l c
-ListField P s right first end (items.Whole l) (field.Missing place) = ⊥
-ListField P s right first end (items.Missing place) (field.Whole c) = ⊥
-ListField P s right first end (items.Missing place) (field.Missing there) = there ≡ first + place
+abbrev pub ListField : Parameters → Style → Neighbour → ℕ → ℕ → Result lines.Line Missing → Result fields.FieldBox Missing → Type 0
+ListField P s right first end (Ok l) (Ok c) = ClosedField P s right end l c
+ListField P s right first end (Ok l) (Err m) = ⊥
+ListField P s right first end (Err m) (Ok c) = ⊥
+ListField P s right first end (Err m) (Err n) = n.place ≡ first + m.place

@@ -1,13 +1,12 @@
 -- What the functions ask and promise by which a line grows, in terms of the definition.
 -- Assumes nothing.
-use Rattle.std.specs.Prelude.{◌≡◌, ◌+◌, ◌^◌, ◌<◌, ℤ, ◌+ℤ◌}
+use Rattle.std.specs.Prelude.{◌≡◌, Some, ◌+◌, ◌^◌, ◌<◌, ℤ, ◌+ℤ◌}
 use Rattle.std.proofs.Math.Option.{none, some}
 use Rattle.scaled.specs.Length.{max_ℤ}
 use Rattle.scaled.specs.Signed.{Within}
 use Rattle.formula.specs.declared.Class.{Class}
 use Rattle.boxes.specs.declared.styles.Style.{Style}
 use Rattle.boxes.specs.declared.Size.{Size as CodeSize}
-use Rattle.spacing.specs.declared.classes.Neighbour.TheVariants.{Atom}
 use Rattle.boxes.specs.Parameters.{Parameters}
 use Rattle.spacing.specs.Classes.{Neighbour}
 use Rattle.spacing.specs.Spacing.{space_before}
@@ -72,7 +71,7 @@ pub record ItemGoes (l : lines.Line) (x : ℤ) (z : CodeSize) (r : Run) : Type 0
   pub few : l.run.count + r.count < 2 ^ 64
 
 pub record ExtendedLine (l : lines.Line) (class : Class) (x : ℤ) (z : CodeSize) (r : Run) (c : lines.Line) : Type 0 where
-  pub left_is : c.left ≡ Atom class
+  pub left_is : c.left ≡ Some class
   pub style_is : c.style ≡ l.style
   pub size_is : SizesBeside l.size x z c.size
   pub run_is : JoinedRun l.run r c.run

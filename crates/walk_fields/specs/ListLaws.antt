@@ -3,7 +3,7 @@
 --     bare_start, start_within, line_more     an empty line, and how far a line reaches
 --     list_whole_of, list_lacks_of     a list is its items behind an empty line, between its sides, and then its end; `list_of_items` has none
 -- Assumes nothing.
-use Rattle.std.specs.Prelude.{◌≡◌, refl, Bool, false, not, ◌&&◌, ℕ, ◌≤◌, ℤ, pos}
+use Rattle.std.specs.Prelude.{◌≡◌, refl, Result, Ok, Err, Bool, false, not, ◌&&◌, ℕ, ◌≤◌, ℤ, pos}
 use Rattle.std.proofs.Math.Path.{sym, subst, ap, ap₂}
 use Rattle.std.proofs.Common.{◌∙◌, arith}
 use Rattle.std.proofs.Math.Bool.{true, and-true, and-false, and_comm}
@@ -21,15 +21,14 @@ use Rattle.boxes.specs.Values.{size_as}
 use Rattle.nodes.specs.Nodes.{Node}
 use Rattle.nodes.specs.Bounds.{nodes_fit}
 use Rattle.nodes.specs.Drawn.{Drawn}
-use Rattle.nodes.specs.Hull.{hull_fits, joined, hull}
+use Rattle.nodes.specs.Hull.{hull_fits, joined}
 use Rattle.nodes.specs.HullLaws.{fits_hull, within_more}
 use Rattle.nodes.specs.Values.{hull_of, is_large, RunIs}
 use Rattle.setting.specs.Setting.{Box, Line, Sides, no_sides, start, style_after, closed, set_items, set_list}
 use Rattle.setting.proofs.SettingLaws.{closed_nodes, set_items_style}
 use Rattle.setting.specs.Fitting.{size_fits, box_fits, items_fit}
 use Rattle.walk_fields.specs.declared.lines.Line as lines
-use Rattle.walk_fields.specs.declared.lines.ItemsSet.{ItemsSet}
-use Rattle.walk_fields.specs.declared.lines.ItemsSet.TheVariants as items
+use Rattle.walk_fields.specs.declared.fields.Missing.{Missing}
 use Rattle.walk_fields.specs.Values.{bare_in, bare_line, line_fits}
 use Rattle.walk_fields.specs.Bounds.{LineWithin, stride}
 use Rattle.walk_fields.specs.Lines.{StartLine, closed_size, ClosedLine}
@@ -102,8 +101,8 @@ module _ (F : Font) (sides : Sides) {s : Style} (l : Items) (n : ℕ) {c : lines
   abbrev whole_line : Line
   whole_line = set_items F sides.right (start sides.left s) l
 
-  pub list_whole_of : (r d : lines.Line) → ItemsDone F sides.right l n c b (items.Whole r) b' →
-      ClosedLine F.parameter s sides.right r d → ListDone F sides s l n b (items.Whole d) b'
+  pub list_whole_of : (r d : lines.Line) → ItemsDone F sides.right l n c b (Ok r) b' →
+      ClosedLine F.parameter s sides.right r d → ListDone F sides s l n b (Ok d) b'
   unfolding set_list joined
   list_whole_of r d (present, a) e =
       let right = sides.right in
@@ -132,11 +131,11 @@ module _ (F : Font) (sides : Sides) {s : Style} (l : Items) (n : ℕ) {c : lines
         a.kept,
       )
 
-  pub list_lacks_of : (place : ℕ) → ItemsDone F sides.right l n c b (items.Missing place) b' → ListDone F sides s l n b (items.Missing place) b'
-  list_lacks_of place d = rw o.style_is at d
+  pub list_lacks_of : (m : Missing) → ItemsDone F sides.right l n c b (Err m) b' → ListDone F sides s l n b (Err m) b'
+  list_lacks_of m d = rw o.style_is at d
 
 -- without sides
-pub list_of_items : (F : Font) {s : Style} (l : Items) (n : ℕ) {c : lines.Line} (b b' : List ℕ) (r : ItemsSet) → StartLine none s c →
+pub list_of_items : (F : Font) {s : Style} (l : Items) (n : ℕ) {c : lines.Line} (b b' : List ℕ) (r : Result lines.Line Missing) → StartLine none s c →
     ItemsDone F none l n c b r b' → ListDone F no_sides s l n b r b'
-list_of_items F {s} l n b b' (items.Whole r) o d = list_whole_of F no_sides l n b b' o r r d (closed_bare F.parameter s r)
-list_of_items F l n b b' (items.Missing place) o d = list_lacks_of F no_sides l n b b' o place d
+list_of_items F {s} l n b b' (Ok r) o d = list_whole_of F no_sides l n b b' o r r d (closed_bare F.parameter s r)
+list_of_items F l n b b' (Err m) o d = list_lacks_of F no_sides l n b b' o m d

@@ -4,17 +4,16 @@
 -- Whatever they come to, a missing symbol, something too large or too little room, a buffer keeps all but as many nodes as there are
 -- bytes in what was to be set (`Kept`).
 -- Assumes nothing.
-use Rattle.std.specs.Prelude.{◌≡◌, Bool, true, not, ◌||◌, List, ℕ, ◌+◌, ◌-◌, ◌≤◌, length}
+use Rattle.std.specs.Prelude.{◌≡◌, Bool, true, not, ◌||◌, List, Result, Ok, Err, ℕ, ◌+◌, ◌-◌, ◌≤◌, length}
 use Rattle.std.proofs.Math.Option.{none, some}
-use Rattle.font_index.specs.Index.{Indexed}
-use Rattle.font.specs.Font.{Font, font_with}
+use Rattle.font.specs.Font.{Font}
 use Rattle.formula.specs.Tree.{Items}
 use Rattle.formula.specs.Places.{Readable, field_end, field_in, GoodFieldAt}
 use Rattle.formula.specs.Format.{formula_limit}
 use Rattle.boxes.specs.declared.styles.Style.{Style}
 use Rattle.spacing.specs.Classes.{Neighbour}
 use Rattle.arrange.specs.declared.Manner.{Manner}
-use Rattle.boxes.specs.Values.{parameters_in, size_as}
+use Rattle.boxes.specs.Values.{size_as}
 use Rattle.spacing.specs.Values.{neighbour_as}
 use Rattle.nodes.specs.Drawn.{Drawn}
 use Rattle.nodes.specs.Kept.{Kept}
@@ -23,32 +22,27 @@ use Rattle.nodes.specs.Values.{hull_of, is_large, RunIs}
 use Rattle.setting.specs.Setting.{Line, Sides, start, style_after, set_items, set_list}
 use Rattle.setting.specs.Missing.{missing_items}
 use Rattle.setting.specs.Fitting.{items_fit}
-use Rattle.walk_fields.specs.declared.fields.FieldSet.{FieldSet}
+use Rattle.walk_fields.specs.declared.fields.FieldBox as fields
+use Rattle.walk_fields.specs.declared.fields.Missing.{Missing}
 use Rattle.walk_fields.specs.declared.lines.Line as lines
-use Rattle.walk_fields.specs.declared.lines.ItemsSet.{ItemsSet}
-use Rattle.walk_fields.specs.declared.lines.ItemsSet.TheVariants as items
 use Rattle.walk_fields.specs.Values.{bare_line}
 use Rattle.walk_fields.specs.Bounds.{LineWithin}
 use Rattle.walk_fields.specs.Fields.{FieldDone}
 
 -- ---- what a setter is given
 
--- a list's bytes, our table and the client's with their indexes, and the parameters
-pub record ListGiven (t u i j : List ℕ) (p : List (List ℕ)) (s : List ℕ) : Type 0 where
-  pub tables_good : Indexed t u i j
-  pub parameters_are : parameters_in p ≡ (font_with t u).parameter
+-- a list's bytes
+pub record ListGiven (s : List ℕ) : Type 0 where
   pub readable : Readable s
   pub short : length s ≤ formula_limit
 
 -- and a line that they are to follow
-pub record ItemsGiven (t u i j : List ℕ) (p : List (List ℕ)) (s : List ℕ) (l : lines.Line) : Type 0 where
-  pub list : ListGiven t u i j p s
+pub record ItemsGiven (s : List ℕ) (l : lines.Line) : Type 0 where
+  pub list : ListGiven s
   pub small : LineWithin (formula_limit - length s) l
 
 -- a field at a place of its item
-pub record FieldGiven (t u i j : List ℕ) (p : List (List ℕ)) (s : List ℕ) (at : ℕ) : Type 0 where
-  pub tables_good : Indexed t u i j
-  pub parameters_are : parameters_in p ≡ (font_with t u).parameter
+pub record FieldGiven (s : List ℕ) (at : ℕ) : Type 0 where
   pub good : GoodFieldAt s at
   pub inside : at ≤ length s
   pub short : length s ≤ formula_limit
@@ -70,12 +64,12 @@ pub record Added (fits : Bool) (M : Line) (bytes : ℕ) (l : lines.Line) (b : Li
   pub drawn : fits ≡ true → Drawn M.box.nodes b b'
   pub kept : Kept bytes b b'
 
-abbrev pub ItemsDone : Font → Neighbour → Items → ℕ → lines.Line → List ℕ → ItemsSet → List ℕ → Type 0
-ItemsDone F beyond l bytes line b (items.Whole r) b' =
+abbrev pub ItemsDone : Font → Neighbour → Items → ℕ → lines.Line → List ℕ → Result lines.Line Missing → List ℕ → Type 0
+ItemsDone F beyond l bytes line b (Ok r) b' =
     (missing_items F line.style l ≡ none)
     × Added (items_fit F line.style l) (set_items F beyond (bare_line line) l) bytes line b r b'
-ItemsDone F beyond l bytes line b (items.Missing place) b' =
-    (missing_items F line.style l ≡ some place) × (place ≤ bytes) × Kept bytes b b'
+ItemsDone F beyond l bytes line b (Err m) b' =
+    (missing_items F line.style l ≡ some m.place) × (m.place ≤ bytes) × Kept bytes b b'
 
 -- a list at its own reference point, between two sides
 pub record ListWhole (F : Font) (sides : Sides) (s : Style) (l : Items) (bytes : ℕ) (c : lines.Line) : Type 0 where
@@ -87,12 +81,12 @@ pub record ListWhole (F : Font) (sides : Sides) (s : Style) (l : Items) (bytes :
   pub size_is : items_fit F s l ≡ true → size_as c.size ≡ (set_list F sides s l).size
   pub run_is : items_fit F s l ≡ true → RunIs (set_list F sides s l).nodes c.run
 
-abbrev pub ListDone : Font → Sides → Style → Items → ℕ → List ℕ → ItemsSet → List ℕ → Type 0
-ListDone F sides s l bytes b (items.Whole c) b' =
+abbrev pub ListDone : Font → Sides → Style → Items → ℕ → List ℕ → Result lines.Line Missing → List ℕ → Type 0
+ListDone F sides s l bytes b (Ok c) b' =
     ListWhole F sides s l bytes c × (items_fit F s l ≡ true → Drawn (set_list F sides s l).nodes b b') × Kept bytes b b'
-ListDone F sides s l bytes b (items.Missing place) b' =
-    (missing_items F s l ≡ some place) × (place ≤ bytes) × Kept bytes b b'
+ListDone F sides s l bytes b (Err m) b' =
+    (missing_items F s l ≡ some m.place) × (m.place ≤ bytes) × Kept bytes b b'
 
 -- the field at a place of its item
-abbrev pub HeadDone : Font → Style → Manner → List ℕ → ℕ → List ℕ → FieldSet → List ℕ → Type 0
+abbrev pub HeadDone : Font → Style → Manner → List ℕ → ℕ → List ℕ → Result fields.FieldBox Missing → List ℕ → Type 0
 HeadDone F s manner bytes at b r b' = FieldDone F s manner (field_in bytes at) at (field_end bytes at) b r b'

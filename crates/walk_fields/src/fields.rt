@@ -1,8 +1,7 @@
 // A field that has been set alone, at its own reference point.
 
 ghost use Rattle.std.specs.Prelude.{◌≡◌, ◌+◌, ◌<◌, ◌^◌};
-ghost use Rattle.font_index.specs.Index.{Indexed};
-ghost use Rattle.font.specs.Font.{font_with};
+ghost use Rattle.font.specs.Font.{font_in};
 ghost use Rattle.formula.specs.Tree.{symbol};
 ghost use Rattle.walk_fields.specs.Fields.{EmptyField, FieldDone};
 
@@ -10,10 +9,11 @@ use crate::sides::is_enlarged;
 use arrange::{Manner, OwnCounts};
 use boxes::Shape;
 use boxes::styles::{Style, font_size};
+use font_index::Font;
 use nodes::put_glyph;
 use nodes::run::Run;
 use scaled::Sp;
-use walk_symbols::symbols::{SymbolSearch, symbol_in};
+use walk_symbols::symbols::symbol_in;
 
 // Where it ends in its item, its shape, and its nodes.
 #[derive(Clone, Copy)]
@@ -23,11 +23,22 @@ pub struct FieldBox {
     pub run: Run,
 }
 
-// A field, or the place in its item of its first symbol that the font lacks.
+// The place of the first symbol that the font lacks: in a field's item, in an item, or in a list.
 #[derive(Clone, Copy)]
-pub enum FieldSet {
-    Whole(FieldBox),
-    Missing(usize),
+pub struct Missing {
+    pub place: usize,
+}
+
+impl Missing {
+    // Counted from so many bytes before.
+    pub fn behind(self, before: usize) -> Missing
+        requires { before + self.place < 2 ^ 64 }
+        ensures { result.place ≡ before + self.place }
+    {
+        Missing {
+            place: before + self.place,
+        }
+    }
 }
 
 pub fn empty_field(end: usize) -> FieldBox
@@ -42,11 +53,8 @@ pub fn empty_field(end: usize) -> FieldBox
 
 // A symbol's glyph stands at the reference point. The field goes from `at` to `end` of its item; a symbol that is missing
 // is so at the field's kind byte.
-pub fn symbol_field<'a>(
-    table: &'a [u8],
-    client: &'a [u8],
-    index: &[u64],
-    client_index: &[u64],
+pub fn symbol_field(
+    font: &Font,
     style: Style,
     manner: Manner,
     family: u8,
@@ -54,32 +62,21 @@ pub fn symbol_field<'a>(
     at: usize,
     end: usize,
     buf: &mut [u8],
-) -> FieldSet
-    requires { Indexed table.now client.now index.now client_index.now × (at < end) }
-    ensures { FieldDone (font_with table.now client.now) style manner (symbol family code) at end buf.old result buf.new }
+) -> Result<FieldBox, Missing>
+    requires { at < end }
+    ensures { FieldDone (font_in font.now) style manner (symbol family code) at end buf.old result buf.new }
 {
     let size = font_size(style) as u8;
-    let sought = symbol_in(
-        table,
-        client,
-        index,
-        client_index,
-        size,
-        is_enlarged(manner),
-        family,
-        code,
-    );
-    match sought {
-        SymbolSearch::Present(symbol) => {
-            let metrics = symbol.metrics;
+    match symbol_in(font, size, is_enlarged(manner), family, code) {
+        Some(symbol) => {
             put_glyph(buf, Sp(0), Sp(0), size, family, symbol.code);
-            FieldSet::Whole(FieldBox {
+            Ok(FieldBox {
                 end,
-                shape: Shape::Char(metrics),
+                shape: Shape::Char(symbol.metrics),
                 run: Run::point(Sp(0), Sp(0)),
             })
         }
-        SymbolSearch::Absent => FieldSet::Missing(at),
+        None => Err(Missing { place: at }),
     }
 }
 

@@ -6,32 +6,30 @@ ghost use Rattle.walk_fields.specs.Values.{sides_as};
 
 use arrange::Manner;
 use formula::Class;
-use spacing::classes::Neighbour;
 
 // The atoms that a list sees before its first and behind its last, though they are not in it.
 #[derive(Clone, Copy)]
 pub struct Sides {
-    pub left: Neighbour,
-    pub right: Neighbour,
+    pub left: Option<Class>,
+    pub right: Option<Class>,
 }
 
 const NO_SIDES: Sides = Sides {
-    left: Neighbour::End,
-    right: Neighbour::End,
+    left: None,
+    right: None,
 };
 
 // Within a fence an Open and a Close (rule 19).
 const FENCE_SIDES: Sides = Sides {
-    left: Neighbour::Atom(Class::Open),
-    right: Neighbour::Atom(Class::Close),
+    left: Some(Class::Open),
+    right: Some(Class::Close),
 };
 
 pub fn sides_of(manner: Manner) -> Sides
     ensures { sides_as result ≡ definition.sides_of manner }
 {
     match manner {
-        Manner::Plain => NO_SIDES,
-        Manner::Enlarged => NO_SIDES,
+        Manner::Plain | Manner::Enlarged => NO_SIDES,
         Manner::Fenced => FENCE_SIDES,
     }
 }
@@ -40,9 +38,5 @@ pub fn sides_of(manner: Manner) -> Sides
 pub(crate) fn is_enlarged(manner: Manner) -> bool
     ensures { result ≡ definition.is_enlarged manner }
 {
-    match manner {
-        Manner::Plain => false,
-        Manner::Enlarged => true,
-        Manner::Fenced => false,
-    }
+    manner == Manner::Enlarged
 }

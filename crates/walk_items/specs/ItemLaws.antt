@@ -5,7 +5,7 @@
 --     item_kept                   what stays of the buffer, whatever the fields came to
 --     item_reach, item_grows      how far the nodes of an item, and the line with it, lie from zero
 -- Assumes nothing.
-use Rattle.std.specs.Prelude.{◌≡◌, refl, List, [], ◌∷◌, ◌++◌, ℕ, ◌+◌, ◌*◌, ◌≤◌, ℤ, pos, ◌+ℤ◌, length, take, drop}
+use Rattle.std.specs.Prelude.{◌≡◌, refl, Option, Some, None, List, [], ◌∷◌, ◌++◌, ℕ, ◌+◌, ◌*◌, ◌≤◌, ℤ, pos, ◌+ℤ◌, length, take, drop}
 use Rattle.std.proofs.Common.{sym, ap₂, ◌∙◌, append-nil, append_assoc, arith, length-append, length-drop, take-append-drop, length-take-le}
 use Rattle.std.proofs.Math.Path.{ap}
 use Rattle.scaled.specs.Length.{max_ℤ}
@@ -13,10 +13,8 @@ use Rattle.scaled.specs.Signed.{Within}
 use Rattle.scaled.specs.Linear.{#, ◌⊕◌, greatest}
 use Rattle.scaled.proofs.Linear.{eq_by, within_by}
 use Rattle.boxes.specs.declared.Offset.{Offset as CodeOffset}
-use Rattle.boxes.specs.declared.Ruling.{Ruling}
-use Rattle.boxes.specs.declared.Ruling.TheVariants.{Unruled, Ruled}
-use Rattle.boxes.specs.declared.Signing.{Signing}
-use Rattle.boxes.specs.declared.Signing.TheVariants.{Unsigned, Signed}
+use Rattle.boxes.specs.declared.Glyph as glyphs
+use Rattle.boxes.specs.declared.Rule as rules
 use Rattle.boxes.specs.declared.Owned.{Owned}
 use Rattle.boxes.specs.declared.Arranged.{Arranged as CodeArranged}
 use Rattle.boxes.specs.Boxes.{Size, Offset, Rule, Glyph, OwnNode, ruled, signed, Arranged}
@@ -248,13 +246,13 @@ own_joined {before} {r} {r'} os ps {x} {b} p q =
     }
 
 -- an item has two own nodes before its first field at most, and two behind it
-pub one_sign : (s : Signing) → length (signing_as s) ≤ 1
-one_sign Unsigned = omega arith
-one_sign (Signed g) = omega arith
+pub one_sign : (s : Option glyphs.Glyph) → length (signing_as s) ≤ 1
+one_sign None = omega arith
+one_sign (Some g) = omega arith
 
-one_rule : (r : Ruling) → length (ruling_as r) ≤ 1
-one_rule Unruled = omega arith
-one_rule (Ruled r) = omega arith
+one_rule : (r : Option rules.Rule) → length (ruling_as r) ≤ 1
+one_rule None = omega arith
+one_rule (Some r) = omega arith
 
 pub few_owned : (o : Owned) → length (owned_as o) ≤ 2
 few_owned o = omega (arith, length-append (signing_as o.sign) (ruling_as o.ruling), one_sign o.sign, one_rule o.ruling)
@@ -284,17 +282,17 @@ module _ {m : ℕ} {x : ℤ} (near : Within m x) where
       let above = # p.up.0 ⊕ # (pos 0) in
       (within_by right n (omega arith), within_by right n (omega arith), within_by above n (omega arith), within_by above n (omega arith))
 
-  sign_reach : (s : Signing) → SigningWithin item_words s →
+  sign_reach : (s : Option glyphs.Glyph) → SigningWithin item_words s →
       HullWithin (m + words item_words + greatest_length) (hull (moved x (pos 0) (own_nodes (signing_as s))))
   unfolding moved own_nodes hull joined
-  sign_reach Unsigned small = tt
-  sign_reach (Signed g) small = point_reach g.place small
+  sign_reach None small = tt
+  sign_reach (Some g) small = point_reach g.place small
 
-  rule_reach : (l : Ruling) → RulingWithin item_words l →
+  rule_reach : (l : Option rules.Rule) → RulingWithin item_words l →
       HullWithin (m + words item_words + greatest_length) (hull (moved x (pos 0) (own_nodes (ruling_as l))))
   unfolding moved own_nodes hull joined
-  rule_reach Unruled small = tt
-  rule_reach (Ruled r) small = point_reach r.corner small.corner
+  rule_reach None small = tt
+  rule_reach (Some r) small = point_reach r.corner small.corner
 
   own_reach : (o : Owned) → OwnedWithin item_words o →
       HullWithin (m + words item_words + greatest_length) (hull (moved x (pos 0) (own_nodes (owned_as o))))

@@ -1,17 +1,16 @@
 -- What the functions ask and promise that arrange an item whose fields are set, and put it behind a line (`Finished`).
 -- Assumes nothing.
-use Rattle.std.specs.Prelude.{◌≡◌, ◌||◌, List, [], ◌∷◌, ℕ, ◌+◌, ◌^◌, ◌≤◌, ◌<◌, ℤ, pos, ◌+ℤ◌, length}
+use Rattle.std.specs.Prelude.{◌≡◌, ◌||◌, Option, Some, List, [], ◌∷◌, ℕ, ◌+◌, ◌^◌, ◌≤◌, ◌<◌, ℤ, pos, ◌+ℤ◌, length}
 use Rattle.scaled.specs.Signed.{Within}
 use Rattle.formula.specs.declared.Class.{Class}
 use Rattle.formula.specs.declared.Kind.{Kind}
 use Rattle.formula.specs.Format.{formula_limit}
 use Rattle.boxes.specs.declared.styles.Style.{Style}
 use Rattle.boxes.specs.declared.Offset.{Offset as CodeOffset}
-use Rattle.boxes.specs.declared.Ruling.{Ruling}
-use Rattle.boxes.specs.declared.Signing.{Signing}
+use Rattle.boxes.specs.declared.Glyph.{Glyph}
+use Rattle.boxes.specs.declared.Rule.{Rule}
 use Rattle.boxes.specs.declared.Owned.{Owned}
 use Rattle.boxes.specs.declared.Arranged.{Arranged as CodeArranged}
-use Rattle.spacing.specs.declared.classes.Neighbour.TheVariants.{Atom}
 use Rattle.boxes.specs.Parameters.{Parameters}
 use Rattle.spacing.specs.Classes.{Neighbour, class_of, changed_class}
 use Rattle.spacing.specs.Spacing.{space_before}
@@ -61,12 +60,12 @@ unfoldable pub own_put : ℤ → ℕ → List OwnNode → List ℕ → List ℕ
 own_put x n [] b = b
 own_put x n (o ∷ os) b = own_put x (n + 1) os (behind_nodes n (put (moved_node x (pos 0) (own_node o))) b)
 
-pub record SigningGiven (before : Run) (own : Signing) (x : ℤ) : Type 0 where
+pub record SigningGiven (before : Run) (own : Option Glyph) (x : ℤ) : Type 0 where
   pub few : before.count + 1 < 2 ^ 64
   pub sign : SigningWithin item_words own
   pub x_small : Within (2 ^ 54) x
 
-pub record RulingGiven (before : Run) (own : Ruling) (x : ℤ) : Type 0 where
+pub record RulingGiven (before : Run) (own : Option Rule) (x : ℤ) : Type 0 where
   pub few : before.count + 1 < 2 ^ 64
   pub rules : RulingWithin item_words own
   pub x_small : Within (2 ^ 54) x
@@ -150,7 +149,7 @@ pub record Finished (P : Parameters) (s : Style) (kind : Kind) (signs : Signs) (
   pub class_is : class ≡ changed_class (neighbour_as l.left) (class_of kind) right
   pub arranged_is : arranged ≡ arrange P s kind signs (shape_as a.shape) (shape_as b.shape) (shape_as c.shape)
   pub x_is : x ≡ l.size.width.0 +ℤ space_before P s (neighbour_as l.left) class
-  pub left_is : r.left ≡ Atom class
+  pub left_is : r.left ≡ Some class
   pub style_is : r.style ≡ l.style
   pub size_is : size_as r.size ≡ beside_size x (size_as l.size) arranged.size
   pub count_is : r.run.count ≡ l.run.count + item_count x arranged a.run.count b.run.count c.run.count

@@ -3,7 +3,7 @@
 --     set_one, set_two, set_three, none_third    what stands so far in the buffer, field by field (`One`, `Two`, `Three`)
 --     noad_added                                 all three stand there and the item is finished: it has gone behind the line
 -- Assumes nothing.
-use Rattle.std.specs.Prelude.{◌≡◌, refl, Bool, true, false, not, ◌&&◌, ◌||◌, ℕ, ◌+◌, ◌-◌, ◌*◌, ◌≤◌, ℤ, pos, ◌+ℤ◌, length, take, drop}
+use Rattle.std.specs.Prelude.{Result, Ok, Err, ◌≡◌, refl, Bool, true, false, not, ◌&&◌, ◌||◌, ℕ, ◌+◌, ◌-◌, ◌*◌, ◌≤◌, ℤ, pos, ◌+ℤ◌, length, take, drop}
 use Rattle.std.proofs.Common.{sym, ◌∙◌, arith, length-drop, length-take-le}
 use Rattle.std.proofs.Math.Path.{subst, ap, ap₂}
 use Rattle.std.proofs.Math.Bool.{and-eq-true_iff}
@@ -41,8 +41,7 @@ use Rattle.setting.proofs.SettingLaws.{signs_found}
 use Rattle.setting.specs.Missing.{◌or_else◌, missing_field, missing_item}
 use Rattle.setting.specs.Fitting.{field_fits, item_fits}
 use Rattle.walk_fields.specs.declared.fields.FieldBox as fields
-use Rattle.walk_fields.specs.declared.fields.FieldSet.{FieldSet}
-use Rattle.walk_fields.specs.declared.fields.FieldSet.TheVariants as field
+use Rattle.walk_fields.specs.declared.fields.Missing.{Missing}
 use Rattle.walk_fields.specs.declared.lines.Line as lines
 use Rattle.walk_fields.specs.Values.{bare_in}
 use Rattle.walk_fields.specs.Bounds.{LineWithin}
@@ -61,12 +60,11 @@ or_nots true b = refl
 or_nots false b = refl
 
 -- a field that was set, by equal names
-pub head_as : (F : Font) (bytes b b' : List ℕ) {st st' : Style} {m m' : Manner} {at at' : ℕ} {r r' : FieldSet} → st ≡ st' → m ≡ m' →
-    at ≡ at' → r ≡ r' → HeadDone F st m bytes at b r b' → HeadDone F st' m' bytes at' b r' b'
-head_as F bytes b b' {st} {st'} {m} {m'} {at} {at'} {r} {r'} style manner place is d =
-    subst (λ (r : FieldSet). HeadDone F st' m' bytes at' b r b') is
-    (subst (λ (at : ℕ). HeadDone F st' m' bytes at b r b') place
-    (subst (λ (m : Manner). HeadDone F st' m bytes at b r b') manner (subst (λ (st : Style). HeadDone F st m bytes at b r b') style d)))
+pub head_as : (F : Font) (bytes b b' : List ℕ) (r : Result fields.FieldBox Missing) {st st' : Style} {m m' : Manner} {at at' : ℕ} → st ≡ st' →
+    m ≡ m' → at ≡ at' → HeadDone F st m bytes at b r b' → HeadDone F st' m' bytes at' b r b'
+head_as F bytes b b' r {st} {st'} {m} {m'} {at} {at'} style manner place d =
+    subst (λ (at : ℕ). HeadDone F st' m' bytes at b r b') place
+    (subst (λ (m : Manner). HeadDone F st' m bytes at b r b') manner (subst (λ (st : Style). HeadDone F st m bytes at b r b') style d))
 
 -- an item that was finished by the parameters P, where these are Q
 pub finished_by : {P Q : Parameters} {s : Style} {kind : Kind} {signs : Signs} {right : Neighbour} {l r : lines.Line} {a b c : fields.FieldBox} {v v' : List ℕ} →
@@ -150,10 +148,10 @@ module _ (F : Font) (s : Style) (kind : Kind) (bytes : List ℕ) where
         ((((gap₁ a o₁ o₂ b₀ ++ bytes_of first_box.nodes) ++ gap₂ a o₁ o₂ b₀) ++ bytes_of second_box.nodes) ++ bytes_of third_box.nodes) v
 
   -- the third field, or its first missing symbol
-  abbrev pub LastDone : ℕ → ℕ → List ℕ → fields.FieldBox → fields.FieldBox → FieldSet → List ℕ → Type 0
-  LastDone o₁ o₂ b₀ a b (field.Whole c) v = Three o₁ o₂ b₀ a b c v
-  LastDone o₁ o₂ b₀ a b (field.Missing place) v =
-      Kept (end bytes kind) b₀ v × (third_missing ≡ some place) × (place ≤ end bytes kind)
+  abbrev pub LastDone : ℕ → ℕ → List ℕ → fields.FieldBox → fields.FieldBox → Result fields.FieldBox Missing → List ℕ → Type 0
+  LastDone o₁ o₂ b₀ a b (Ok c) v = Three o₁ o₂ b₀ a b c v
+  LastDone o₁ o₂ b₀ a b (Err m) v =
+      Kept (end bytes kind) b₀ v × (third_missing ≡ some m.place) × (m.place ≤ end bytes kind)
 
   -- before its fields an item has two own nodes at most, and at least so many bytes
   own_few : {o₁ o₂ : ℕ} → Noad bytes kind → o₁ ≡ (own_counts F.parameter s kind (has_signs F s kind)).before →
@@ -163,14 +161,14 @@ module _ (F : Font) (s : Style) (kind : Kind) (bytes : List ℕ) where
   module _ {o₁ o₂ j : ℕ} (b₀ r : List ℕ) (noad : Noad bytes kind) (own₁ : o₁ ≡ (own_counts F.parameter s kind (has_signs F s kind)).before)
       (own₂ : o₂ ≡ (own_counts F.parameter s kind (has_signs F s kind)).behind) (at : j ≡ room_for o₁ (length b₀)) where
     -- the first field's part of the buffer, and what its setter came to
-    abbrev FirstSet : FieldSet → Type 0
+    abbrev FirstSet : Result fields.FieldBox Missing → Type 0
     FirstSet x =
         HeadDone F (first_style kind s) (first_manner kind s) bytes (opening_bytes kind) (take (length b₀ - j) (drop j b₀)) x r
 
     front : Laid b₀ (opening_bytes kind) o₁ true (take (bytes_in_node * o₁) b₀) b₀
     front = laid_start b₀ o₁ (omega (arith, own_few noad own₁ own₂))
 
-    pub set_one : {a : fields.FieldBox} → FirstSet (field.Whole a) → One F s kind bytes o₁ o₂ b₀ a (put_mid j (length b₀ - j) b₀ r)
+    pub set_one : {a : fields.FieldBox} → FirstSet (Ok a) → One F s kind bytes o₁ o₂ b₀ a (put_mid j (length b₀ - j) b₀ r)
     set_one {a} (first_whole, drawn, kept) =
         let own = own_few noad own₁ own₂ in
         let behind = noad.first_in in
@@ -188,8 +186,8 @@ module _ (F : Font) (s : Style) (kind : Kind) (bytes : List ℕ) where
               o₂ (omega arith);
         }
 
-    pub lacks_one : {place : ℕ} → FirstSet (field.Missing place) →
-        Kept (end bytes kind) b₀ (put_mid j (length b₀ - j) b₀ r) × (first_missing ≡ some place) × (place ≤ end bytes kind)
+    pub lacks_one : {m : Missing} → FirstSet (Err m) →
+        Kept (end bytes kind) b₀ (put_mid j (length b₀ - j) b₀ r) × (first_missing ≡ some m.place) × (m.place ≤ end bytes kind)
     lacks_one (lacks, low, kept) =
         let first = noad.first_in in
         let second = noad.second_in in
@@ -198,10 +196,10 @@ module _ (F : Font) (s : Style) (kind : Kind) (bytes : List ℕ) where
 
   module _ {o₁ o₂ j : ℕ} {b₀ v : List ℕ} {a : fields.FieldBox} (one : One F s kind bytes o₁ o₂ b₀ a v) (r : List ℕ)
       (at : j ≡ room_for (o₁ + a.run.count + o₂) (length v)) where
-    abbrev SecondSet : FieldSet → Type 0
+    abbrev SecondSet : Result fields.FieldBox Missing → Type 0
     SecondSet y = HeadDone F (second_style kind s) Plain bytes (second bytes kind) (take (length v - j) (drop j v)) y r
 
-    pub set_two : {b : fields.FieldBox} → SecondSet (field.Whole b) → Two F s kind bytes o₁ o₂ b₀ a b (put_mid j (length v - j) v r)
+    pub set_two : {b : fields.FieldBox} → SecondSet (Ok b) → Two F s kind bytes o₁ o₂ b₀ a b (put_mid j (length v - j) v r)
     set_two {b} (second_whole, drawn, kept) =
         let few = one.so.few in
         let behind = one.noad.second_in in
@@ -218,8 +216,8 @@ module _ (F : Font) (s : Style) (kind : Kind) (bytes : List ℕ) where
               (λ h. (second_whole.is h).run_is.count_is) drawn kept;
         }
 
-    pub lacks_two : {place : ℕ} → SecondSet (field.Missing place) →
-        Kept (end bytes kind) b₀ (put_mid j (length v - j) v r) × (second_missing ≡ some place) × (place ≤ end bytes kind)
+    pub lacks_two : {m : Missing} → SecondSet (Err m) →
+        Kept (end bytes kind) b₀ (put_mid j (length v - j) v r) × (second_missing ≡ some m.place) × (m.place ≤ end bytes kind)
     lacks_two (lacks, low, kept) =
         let second = one.noad.second_in in
         let third = one.noad.third_in_lem in
@@ -233,7 +231,7 @@ module _ (F : Font) (s : Style) (kind : Kind) (bytes : List ℕ) where
     three third_whole so =
         record { noad = two.noad; own₁ = two.own₁; own₂ = two.own₂; first_whole = two.first_whole; second_whole = two.second_whole; third_whole = third_whole; so = so }
 
-    pub set_three : {j : ℕ} (z : FieldSet) (r : List ℕ) → has_third kind ≡ true →
+    pub set_three : {j : ℕ} (z : Result fields.FieldBox Missing) (r : List ℕ) → has_third kind ≡ true →
         j ≡ room_for (o₁ + a.run.count + o₂ + b.run.count) (length v) →
         HeadDone F (third_style s) Plain bytes (third bytes kind) (take (length v - j) (drop j v)) z r →
         LastDone o₁ o₂ b₀ a b z (put_mid j (length v - j) v r)
@@ -244,9 +242,9 @@ module _ (F : Font) (s : Style) (kind : Kind) (bytes : List ℕ) where
         (sym has) d in
         go z here
       where
-        go : (z : FieldSet) → FieldDone F (third_style s) Plain third_field (third bytes kind) (end bytes kind) (take (length v - j) (drop j v)) z r →
+        go : (z : Result fields.FieldBox Missing) → FieldDone F (third_style s) Plain third_field (third bytes kind) (end bytes kind) (take (length v - j) (drop j v)) z r →
             LastDone o₁ o₂ b₀ a b z (put_mid j (length v - j) v r)
-        go (field.Whole c) (third_whole, drawn, kept) =
+        go (Ok c) (third_whole, drawn, kept) =
             let few = two.so.few in
             let behind = two.noad.third_in_lem in
             let count = third_whole.small.count in
@@ -254,7 +252,7 @@ module _ (F : Font) (s : Style) (kind : Kind) (bytes : List ℕ) where
             three third_whole
             (laid_field two.so {k = c.run.count} {m' = end bytes kind} third_box.nodes (omega arith) (omega arith) at
             (λ h. (third_whole.is h).run_is.count_is) drawn kept)
-        go (field.Missing place) (lacks, low, kept) =
+        go (Err m) (lacks, low, kept) =
             let behind = two.noad.third_in_lem in
             (laid_kept two.so (omega arith) at kept, lacks, low)
 
@@ -263,8 +261,8 @@ module _ (F : Font) (s : Style) (kind : Kind) (bytes : List ℕ) where
     none_third c has e =
         let k = third bytes kind in
         let ends : EmptyField k c = subst (λ (n : ℕ). EmptyField n c) two.second_whole.end_is e in
-        let done : FieldDone F (third_style s) Plain (third_in bytes (has_third kind) k) k (third_end bytes (has_third kind) k) v (field.Whole c) v =
-        subst (λ (t : Bool). FieldDone F (third_style s) Plain (third_in bytes t k) k (third_end bytes t k) v (field.Whole c) v) (sym has)
+        let done : FieldDone F (third_style s) Plain (third_in bytes (has_third kind) k) k (third_end bytes (has_third kind) k) v (Ok c) v =
+        subst (λ (t : Bool). FieldDone F (third_style s) Plain (third_in bytes t k) k (third_end bytes t k) v (Ok c) v) (sym has)
         (field_empty F (third_style s) Plain k k v c (omega arith) ends) in
         let blank : third_box.nodes ≡ [] = ap (λ (t : Bool). (set_field F (third_style s) Plain (third_in bytes t k)).nodes) has in
         let n = o₁ + a.run.count + o₂ + b.run.count + c.run.count in

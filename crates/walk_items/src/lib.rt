@@ -13,13 +13,13 @@ ghost use Rattle.walk_items.specs.Items.{PlacingIs, MoveGiven, FieldMoved, OwnGi
 
 use arrange::arrange;
 use boxes::parameters::Parameters;
-use boxes::{Arranged, Offset, Owned, Ruling, Shape, Signing};
+use boxes::{Arranged, Glyph, Offset, Owned, Rule, Shape};
 use delimiters::Signs;
 use formula::{Class, Kind};
 use nodes::run::Run;
 use nodes::{move_nodes, put_glyph, put_rule, room};
 use scaled::Sp;
-use spacing::classes::{Neighbour, changed_class, class_of};
+use spacing::classes::{changed_class, class_of};
 use spacing::space_before;
 use walk_fields::fields::FieldBox;
 use walk_fields::growing::extended;
@@ -38,7 +38,7 @@ fn placing_of(
     p: &Parameters,
     kind: Kind,
     signs: Signs,
-    right: Neighbour,
+    right: Option<Class>,
     line: Line,
     x: Shape,
     y: Shape,
@@ -47,17 +47,12 @@ fn placing_of(
     requires { LineWithin formula_limit line × ModerateShape x × ModerateShape y × ModerateShape z }
     ensures { PlacingIs (parameters_in p.now) line.style kind (neighbour_as right) (neighbour_as line.left) line.size.width.0 (definition.arrange (parameters_in p.now) line.style kind (signs_as signs) (shape_as x) (shape_as y) (shape_as z)) result }
 {
-    let left = line.left;
-    let style = line.style;
-    let size = line.size;
-    let width = size.width;
-    let class = changed_class(left, class_of(kind), right);
-    let across = width.plus(space_before(p, style, left, class));
-    let arranged = arrange(p, style, kind, signs, x, y, z);
+    let class = changed_class(line.left, class_of(kind), right);
+    let space = space_before(p, line.style, line.left, class);
     Placing {
         class,
-        x: across,
-        arranged,
+        x: line.size.width.plus(space),
+        arranged: arrange(p, line.style, kind, signs, x, y, z),
     }
 }
 
@@ -66,8 +61,7 @@ fn move_field(before: Run, field: Run, x: Sp, offset: Offset, buf: &mut [u8]) ->
     requires { MoveGiven before field x.0 offset }
     ensures { FieldMoved before field x.0 (offset_as offset) result buf.old buf.new }
 {
-    let across = offset.across;
-    let dx = x.plus(across);
+    let dx = x.plus(offset.across);
     let dy = offset.up;
     move_nodes(buf, before.count, field.count, dx, dy);
     before.joined(field.moved(dx, dy))
@@ -78,23 +72,19 @@ fn put_own(before: Run, own: Owned, x: Sp, buf: &mut [u8]) -> Run
     requires { OwnGiven before own x.0 }
     ensures { OwnPut before (owned_as own) x.0 result buf.old buf.new }
 {
-    let sign = own.sign;
-    let ruling = own.ruling;
-    let signed = put_sign(before, sign, x, buf);
-    put_ruling(signed, ruling, x, buf)
+    let signed = put_sign(before, own.sign, x, buf);
+    put_ruling(signed, own.ruling, x, buf)
 }
 
-fn put_sign(before: Run, sign: Signing, x: Sp, buf: &mut [u8]) -> Run
+fn put_sign(before: Run, sign: Option<Glyph>, x: Sp, buf: &mut [u8]) -> Run
     requires { SigningGiven before sign x.0 }
     ensures { OwnPut before (signing_as sign) x.0 result buf.old buf.new }
 {
     match sign {
-        Signing::Unsigned => before,
-        Signing::Signed(g) => {
-            let place = g.place;
-            let across = place.across;
-            let dx = x.plus(across);
-            let dy = place.up;
+        None => before,
+        Some(g) => {
+            let dx = x.plus(g.place.across);
+            let dy = g.place.up;
             let j = room(before.count, buf.len());
             put_glyph(&mut buf[j..], dx, dy, g.size, g.family, g.code);
             before.joined(Run::point(dx, dy))
@@ -102,17 +92,15 @@ fn put_sign(before: Run, sign: Signing, x: Sp, buf: &mut [u8]) -> Run
     }
 }
 
-fn put_ruling(before: Run, ruling: Ruling, x: Sp, buf: &mut [u8]) -> Run
+fn put_ruling(before: Run, ruling: Option<Rule>, x: Sp, buf: &mut [u8]) -> Run
     requires { RulingGiven before ruling x.0 }
     ensures { OwnPut before (ruling_as ruling) x.0 result buf.old buf.new }
 {
     match ruling {
-        Ruling::Unruled => before,
-        Ruling::Ruled(r) => {
-            let corner = r.corner;
-            let across = corner.across;
-            let dx = x.plus(across);
-            let dy = corner.up;
+        None => before,
+        Some(r) => {
+            let dx = x.plus(r.corner.across);
+            let dy = r.corner.up;
             put_rule(buf, before.count, dx, dy, r.width, r.thickness);
             before.joined(Run::point(dx, dy))
         }
@@ -125,12 +113,9 @@ fn put_item(x: Sp, arranged: Arranged, a: Run, b: Run, c: Run, buf: &mut [u8]) -
     requires { PutGiven x.0 arranged a b c }
     ensures { ItemPut x.0 (arranged_as arranged) a b c result buf.old buf.new }
 {
-    let own = arranged.own;
-    let before = own.before;
-    let behind = own.behind;
-    let ahead = put_own(Run::empty(), before, x, buf);
+    let ahead = put_own(Run::empty(), arranged.own.before, x, buf);
     let first = move_field(ahead, a, x, arranged.first, buf);
-    let owned = put_own(first, behind, x, buf);
+    let owned = put_own(first, arranged.own.behind, x, buf);
     let second = move_field(owned, b, x, arranged.second, buf);
     move_field(second, c, x, arranged.third, buf)
 }
@@ -140,7 +125,7 @@ pub fn finished(
     p: &Parameters,
     kind: Kind,
     signs: Signs,
-    right: Neighbour,
+    right: Option<Class>,
     line: Line,
     a: FieldBox,
     b: FieldBox,
@@ -150,13 +135,7 @@ pub fn finished(
     requires { FinishGiven line a b c }
     ensures { Finished (parameters_in p.now) line.style kind (signs_as signs) (neighbour_as right) line a b c result buf.old buf.new }
 {
-    let first = a.shape;
-    let second = b.shape;
-    let third = c.shape;
-    let placing = placing_of(p, kind, signs, right, line, first, second, third);
-    let class = placing.class;
-    let x = placing.x;
-    let arranged = placing.arranged;
-    let run = put_item(x, arranged, a.run, b.run, c.run, buf);
-    extended(line, class, x, arranged.size, run)
+    let placing = placing_of(p, kind, signs, right, line, a.shape, b.shape, c.shape);
+    let run = put_item(placing.x, placing.arranged, a.run, b.run, c.run, buf);
+    extended(line, placing.class, placing.x, placing.arranged.size, run)
 }

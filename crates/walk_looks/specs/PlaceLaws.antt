@@ -1,13 +1,14 @@
 -- What follows an item, by a look at items that sets none.
 --     atom_seen, kern_seen, style_seen     an item that is looked at, by its opening
 --     Looked             where a look over a list stands: what was passed, and what is left; `looked_start`, `looked_step`, `looked_done`
---                        follow it
+--                        follow it, with `first_is`
 --     Passing            where a look for the next atom stands, with no atom before it; `passing_start`, `atom_next`, `passed`,
 --                        `finished` follow it
 --     rest_opens         what a look is given at a place of a list
 --     tail_given, right_alike     the rest of the list, as the code cuts it
 -- Assumes nothing.
-use Rattle.std.specs.Prelude.{◌≡◌, List, ℕ, ◌+◌, ◌-◌, ◌≤◌, ◌<◌, length, take, drop}
+use Rattle.std.specs.Prelude.{◌≡◌, List, Option, Some, None, ℕ, ◌+◌, ◌-◌, ◌≤◌, ◌<◌, length, take, drop}
+use Rattle.std.specs.Option.{option_or}
 use Rattle.std.proofs.Math.Path.{refl, sym, ap}
 use Rattle.std.proofs.Common.{subst, ap₂, ◌∙◌, drop-drop}
 use Rattle.std.proofs.Math.Option.{none, some}
@@ -25,7 +26,6 @@ use Rattle.formula.specs.Slices.{tail_part}
 use Rattle.formula.specs.PlacesLaws.{Stepped, step, tree_none}
 use Rattle.formula.specs.Format.{formula_limit}
 use Rattle.boxes.specs.declared.styles.Style.{Style}
-use Rattle.spacing.specs.declared.classes.Neighbour.TheVariants.{End, Atom}
 use Rattle.spacing.specs.Classes.{Neighbour, class_of}
 use Rattle.spacing.specs.Values.{neighbour_as}
 use Rattle.setting.specs.Setting.{restyled, style_after, style_behind, next_class, class_at}
@@ -91,16 +91,16 @@ module _ {style : Style} {s : List ℕ} {c : Sight} where
   seen_as_lem : {o : Opening} → opening_of s ≡ o → OpenedSeen style s o c → ItemSeen style s c
   seen_as_lem opens d = subst (λ (o : Opening). OpenedSeen style s o c) (sym opens) d
 
-  pub atom_seen : {kind : Kind} → opening_of s ≡ Fields kind → c.bytes ≡ end s kind → c.class ≡ Atom (class_of kind) → c.style ≡ style →
+  pub atom_seen : {kind : Kind} → opening_of s ≡ Fields kind → c.bytes ≡ end s kind → c.class ≡ Some (class_of kind) → c.style ≡ style →
       ItemSeen style s c
   unfolding class_at style_behind
   atom_seen opens bytes class same = seen_as_lem opens (record { bytes_is = bytes; class_is = ap neighbour_as class; style_is = same })
 
-  pub kern_seen : {n : Sp} → opening_of s ≡ Kern n → c ≡ record { bytes = kern_bytes; class = End; style = style } → ItemSeen style s c
+  pub kern_seen : {n : Sp} → opening_of s ≡ Kern n → c ≡ record { bytes = kern_bytes; class = None; style = style } → ItemSeen style s c
   unfolding class_at style_behind
   kern_seen opens is = seen_as_lem opens (rw is (record { bytes_is = refl; class_is = refl; style_is = refl }))
 
-  pub style_seen : {n : ℕ} → opening_of s ≡ Restyle n → c ≡ record { bytes = restyle_bytes; class = End; style = restyled style n } →
+  pub style_seen : {n : ℕ} → opening_of s ≡ Restyle n → c ≡ record { bytes = restyle_bytes; class = None; style = restyled style n } →
       ItemSeen style s c
   unfolding class_at style_behind
   style_seen opens is = seen_as_lem opens (rw is (record { bytes_is = refl; class_is = refl; style_is = refl }))
@@ -114,6 +114,11 @@ pub record Looked (from : Style) (s : List ℕ) (at : ℕ) (first : Neighbour) (
 
 pub looked_start : (from : Style) (s : List ℕ) → Readable s → Looked from s 0 none from
 looked_start from s r = record { place = record { inside = omega arith; readable = r }; class_is = refl; style_is = refl }
+
+-- the first of two neighbours that is an atom, as the code finds it
+pub first_is : (a b : Option Class) → neighbour_as (option_or a b) ≡ (neighbour_as a or_next neighbour_as b)
+first_is None b = refl
+first_is (Some class) b = refl
 
 module _ {from : Style} {s : List ℕ} {at : ℕ} {first : Neighbour} {current : Style} (l : Looked from s at first current) where
   pub looked_step : {c : Sight} {first' : Neighbour} → at < length s → ItemSeen current (take (length s - at) (drop at s)) c →
@@ -150,20 +155,19 @@ passing_start from beyond s r = record { place = record { inside = omega arith; 
 
 module _ {from : Style} {beyond : Neighbour} {s : List ℕ} {at : ℕ} {current : Style} (p : Passing from beyond s at current) where
   module _ {c : Sight} (more : at < length s) (seen : ItemSeen current (take (length s - at) (drop at s)) c) where
-    pub passed : neighbour_as c.class ≡ none → Passing from beyond s (at + c.bytes) c.style
+    pub passed : c.class ≡ None → Passing from beyond s (at + c.bytes) c.style
     passed is =
         record {
           place = next_between p.place more seen;
           same =
               p.same ∙ next_class_lem p.place more seen beyond
-              ∙ ap (λ (n : Neighbour). n or_next next_class c.style beyond (tree_of (drop (at + c.bytes) s))) is;
+              ∙ ap (λ (n : Neighbour). n or_next next_class c.style beyond (tree_of (drop (at + c.bytes) s))) (ap neighbour_as is);
         }
 
-    pub atom_next : {class : Class} → neighbour_as c.class ≡ some class → neighbour_as c.class ≡ next_class from beyond (tree_of s)
+    pub atom_next : {class : Class} → c.class ≡ Some class → some class ≡ next_class from beyond (tree_of s)
     atom_next is =
-        is
-        ∙ sym (p.same ∙ next_class_lem p.place more seen beyond
-        ∙ ap (λ (n : Neighbour). n or_next next_class c.style beyond (tree_of (drop (at + c.bytes) s))) is)
+        sym (p.same ∙ next_class_lem p.place more seen beyond
+        ∙ ap (λ (n : Neighbour). n or_next next_class c.style beyond (tree_of (drop (at + c.bytes) s))) (ap neighbour_as is))
 
   pub finished : length s ≤ at → beyond ≡ next_class from beyond (tree_of s)
   unfolding next_class

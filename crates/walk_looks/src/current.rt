@@ -7,7 +7,7 @@ ghost use Rattle.formula.specs.Places as tree;
 ghost use Rattle.setting.specs.Setting as definition;
 ghost use Rattle.walk_looks.specs.Seen.{TakenSpan};
 
-use boxes::styles::{Level, Numbered, Style, style_of};
+use boxes::styles::{Level, Style, style_of};
 use formula::FieldHead;
 use formula_fields::{field_head, list_place};
 
@@ -22,19 +22,14 @@ pub struct Span {
 pub fn restyled(style: Style, number: u8) -> Style
     ensures { result ≡ definition.restyled style number }
 {
-    let numbered = style_of(number);
-    match numbered {
-        Numbered::Styled(new) => new,
-        Numbered::Unstyled => style,
-    }
+    style_of(number).unwrap_or(style)
 }
 
 // How many lists of a choice stand before the one taken: they are for D, T, S, SS.
 fn lists_before(style: Style) -> usize
     ensures { result ≡ definition.taken style 0 1 2 3 }
 {
-    let level = style.level;
-    match level {
+    match style.level {
         Level::Display => 0,
         Level::Text => 1,
         Level::Script => 2,

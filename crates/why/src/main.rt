@@ -6,16 +6,15 @@
 use files::{CLIENT_SPACE, TABLE_SPACE, read_full, read_table};
 use font_index::INDEX_WORDS;
 use formula::FORMULA_LIMIT;
-use layout_answers::Answer;
-use layout_answers::why::WhyAnswer;
+use layout_answers::Refusal;
+use layout_answers::why::WhyRefusal;
 use layout_why::why;
 use std::io::Result;
 
-// A style and a place.
-const HEAD_BYTES: usize = 5;
+const PLACE_BYTES: usize = 4;
 
-// One byte more than these and the longest formula, so that a longer one is seen.
-const INPUT_SPACE: usize = HEAD_BYTES + FORMULA_LIMIT + 1;
+// One byte more than a style, a place and the longest formula, so that a longer one is seen.
+const INPUT_SPACE: usize = 1 + PLACE_BYTES + FORMULA_LIMIT + 1;
 
 fn main(rt: HostRuntime) -> Result<()> {
     let mut input = [0u8; INPUT_SPACE];
@@ -29,36 +28,23 @@ fn main(rt: HostRuntime) -> Result<()> {
 
 // Without a style there is no style that is known; without a whole place there is no formula either.
 fn show<'a>(out: &impl Print, table: &'a [u8], client: &'a [u8], input: &[u8]) -> Result<()> {
-    if input.len() == 0 {
-        return listing::write_reasons(out, WhyAnswer::Refused(Answer::NoStyle));
-    }
-    if input.len() < HEAD_BYTES {
-        return show_reasons(out, table, client, input[0], 0, &input[..0]);
-    }
-    let place = words::word(input, 1) as usize;
-    show_reasons(out, table, client, input[0], place, &input[HEAD_BYTES..])
-}
-
-fn show_reasons<'a>(
-    out: &impl Print,
-    table: &'a [u8],
-    client: &'a [u8],
-    style: u8,
-    place: usize,
-    formula: &[u8],
-) -> Result<()> {
+    let Some((style, rest)) = input.split_first() else {
+        return listing::write_reasons(out, Err(WhyRefusal::Refused(Refusal::NoStyle)));
+    };
+    let (place, formula) = match rest.split_first_chunk::<PLACE_BYTES>() {
+        Some((bytes, formula)) => (u32::from_le_bytes(*bytes) as usize, formula),
+        None => (0, &rest[..0]),
+    };
     let mut index = [0u64; INDEX_WORDS];
     let mut client_index = [0u64; INDEX_WORDS];
-    listing::write_reasons(
-        out,
-        why(
-            style,
-            table,
-            client,
-            formula,
-            place,
-            &mut index,
-            &mut client_index,
-        ),
-    )
+    let answer = why(
+        *style,
+        table,
+        client,
+        formula,
+        place,
+        &mut index,
+        &mut client_index,
+    );
+    listing::write_reasons(out, answer)
 }

@@ -13,25 +13,21 @@ pub fn word(s: &[u8], at: usize) -> u32
     requires { at + 4 ≤ length s.now }
     ensures { result ≡ little_endian 4 (drop at s.now) }
 {
-    of_bytes(s[at], s[at + 1], s[at + 2], s[at + 3])
+    u32::from_le_bytes([s[at], s[at + 1], s[at + 2], s[at + 3]])
 }
 
 // The word that four bytes make.
 pub fn of_bytes(a: u8, b: u8, c: u8, d: u8) -> u32
     ensures { result ≡ a + 256 * (b + 256 * (c + 256 * d)) }
 {
-    (a as u32) + (b as u32) * 256 + (c as u32) * 65_536 + (d as u32) * 16_777_216
+    u32::from_le_bytes([a, b, c, d])
 }
 
 // The length whose two's complement is w.
 pub fn signed(w: u32) -> Sp
     ensures { result.0 ≡ signed_word w }
 {
-    if w < 2_147_483_648 {
-        Sp(w as i64)
-    } else {
-        Sp(w as i64 - 4_294_967_296)
-    }
+    Sp(i64::from(w.cast_signed()))
 }
 
 // The two's complement of a length, of which four bytes are kept.
@@ -45,7 +41,7 @@ pub fn word_of(z: Sp) -> u32
 pub fn sum(p: u32, q: u32) -> u32
     ensures { result ≡ (p + q) % word_range }
 {
-    ((p as u64 + q as u64) % 4_294_967_296) as u32
+    p.wrapping_add(q)
 }
 
 // Writes a word at a place.
@@ -53,16 +49,7 @@ pub fn store(b: &mut [u8], at: usize, w: u32)
     requires { at + 4 ≤ length b.old }
     ensures { b.new ≡ sets b.old at (four_bytes w) }
 {
-    b[at] = low(w);
-    b[at + 1] = low(w / 256);
-    b[at + 2] = low(w / 65_536);
-    b[at + 3] = low(w / 16_777_216);
-}
-
-fn low(x: u32) -> u8
-    ensures { result ≡ x % 256 }
-{
-    (x % 256) as u8
+    b[at..at + 4].copy_from_slice(&w.to_le_bytes());
 }
 
 // Writes two words, one behind the other.

@@ -14,12 +14,12 @@ report_small a p e h = subst Small (sym e) h
 pub returns : goal.returns
 unfolding answer_words
 returns c =
-    let p = c.report_of-report in
+    let p = c.from-report in
     let small = report_small _ p.result p.ensures c.requires.1 in
     let z = p.result.size in
     let w = c.args.words.now in (
       ap (λ (a : Answered). a.number) p.ensures,
       five_stores w _ _ _ _ _ c.requires.0
-          ∙ rw (kept z.width.0 (search rules), kept z.height.0 (search rules), kept z.depth.0 (search rules), c.count_word-place.ensures, c.count_word-count.ensures, count_kept p.result.place small.place, count_kept p.result.count small.count, answer_words) refl
+          ∙ rw (kept z.width.0 (search rules), kept z.height.0 (search rules), kept z.depth.0 (search rules), c.count_word.ensures, c.count_word-2.ensures, count_kept p.result.place small.place, count_kept p.result.count small.count, answer_words) refl
           ∙ ap (λ (a : Answered). answer_words a w) p.ensures,
     )

@@ -26,14 +26,14 @@ place_small e p is h = subst (λ (x : WhyAnswered). x.place ≤ formula_limit) (
 pub returns : goal.returns
 unfolding reason_words
 returns c =
-    let parts = c.why_report-report in
+    let parts = c.from-report in
     let p = parts.result in
     let small = place_small _ p parts.ensures c.requires.1 in
-    let u = p.up in
-    let v = p.down in
+    let u = p.reasons.up in
+    let v = p.reasons.down in
     let w = c.args.words.now in (
       ap (λ (e : WhyAnswered). e.number) parts.ensures,
       five_stores w _ _ _ _ _ c.requires.0
-          ∙ rw (kept u.shift.0 (search rules), kept v.shift.0 (search rules), c.count_word-place.ensures, c.reason_word-raised.ensures, c.reason_word-lowered.ensures, count_kept p.place small, reason_kept u.by, reason_kept v.by, reason_words) refl
+          ∙ rw (kept u.shift.0 (search rules), kept v.shift.0 (search rules), c.count_word.ensures, c.reason_word.ensures, c.reason_word-2.ensures, count_kept p.place small, reason_kept u.by, reason_kept v.by, reason_words) refl
           ∙ ap (λ (e : WhyAnswered). reason_words e w) parts.ensures,
     )

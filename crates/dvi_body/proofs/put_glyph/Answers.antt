@@ -23,5 +23,5 @@ shape_of-out c = simp length-set (c.put_place.auto.out ∙ simp length-set)
 
 pub returns : goal.returns
 returns c =
-    let args = c.args in
-    glyph_stores args.out.now args.x.0 args.y.0 args.size args.family args.code c.put_place.ensures
+    let g = c.args.g in
+    glyph_stores c.args.out.now g.x.0 g.y.0 g.size g.family g.code c.put_place.ensures

@@ -22,6 +22,6 @@ shape_of-out c =
 
 pub returns : goal.returns
 returns c =
-    let args = c.args in
-    rule_stores args.out.now args.x.0 args.y.0 args.width.0 args.thickness.0 c.put_place.ensures
+    let r = c.args.r in
+    rule_stores c.args.out.now r.x.0 r.y.0 r.width.0 r.thickness.0 c.put_place.ensures
     c.put_number.ensures c.put_number-2.ensures

@@ -16,5 +16,5 @@ pub returns : goal.returns
 returns c =
     let s = c.args.s.now in
     c.found.ensures
-    ∙ rw (c.number-2.ensures.0, c.negated-y.ensures.is, c.number.ensures.0, c.number-3.ensures.0, c.number-4.ensures.0)
+    ∙ rw (c.number.ensures.0, c.negated.ensures.is, c.number-2.ensures.0, c.number-3.ensures.0, c.number-4.ensures.0)
     (front_by Body s c.is_rule.result (looks_body_rule s c.requires) c.is_rule.ensures)

@@ -7,10 +7,10 @@ use Rattle.dvi_body.proofs.size.Goals as goal
 
 pub returns-in-Glyph : goal.returns-in-Glyph
 returns-in-Glyph c =
-    let n = c.in-Glyph in
-    rw n.is (sym (glyph_size n.field-0.0 n.field-1.0 n.field-2 n.field-3 n.field-4))
+    let g = c.in-Glyph.field-0 in
+    rw c.in-Glyph.is (sym (glyph_size g.x.0 g.y.0 g.size g.family g.code))
 
 pub returns-in-Rule : goal.returns-in-Rule
 returns-in-Rule c =
-    let n = c.in-Rule in
-    rw n.is (sym (rule_size_lem n.field-0.0 n.field-1.0 n.field-2.0 n.field-3.0))
+    let r = c.in-Rule.field-0 in
+    rw c.in-Rule.is (sym (rule_size_lem r.x.0 r.y.0 r.width.0 r.thickness.0))

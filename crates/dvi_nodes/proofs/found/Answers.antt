@@ -5,5 +5,5 @@ use Rattle.dvi_nodes.proofs.found.Goals as goal
 pub returns-then-stands-is_writable : goal.returns-then-stands-is_writable
 returns-then-stands-is_writable c = rw (← c.is_writable.ensures, c.if-stands-is_writable.true)
 
-pub returns : goal.returns
-returns c = rw (← c.is_writable.ensures, c.if-stands-is_writable.false)
+pub returns-else-stands-is_writable : goal.returns-else-stands-is_writable
+returns-else-stands-is_writable c = rw (← c.is_writable.ensures, c.if-stands-is_writable.false)

@@ -6,11 +6,11 @@ use Rattle.dvi_nodes.proofs.is_writable.Goals as goal
 
 pub returns-in-Glyph : goal.returns-in-Glyph
 returns-in-Glyph c =
-    let n = c.in-Glyph in
-    rw (n.is, c.within.ensures, c.within-in-Glyph.ensures) (glyph_tests n.x.0 n.y.0 n.size n.family n.field-4 (omega arith))
+    let g = c.in-Glyph.g in
+    rw (c.in-Glyph.is, c.within.ensures, c.within-in-Glyph.ensures) (glyph_tests g.x.0 g.y.0 g.size g.family g.code (omega arith))
 
 pub returns-in-Rule : goal.returns-in-Rule
 returns-in-Rule c =
-    let n = c.in-Rule in
-    rw (n.is, c.within-in-Rule.ensures, c.within-in-Rule-2.ensures, c.is_extent.ensures, c.is_extent-in-Rule.ensures)
-    (rule_tests n.x.0 n.y.0 n.width.0 n.thickness.0)
+    let r = c.in-Rule.r in
+    rw (c.in-Rule.is, c.within-in-Rule.ensures, c.within-in-Rule-2.ensures, c.is_extent.ensures, c.is_extent-in-Rule.ensures)
+    (rule_tests r.x.0 r.y.0 r.width.0 r.thickness.0)

@@ -66,11 +66,13 @@ loop-at-smaller c = omega (arith, token_moves c.token_at-token.ensures c.loop-at
 
 pub loop-at-preserved : goal.loop-at-preserved
 loop-at-preserved c =
-    last_next c.loop-at.invariant c.token_at-token.ensures c.loop-at-test.true
-    c.in_default.not-End
+    let some : c.token_at-token.result.kind ≡ End → ⊥ = grind arith in
+    last_next c.loop-at.invariant c.token_at-token.ensures c.loop-at-test.true some
 
-pub returns-in-loop-at : goal.returns-in-loop-at
-returns-in-loop-at c = last_ended c.loop-at.invariant (rw c.in-End.is at c.token_at-token.ensures.tokens)
+pub returns-then-eq : goal.returns-then-eq
+returns-then-eq c =
+    let is : c.token_at-token.result.kind ≡ End = grind arith in
+    last_ended c.loop-at.invariant (rw is at c.token_at-token.ensures.tokens)
 
 pub returns : goal.returns
 returns c = last_ended c.loop-at.invariant (none_behind _ c.loop-at-test.false)

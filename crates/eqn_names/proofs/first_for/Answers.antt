@@ -1,57 +1,17 @@
--- `first_for` meets its contract: the records that the loop has passed are not for the symbol.
+-- `first_for` meets its contract: the closure tests the symbol (`search_first`).
 -- Assumes nothing.
-use mathlib.Core.Path.{◌≡◌, refl, sym, ap, ap₂, ◌∙◌}
-use mathlib.Core.Option.{Option}
-use Prim.Native.Nat.{ℕ}
-use native.Mathlib.Omega.{arith}
-use Rattle.eqn_names.specs.Names.{Name, first_for, first_place, asked_as}
-use Rattle.eqn_names.proofs.NamesLaws.{is_for, first_here, first_next, place_here, place_next}
-use Rattle.eqn_names.proofs.WalkLaws.{name_at, name_bytes, Steps, steps, steps_not, passed_next, passed_found, passed_stopped, passed_all}
+use borrow.Author.Rules.{rules}
+use Rattle.eqn_names.specs.Names.{asked_as}
+use Rattle.eqn_names.proofs.SearchLaws.{search_first}
 use Rattle.eqn_names.proofs.first_for.Goals as goal
 
-pub returns-in_default : goal.returns-in_default
-returns-in_default c =
-    let absent = steps_not c.args.names.now c.loop-at.at c.next_record-front.ensures c.in_default.is in
-    λ ns r. absurd (passed_stopped _ _ c.loop-at.invariant c.loop-at-test.true absent ns (ns, r, refl))
-
--- what is found there, and its place
-both : {o p : Option Name} {i k : ℕ} → o ≡ p → i ≡ k → ◌≡◌ {A = Option Name × ℕ} (o, i) (p, k)
-both e f = ap₂ (λ (o : Option Name) (i : ℕ). (o, i)) e f
-
-pub returns-then-fits : goal.returns-then-fits
-returns-then-fits c =
-    let there : Steps c.args.names.now c.loop-at.at c.in-Record.n c.in-Record.symbol = steps c.loop-at-test.true c.next_record-front.ensures c.in-Record.is in
-    let args = c.args in
-    let stood = there in
-    let fitting : is_for args.family args.code (asked_as args.class) (name_at args.names.now c.loop-at.at c.in-Record.n c.in-Record.symbol) ≡ c.fits.result = sym c.fits.ensures in
-    let fits = fitting ∙ c.if-fits.true in
-    let asked = asked_as args.class in
-    let at = c.loop-at.at in
-    let m = name_at args.names.now at c.in-Record.n c.in-Record.symbol in
-    λ ns r.
-    let found =
-    passed_found _ _ c.loop-at.invariant stood
-    (λ ms. both (first_here args.family args.code asked m ms fits) (place_here args.family args.code asked at m ms fits)) ns (ns, r, refl) in (
-      m,
-      ap (λ (p : Option Name × ℕ). p.0) found,
-      omega arith,
-      omega (arith, stood.room),
-      sym (name_bytes args.names.now at c.in-Record.n),
-      omega (arith, ap (λ (p : Option Name × ℕ). p.1) found),
-    )
-
-pub loop-at-preserved : goal.loop-at-preserved
-loop-at-preserved c =
-    let there : Steps c.args.names.now c.loop-at.at c.in-Record.n c.in-Record.symbol = steps c.loop-at-test.true c.next_record-front.ensures c.in-Record.is in
-    let args = c.args in
-    let fitting : is_for args.family args.code (asked_as args.class) (name_at args.names.now c.loop-at.at c.in-Record.n c.in-Record.symbol) ≡ c.fits.result = sym c.fits.ensures in
-    let fails = fitting ∙ c.if-fits.false in
-    let asked = asked_as args.class in
-    let at = c.loop-at.at in
-    let m = name_at args.names.now at c.in-Record.n c.in-Record.symbol in
-    passed_next _ _ c.loop-at.invariant (there)
-    (λ ms. both (first_next args.family args.code asked m ms fails) (place_next args.family args.code asked at m ms fails))
+pub returns-in_err-found : goal.returns-in_err-found
+returns-in_err-found c =
+    let a = c.args in
+    rw c.from_residual.ensures
+    (λ ns r. search_first _ a.family a.code (asked_as a.class) (λ w symbol b p. search rules) c.in_err-found.ensures ns r)
 
 pub returns : goal.returns
-unfolding first_for first_place
-returns c = λ ns r. ap (λ (p : Option Name × ℕ). p.0) (passed_all _ _ c.loop-at.invariant c.loop-at-test.false refl ns (ns, r, refl))
+returns c =
+    let a = c.args in
+    λ ns r. search_first _ a.family a.code (asked_as a.class) (λ w symbol b p. search rules) c.in_ok-found.ensures ns r

@@ -1,10 +1,5 @@
-use Prim.Native.Nat.{◌-◌}
-use Rattle.font_build.specs.Building.{group_count}
 use Rattle.font_build.proofs.BuildLaws.{Summing}
 use Rattle.font_build.proofs.sum.Given as goal
 
 abbrev pub invariant-loop-group : goal.invariant-loop-group
 invariant-loop-group l = Summing l.initial.index l.index l.before l.group
-
-abbrev pub decreases-loop-group : goal.decreases-loop-group
-decreases-loop-group l = group_count - l.group

@@ -1,48 +1,31 @@
--- `record_of` hands back the client's record if its index has one (`client_record`), and else ours (`our_record`), which stand behind
--- the PA records (`our_part`).
+-- `record_of` hands back the client's record if its index has one (`client_hands`), and else ours (`our_hands`), which stand behind
+-- the PA records (`ours_alone`).
 -- Assumes nothing.
-use mathlib.Core.Path.{sym, ap, ◌∙◌}
-use mathlib.Core.List.{List}
-use Prim.Native.Nat.{ℕ}
 use native.Mathlib.Omega.{arith}
-use lib.ListN.{length}
-use Rattle.font.specs.Records.{header_bytes}
-use Rattle.font.specs.Font.{record_in, place_in, past}
-use Rattle.font.specs.FontLaws.{whole_records, sound_client}
-use Rattle.font.specs.LookupLaws.{our_part, sound_part}
-use Rattle.font.proofs.LookupLaws.{client_record, our_record}
+use Rattle.font.specs.FontLaws.{whole_records, sound_client, ours_alone, sound_ours}
+use Rattle.font.proofs.LookupLaws.{client_hands, our_hands}
 use Rattle.font_index.proofs.record_of.Goals as goal
 
-pub record_by-own-requires : goal.record_by-own-requires
-record_by-own-requires c = (sound_client c.args.client.now c.requires.tables.client, c.requires.client)
-
-pub returns-then-own-gt0 : goal.returns-then-own-gt0
-returns-then-own-gt0 c =
-    let own = c.record_by-own.ensures in
-    let a = c.args in
-    let is = client_record a.table.now a.client.now a.size a.family a.code a.table.ref_ptr a.client.ref_ptr (omega (arith, ap length own.result_value, c.if-own-gt0.true)) in record {
-      result_value = own.result_value ∙ sym is.0;
-      ref_ptr_value = own.ref_ptr_value ∙ sym is.1;
-    }
-
-pub slice_bounds-record_by-count : goal.slice_bounds-record_by-count
-slice_bounds-record_by-count c = omega (arith, whole_records c.args.table.now c.requires.tables.ours)
-
-pub slice_bounds-record_by-start : goal.slice_bounds-record_by-start
-slice_bounds-record_by-start c = omega (arith, whole_records c.args.table.now c.requires.tables.ours)
-
 pub record_by-requires : goal.record_by-requires
-record_by-requires c =
-    let t = c.args.table.now in
-    (sound_part t c.requires.tables.ours, rw (our_part t) c.requires.ours)
+record_by-requires c = (sound_client c.args.client.now c.requires.tables.client, c.requires.client)
 
-pub returns : goal.returns
-returns c =
-    let found = c.record_by.ensures in
-    let own = c.record_by-own.ensures in
+pub our_records-requires : goal.our_records-requires
+our_records-requires c = omega (arith, whole_records c.args.table.now c.requires.tables.ours)
+
+pub record_by-requires-in-None : goal.record_by-requires-in-None
+record_by-requires-in-None c =
+    let t = c.args.table.now in
+    rw c.our_records.ensures.result_value (sound_ours t c.requires.tables.ours, rw ours_alone c.requires.ours)
+
+pub returns-in-Some : goal.returns-in-Some
+returns-in-Some c =
     let a = c.args in
-    let t = a.table.now in
-    let is = our_record t a.client.now a.size a.family a.code a.table.ref_ptr a.client.ref_ptr (omega (arith, ap length own.result_value, c.if-own-gt0.false)) in record {
-      result_value = found.result_value ∙ ap (record_in a.size a.family a.code) (our_part t) ∙ sym is.0;
-      ref_ptr_value = found.ref_ptr_value ∙ ap (λ (l : List (List ℕ)). past (place_in a.size a.family a.code l) (past header_bytes a.table.ref_ptr)) (our_part t) ∙ sym is.1;
-    }
+    let k = a.key in
+    client_hands a.table.now a.client.now k.size k.family k.code a.table.ref_ptr a.client.ref_ptr c.in-Some.ensures
+
+pub returns-in-None : goal.returns-in-None
+returns-in-None c =
+    let a = c.args in
+    let k = a.key in
+    our_hands a.table.now a.client.now k.size k.family k.code a.table.ref_ptr a.client.ref_ptr c.record_by-in-None.result c.our_records.result
+    c.our_records.ensures.result_value c.our_records.ensures.ref_ptr_value c.in-None.ensures c.record_by-in-None.ensures

@@ -1,7 +1,7 @@
 -- `are_small` tests every word, the invariant being `Passing` of `good_word`.
 use mathlib.Core.Path.{refl, sym, ap}
 use mathlib.Core.Bool.{◌&&◌}
-use Prim.Native.Nat.{ℕ, ◌+◌, ◌*◌, ◌-◌}
+use Prim.Native.Nat.{ℕ, ◌+◌, ◌*◌}
 use native.Mathlib.Nat.{add-zero, sub-zero}
 use native.Mathlib.Omega.{arith}
 use lib.ListN.{drop}

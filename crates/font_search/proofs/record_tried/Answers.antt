@@ -1,20 +1,21 @@
--- `record_tried` takes a record that has the symbol's key (`numbered_there`), and else looks it up.
+-- `record_tried` takes a record that has the symbol's key (`handed_back`), and else looks it up.
 -- Assumes nothing.
 use mathlib.Core.Path.{sym, ◌∙◌}
-use Prim.Native.Nat.{◌*◌}
-use Rattle.font.specs.Records.{character_bytes}
-use Rattle.font.specs.Reading.{part_of}
-use Rattle.font_search.proofs.HalvingLaws.{numbered_there}
-use Rattle.font.specs.Finding.{lies}
+use borrow.Author.Rules.{rules}
+use native.Mathlib.Omega.{arith}
+use Prim.Native.Nat.{◌<◌}
+use Rattle.font.specs.Keys.{Bytes}
+use Rattle.font.specs.RecordsLaws.{count}
+use Rattle.font.proofs.KeyLaws.{key_is, number_in}
+use Rattle.font_search.proofs.HalvingLaws.{handed_back}
 use Rattle.font_search.proofs.record_tried.Goals as goal
 
-pub returns-then-key_at-key_of : goal.returns-then-key_at-key_of
-returns-then-key_at-key_of c =
-    let made = c.key_of.ensures in
-    let key = c.key_at.ensures.0 in
+pub returns-then-eq : goal.returns-then-eq
+returns-then-eq c =
     let a = c.args in
-    let s = a.s.now in
-    let same = sym key ∙ c.if-key_at-key_of.true ∙ made.0 in
-    let found =
-    numbered_there s c.requires c.type_inv.s a.size a.family a.code made.1 a.number c.if-number-s.true same in
-    let both = lies a.size a.family a.code found a.s.ref_ptr (part_of (character_bytes * a.number) character_bytes s) in record { result_value = both.0; ref_ptr_value = both.1 }
+    let r = c.record_at-r in
+    let b : Bytes a.key.family a.key.code = record { family_byte_lem = search rules; code_byte_lem = search rules } in
+    let d : Bytes c.of.result.family c.of.result.code = record { family_byte_lem = search rules; code_byte_lem = search rules } in
+    let same = sym (number_in c.of.ensures) ∙ key_is c.of.result a.key d b c.eq.ensures c.if-eq.true in
+    let inside : a.number < count a.s.now = omega (arith, c.if-number-count.true, c.count.ensures) in
+    handed_back a.s.now c.requires c.type_inv.s a.key b a.number inside a.s.ref_ptr r.ensures.result_value r.ensures.ref_ptr_value same

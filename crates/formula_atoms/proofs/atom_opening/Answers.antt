@@ -1,20 +1,15 @@
 -- `atom_opening` meets its contract: of two bytes or more it is what `atom` says of the first two.
 -- Assumes nothing.
-use mathlib.Core.Path.{refl, sym, ap, ◌∙◌}
-use native.Mathlib.Omega.{arith}
+use Rattle.std.proofs.Common.{refl, sym, ap, ◌∙◌}
 use Rattle.formula.specs.declared.Opening.TheVariants.{NoItem}
 use Rattle.formula.specs.Heads.{atom_opening}
 use Rattle.formula.specs.FirstBytes.{two, short_two}
 use Rattle.formula_atoms.proofs.atom_opening.Goals as goal
 
-pub returns-then-s-lt2 : goal.returns-then-s-lt2
+pub returns-in_default : goal.returns-in_default
 unfolding atom_opening
-returns-then-s-lt2 c =
-    let s = c.args.s.now in
-    sym (short_two atom_opening NoItem refl (λ a. refl) s c.if-s-lt2.true)
+returns-in_default c = sym (short_two atom_opening NoItem refl (λ a. refl) c.args.s.now c.in_default.len_below)
 
-pub returns : goal.returns
+pub returns-in-len2-up : goal.returns-in-len2-up
 unfolding atom_opening
-returns c =
-    let s = c.args.s.now in
-    c.atom.ensures ∙ sym (ap atom_opening (two s (omega arith)))
+returns-in-len2-up c = c.atom.ensures ∙ sym (ap atom_opening (two c.args.s.now c.in-len2-up.len_at_least))

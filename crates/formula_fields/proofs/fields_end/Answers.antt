@@ -28,8 +28,8 @@ returns-then-has_third c =
     (third_is a.s.now a.kind c.opening_bytes.ensures c.field_end-second.ensures.0 c.field_end-third.ensures.0)
     ∙ ap (λ (t : Bool). third_end a.s.now t (third a.s.now a.kind)) (sym has)
 
-pub returns : goal.returns
-returns c =
+pub returns-else-has_third : goal.returns-else-has_third
+returns-else-has_third c =
     let a = c.args in
     let has = sym c.has_third.ensures ∙ c.if-has_third.false in
     third_is a.s.now a.kind c.opening_bytes.ensures c.field_end-second.ensures.0 c.field_end-third.ensures.0

@@ -1,20 +1,14 @@
 -- `is_empty` meets its contract: the kind byte, if there is one, is 0 or not.
 -- Assumes nothing.
-use mathlib.Core.Path.{refl, sym}
-use mathlib.Core.Bool.{false}
-use mathlib.Core.List.{List}
-use Prim.Native.Nat.{ℕ}
-use native.Mathlib.Omega.{arith}
+use Rattle.std.proofs.Common.{refl, sym, false, List, ℕ, arith}
 use Rattle.formula.specs.Heads.{field_head_under, field_head, is_empty}
 use Rattle.formula.specs.FirstBytes.{short_one}
 use Rattle.formula_fields.proofs.FieldLaws.{empty_said}
 use Rattle.formula_fields.proofs.is_empty.Goals as goal
 
-pub returns-then-s-eq0 : goal.returns-then-s-eq0
+pub returns-in-empty : goal.returns-in-empty
 unfolding field_head_under
-returns-then-s-eq0 c =
-    let s = c.args.s.now in
-    sym (short_one (λ (s : List ℕ). is_empty (field_head s)) false refl s c.if-s-eq0.true)
+returns-in-empty c = sym (short_one (λ (s : List ℕ). is_empty (field_head s)) false refl c.args.s.now (omega arith))
 
-pub returns : goal.returns
-returns c = sym (empty_said _ (omega arith))
+pub returns-in-len1-up : goal.returns-in-len1-up
+returns-in-len1-up c = sym (empty_said _ c.in-len1-up.len_at_least)

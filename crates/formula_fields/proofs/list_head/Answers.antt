@@ -46,7 +46,7 @@ returns-then-n-s c =
       | then-kind-eq-LONG_LIST_KIND+else-n-le-GREATEST_SHORT w ↦
           let is = w.if-kind-eq-LONG_LIST_KIND.true in
           sized_long a.s.now is (l.ensures.0 is) w.n-is w.word-n.ensures w.if-n-le-GREATEST_SHORT.false
-      | else-kind-eq-LONG_LIST_KIND w ↦ sized_short a.s.now kind_is w.if-kind-eq-LONG_LIST_KIND.false w.n-is c.short-n.ensures
+      | else-kind-eq-LONG_LIST_KIND w ↦ sized_short a.s.now kind_is w.if-kind-eq-LONG_LIST_KIND.false w.n-is w.short-n.ensures
     ] in
     sym (list_cut _ _ _ _ (omega arith) sized c.if-n-s.true)
 
@@ -60,6 +60,6 @@ returns c =
       | then-kind-eq-LONG_LIST_KIND+else-n-le-GREATEST_SHORT w ↦
           let is = w.if-kind-eq-LONG_LIST_KIND.true in
           sized_long a.s.now is (l.ensures.0 is) w.n-is w.word-n.ensures w.if-n-le-GREATEST_SHORT.false
-      | else-kind-eq-LONG_LIST_KIND w ↦ sized_short a.s.now kind_is w.if-kind-eq-LONG_LIST_KIND.false w.n-is c.short-n.ensures
+      | else-kind-eq-LONG_LIST_KIND w ↦ sized_short a.s.now kind_is w.if-kind-eq-LONG_LIST_KIND.false w.n-is w.short-n.ensures
     ] in
     sym (list_in_lem _ _ _ _ (omega arith) sized c.if-n-s.false)

@@ -25,8 +25,8 @@ returns-then-s-lt4 c =
     let s = c.args.s.now in
     sym (short_four kern_opening NoItem refl (λ a. refl) (λ a b. refl) (λ a b d. refl) s c.if-s-lt4.true)
 
-pub returns : goal.returns
-returns c =
+pub returns-else-s-lt4 : goal.returns-else-s-lt4
+returns-else-s-lt4 c =
     c.kern.ensures
     ∙ ap kern_within (c.signed.ensures ∙ ap signed_word c.word.ensures)
     ∙ sym (kern_said _ (omega arith))

@@ -1,36 +1,24 @@
 -- What was found, as asking why answers it.
 -- Assumes nothing.
 use mathlib.Core.Path.{◌∙◌}
-use Rattle.font.specs.FontLaws.{good_header}
+use Rattle.std.proofs.lemmas.Result.{err_from_is_err_and}
 use Rattle.layout_find.specs.FoundLaws.{given_list}
-use Rattle.layout_why.proofs.WhyLaws.{why_is, why_refused}
+use Rattle.layout_why.proofs.WhyLaws.{picked_is, why_is, why_refused}
 use Rattle.layout_why.proofs.why.Goals as goal
 
-pub parameters-p-requires : goal.parameters-p-requires
-parameters-p-requires c =
-    let found = rw c.in-Boxed.is at c.find-finding.ensures.finding_of in
-    good_header _ found.0.table_good
+pub returns-in_err-found-clause-result_value : goal.returns-in_err-found-clause-result_value
+returns-in_err-found-clause-result_value c =
+    let p = err_from_is_err_and c.from_residual.result c.from_residual.ensures.1 in
+    rw (p.1, p.2) (why_refused _ _ _ _ _ _ c.in_err-found.ensures.found_of _)
+
+pub new-font-requires : goal.new-font-requires
+new-font-requires c = c.in_ok-found.ensures.found_of.0.indexed
 
 pub why_at-requires : goal.why_at-requires
-why_at-requires c =
-    let found = rw c.in-Boxed.is at c.find-finding.ensures.finding_of in
-    given_list _ found.0 c.parameters-p.ensures
+why_at-requires c = given_list c.in_ok-found.ensures.found_of.0
 
-pub returns-in-Boxed : goal.returns-in-Boxed
-returns-in-Boxed c =
-    let f = c.find-finding.ensures in
-    let found = rw c.in-Boxed.is at f.finding_of in
-    record {
-      result_value = c.answer_by.ensures ∙ why_is _ _ _ _ _ _ _ _ found.0 _ _ found.1 _ c.why_at.result c.why_at.ensures;
-      index_after = f.index_after;
-      client_index_after = f.client_index_after;
-    }
-
-pub returns-in-Refused : goal.returns-in-Refused
-returns-in-Refused c =
-    let f = c.find-finding.ensures in
-    record {
-      result_value = why_refused _ _ _ _ _ _ (rw c.in-Refused.is at f.finding_of) _;
-      index_after = f.index_after;
-      client_index_after = f.client_index_after;
-    }
+pub returns-clause-result_value : goal.returns-clause-result_value
+returns-clause-result_value c =
+    let f = c.in_ok-found.ensures.found_of in
+    let tells = rw c.new-font.ensures at c.why_at.ensures in
+    rw c.ok_or.ensures.value (picked_is c.why_at.result ∙ why_is _ _ _ _ _ _ _ _ f.0 _ _ f.1 _ c.why_at.result tells)

@@ -1,7 +1,8 @@
 -- `step_in` meets its contract. The loop's invariant is `Along`, its measure what is left of the list.
 -- Assumes nothing.
 use mathlib.Core.Path.{sym, subst}
-use mathlib.Core.Option.{Option}
+use Rattle.std.specs.Prelude.{Option}
+use mathlib.Core.Option.{Option as OptionOf}
 use Prim.Native.Nat.{◌-◌}
 use native.Mathlib.Omega.{arith}
 use lib.ListN.{length, drop, length-take, length-drop}
@@ -77,8 +78,8 @@ returns-then-place-next c =
     let want = pick_in c.args.style c.args.place (tree_of s) in
     let wanted = along_here along more c.look_at-sight.ensures c.if-place-next.true in
     let done = rw (tail_part s at) at c.step_at.ensures in
-    subst (λ (x : Step). StepDone want c.args.place s x) (sym c.behind.ensures)
-    (behind_done want s along.low along.between.inside r (subst (λ (w : Option Picked). StepDone w (c.args.place - at) (drop at s) r) (sym wanted) done))
+    subst (λ (x : Option Step). StepDone want c.args.place s x) (sym c.behind.ensures)
+    (behind_done want s along.low along.between.inside r (subst (λ (w : OptionOf Picked). StepDone w (c.args.place - at) (drop at s) r) (sym wanted) done))
 
 pub loop-at-smaller : goal.loop-at-smaller
 loop-at-smaller c =

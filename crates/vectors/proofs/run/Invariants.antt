@@ -2,10 +2,7 @@
 use Rattle.std.proofs.Common.{◌≡◌, ◌≤◌, length}
 use Rattle.vectors.proofs.run.Given as goal
 
-abbrev pub invariant-loop-left : goal.invariant-loop-left
-invariant-loop-left g l =
+abbrev pub invariant-loop : goal.invariant-loop
+invariant-loop g l =
     (l.ours ≤ length l.table) × (l.theirs ≤ length l.client)
     × (length l.table ≡ length l.initial.table) × (length l.client ≡ length l.initial.client) × (length l.formula ≡ length l.initial.formula)
-
-abbrev pub decreases-loop-left : goal.decreases-loop-left
-decreases-loop-left g l = l.left

@@ -58,14 +58,6 @@ move_field-requires c =
     let n₄ = c.move_field-second.ensures.count_is in
     record { few = omega arith; hull = g.third; x_small = g.x_small; place = g.bounded.third }
 
-pub shape_of-buf : goal.shape_of-buf
-shape_of-buf c =
-    c.move_field.auto.buf
-    ∙ c.move_field-second.auto.buf
-    ∙ c.put_own-owned.auto.buf
-    ∙ c.move_field-first.auto.buf
-    ∙ c.put_own-ahead.auto.buf
-
 pub returns : goal.returns
 returns c =
     let x = c.args.x.0 in

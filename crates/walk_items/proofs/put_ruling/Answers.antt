@@ -17,15 +17,10 @@ use Rattle.walk_items.specs.Items.{own_put}
 use Rattle.walk_items.specs.ItemLaws.{rule_moved}
 use Rattle.walk_items.proofs.put_ruling.Goals as goal
 
-pub plus-dx-requires : goal.plus-dx-requires
-plus-dx-requires c =
-    let small = rw c.in-Ruled.is at c.requires.rules in
-    (omega arith, omega arith)
-
-pub returns-in-Unruled : goal.returns-in-Unruled
+pub returns-in-None : goal.returns-in-None
 unfolding own_put own_nodes moved hull
-returns-in-Unruled c =
-    rw c.in-Unruled.is
+returns-in-None c =
+    rw c.in-None.is
     (record {
       count_is = omega arith;
       large_is = refl;
@@ -33,18 +28,18 @@ returns-in-Unruled c =
       buffer_is = refl;
     })
 
-pub returns-in-Ruled : goal.returns-in-Ruled
+pub returns-in-Some : goal.returns-in-Some
 unfolding own_put own_nodes moved
-returns-in-Ruled c =
+returns-in-Some c =
     let before = c.args.before in
-    let r = c.in-Ruled.r in
+    let r = c.in-Some.r in
     let x = c.args.x.0 in
     let n = rule (x +ℤ r.corner.across.0) r.corner.up.0 r.width.0 r.thickness.0 in
     let node : moved_node x (pos 0) (own_node (ruled (rule_as r))) ≡ n = rule_moved x (rule_as r) in
     let at : c.plus-dx.result.0 ≡ x +ℤ r.corner.across.0 = c.plus-dx.ensures.is in
     let point = c.point.ensures in
     let one = point.count_is in
-    rw c.in-Ruled.is
+    rw c.in-Some.is
     (record {
       count_is = omega (arith, c.joined.ensures.count_is);
       large_is = c.joined.ensures.large_is ∙ rw point.large_is (or-false (is_large before));

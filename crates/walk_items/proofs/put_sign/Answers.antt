@@ -18,15 +18,10 @@ use Rattle.walk_items.specs.Items.{own_put}
 use Rattle.walk_items.specs.ItemLaws.{sign_moved}
 use Rattle.walk_items.proofs.put_sign.Goals as goal
 
-pub plus-dx-requires : goal.plus-dx-requires
-plus-dx-requires c =
-    let small = rw c.in-Signed.is at c.requires.sign in
-    (omega arith, omega arith)
-
-pub returns-in-Unsigned : goal.returns-in-Unsigned
+pub returns-in-None : goal.returns-in-None
 unfolding own_put own_nodes moved hull
-returns-in-Unsigned c =
-    rw c.in-Unsigned.is
+returns-in-None c =
+    rw c.in-None.is
     (record {
       count_is = omega arith;
       large_is = refl;
@@ -34,18 +29,18 @@ returns-in-Unsigned c =
       buffer_is = refl;
     })
 
-pub returns-in-Signed : goal.returns-in-Signed
+pub returns-in-Some : goal.returns-in-Some
 unfolding own_put own_nodes moved
-returns-in-Signed c =
+returns-in-Some c =
     let before = c.args.before in
-    let g = c.in-Signed.g in
+    let g = c.in-Some.g in
     let x = c.args.x.0 in
     let n = glyph (x +ℤ g.place.across.0) g.place.up.0 g.size g.family g.code in
     let node : moved_node x (pos 0) (own_node (signed (glyph_as g))) ≡ n = sign_moved x (glyph_as g) in
     let at : c.plus-dx.result.0 ≡ x +ℤ g.place.across.0 = c.plus-dx.ensures.is in
     let point = c.point.ensures in
     let one = point.count_is in
-    rw c.in-Signed.is
+    rw c.in-Some.is
     (record {
       count_is = omega (arith, c.joined.ensures.count_is);
       large_is = c.joined.ensures.large_is ∙ rw point.large_is (or-false (is_large before));

@@ -85,7 +85,7 @@ loop-fault-smaller-in-In c =
 pub loop-fault-preserved-in-In : goal.loop-fault-preserved-in-In
 unfolding Outcome
 loop-fault-preserved-in-In c =
-    rw (c.fresh-stage-in-In.ensures, c.greater-deepest.ensures, c.behind_primary.ensures, c.slot-i.ensures)
+    rw (c.fresh-stage-in-In.ensures, c.max-deepest.ensures, c.behind_primary.ensures, c.slot-i.ensures)
     (after c.loop-fault.invariant c.token_at-token.ensures c.token_step.ensures c.in-In.is)
 
 pub loop-fault-smaller : goal.loop-fault-smaller

@@ -1,7 +1,7 @@
 -- `third_shape` meets its contract, by whether there is a third field.
 -- Assumes nothing.
 use Rattle.std.proofs.Common.{◌≡◌, ℕ, List, Bool, true, false, refl, sym, subst, ◌∙◌}
-use Rattle.font.specs.Font.{Font, font_with}
+use Rattle.font.specs.Font.{Font, font_in}
 use Rattle.formula.specs.Places.{third_in}
 use Rattle.formula.specs.PlacesLaws.{third_good}
 use Rattle.boxes.specs.declared.styles.Style.{Style}
@@ -28,21 +28,15 @@ pub shape_of-requires-then-has_third : goal.shape_of-requires-then-has_third
 shape_of-requires-then-has_third c =
     let pre = c.requires in
     let has = sym c.has_third.ensures ∙ c.if-has_third.true in
-    record {
-      tables_good = pre.tables_good;
-      parameters_are = pre.parameters_are;
-      good = third_good _ _ _ has pre.good;
-      inside = pre.inside;
-      short = pre.short;
-    }
+    record { good = third_good _ _ _ has pre.good; inside = pre.inside; short = pre.short }
 
 pub returns-then-has_third : goal.returns-then-has_third
 returns-then-has_third c =
     let a = c.args in
-    there_is (font_with a.table.now a.client.now) a.style a.s.now a.at (sym c.has_third.ensures ∙ c.if-has_third.true)
+    there_is (font_in a.font.now) a.style a.s.now a.at (sym c.has_third.ensures ∙ c.if-has_third.true)
     (rw c.third_style.ensures at c.shape_of.ensures)
 
 pub returns : goal.returns
 returns c =
     let a = c.args in
-    none_there (font_with a.table.now a.client.now) a.style a.s.now a.at (sym c.has_third.ensures ∙ c.if-has_third.false) refl
+    none_there (font_in a.font.now) a.style a.s.now a.at (sym c.has_third.ensures ∙ c.if-has_third.false) refl

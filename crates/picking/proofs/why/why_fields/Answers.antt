@@ -47,17 +47,12 @@ third_shape-z-requires c =
     let noad = noad_at_lem c.args.s.now c.args.kind c.requires.1 c.requires.0.readable in
     third_given c.requires.0 third_at _ noad.z (omega (arith, noad.third_in_lem, noad.end_in))
 
-pub signs_in-signs-requires : goal.signs_in-signs-requires
-signs_in-signs-requires c =
-    let given = c.requires.0 in
-    (given.tables_good, given.parameters_are, c.shape_of-x.ensures.moderate)
-
 pub returns : goal.returns
 returns c =
     let second_at = second_is c.args.s.now c.args.kind c.opening_bytes-first.ensures c.held-second.ensures.end_is in
     let third_at = third_is c.args.s.now c.args.kind second_at c.held-third.ensures.end_is in
     let a = c.args in
-    head_reasons _ a.style a.kind a.s.now c.requires.1 c.requires.0.readable _ _ _ _ _ c.why_item.result c.requires.0.parameters_are
+    head_reasons _ a.style a.kind a.s.now c.requires.1 c.requires.0.readable _ _ _ _ _ c.why_item.result c.parameters.ensures
     (rw (c.opening_bytes-first.ensures, c.first_manner-manner.ensures, c.first_style.ensures) at c.shape_of-x.ensures)
     (rw (second_at, c.second_style.ensures) at c.shape_of-y.ensures)
     (rw third_at at c.third_shape-z.ensures)

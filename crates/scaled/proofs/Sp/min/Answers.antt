@@ -1,11 +1,8 @@
--- `Sp::min` meets its contract: by the parts, the one that it picks is the lesser.
+-- `Sp::min` meets its contract: the derived order is that of ℤ.
 -- Assumes nothing.
-use native.Mathlib.Omega.{arith}
-use Rattle.scaled.proofs.Made.{made_parts}
+use borrow.Author.Rules.{rules}
+use Rattle.scaled.proofs.Made.{least}
 use Rattle.scaled.proofs.Sp.min.Goals as goal
 
-pub returns-then-less : goal.returns-then-less
-returns-then-less c = made_parts (omega (arith, c.less.ensures.yes))
-
-pub returns-else-less : goal.returns-else-less
-returns-else-less c = made_parts (omega (arith, c.less.ensures.no))
+pub returns : goal.returns
+returns c = search (rules, least)

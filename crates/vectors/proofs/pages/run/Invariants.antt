@@ -2,8 +2,5 @@
 use Rattle.std.proofs.Common.{◌≡◌, length}
 use Rattle.vectors.proofs.pages.run.Given as goal
 
-abbrev pub invariant-loop-left : goal.invariant-loop-left
-invariant-loop-left g l = (length l.bytes ≡ length l.initial.bytes) × (length l.res ≡ length l.initial.res)
-
-abbrev pub decreases-loop-left : goal.decreases-loop-left
-decreases-loop-left g l = l.left
+abbrev pub invariant-loop : goal.invariant-loop
+invariant-loop g l = (length l.bytes ≡ length l.initial.bytes) × (length l.res ≡ length l.initial.res)

@@ -1,6 +1,6 @@
 -- `taken_span` meets its contract: a choice that reads has a list there, and its head says where the items stand (`span_taken`).
 -- Assumes nothing.
-use Rattle.std.proofs.Common.{◌≡◌, ℕ, ap, ◌∙◌, arith}
+use Rattle.std.proofs.Common.{ap, ◌∙◌, arith}
 use borrow.Enum.Refused.{opened}
 use Rattle.formula.specs.Places.{list_place}
 use Rattle.formula.specs.PlacesLaws.{choice_at_lem}

@@ -17,12 +17,12 @@ nothing_asks : {style : Style} (l : Items) {class : Neighbour} (b c : Neighbour)
     SetsAlike style l b c
 nothing_asks l b c is end F line here = set_items_beyond F b c line l (ap (λ (s : Style). next_class s none l) here ∙ sym is ∙ end)
 
-pub returns-in-End : goal.returns-in-End
-returns-in-End c =
-    nothing_asks (tree_of c.args.inside.now) _ _ c.look_over-sight.ensures.class_is (ap neighbour_as c.in-End.is)
+pub returns-in-None : goal.returns-in-None
+returns-in-None c =
+    nothing_asks (tree_of c.args.inside.now) _ _ c.look_over-sight.ensures.class_is (ap neighbour_as c.in-None.is)
 
-pub returns : goal.returns
-returns c F line here =
+pub returns-in-Some : goal.returns-in-Some
+returns-in-Some c F line here =
     let a = c.args in
     ap (λ (n : Neighbour). set_items F n line (tree_of a.inside.now))
     (c.next_class.ensures ∙ ap (λ (s : Style). next_class s (neighbour_as a.beyond) (tree_of a.s.now)) c.look_over-sight.ensures.style_is)

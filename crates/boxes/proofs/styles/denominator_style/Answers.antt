@@ -1,8 +1,0 @@
--- `denominator_style` meets its contract: it is the numerator style, cramped.
--- Assumes nothing.
-use mathlib.Core.Path.{ap, ◌∙◌}
-use Rattle.boxes.specs.Styles.{cramped_style}
-use Rattle.boxes.proofs.styles.denominator_style.Goals as goal
-
-pub returns : goal.returns
-returns c = c.cramped_style.ensures ∙ ap cramped_style c.numerator_style.ensures

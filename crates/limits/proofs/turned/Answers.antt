@@ -1,9 +1,0 @@
--- `turned` meets its contract: height and depth are exchanged.
--- Assumes nothing.
-use mathlib.Core.Path.{refl}
-use Rattle.limits.proofs.turned.Goals as goal
-
-pub returns-in-Given : goal.returns-in-Given
-returns-in-Given c =
-    let known = c.in-Given.is in
-    (rw known refl, λ moderate. let z = rw known at moderate in record { width = z.width; height = z.depth; depth = z.height })
