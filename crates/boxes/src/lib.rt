@@ -120,6 +120,7 @@ pub fn char_size(m: Metrics) -> Size
     }
 }
 
+// This and the other values without an argument have the definitions' names, so that there is no `Default`.
 pub fn zero_size() -> Size
     ensures { (size_as result ≡ boxes.zero_size) × Moderate result }
 {

@@ -1,5 +1,5 @@
 // The calls for C that write nodes as the body of a page of DVI and read them back (include/torfianka.h), which crate c_dvi_c exports. What they
-// give is defined in specs/Words.antt of crate c_words.
+// give is defined in specs/Words.antt of crate c_words. Two calls that look alike, since C links each by its name.
 
 #![tactic(auto)]
 

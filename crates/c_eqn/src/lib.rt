@@ -1,5 +1,5 @@
 // The calls for C that read and write typed text (include/torfianka.h), which crate c_eqn_c exports. What they give is defined in
-// specs/Words.antt of crate c_words.
+// specs/Words.antt of crate c_words. Two calls that look alike, since C links each by its name.
 
 #![tactic(auto)]
 

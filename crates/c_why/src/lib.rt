@@ -57,7 +57,7 @@ fn report_reasons(answer: WhyAnswer, words: &mut [i64]) -> u8
     report.number
 }
 
-// A reason as a word.
+// A reason as the word that C has for it.
 fn reason_word(by: Reason) -> i64
     ensures { result ≡ reason_word by }
 {

@@ -89,6 +89,7 @@ fn measure<From: NodeForm, To: NodeForm>(s: &[u8]) -> Option<usize>
 {
     let mut rest = s;
     let mut size: usize = 0;
+    // No count: a node says how far the next one is.
     while !rest.is_empty() {
         let node = From::front(rest)?;
         rest = &rest[From::size(node)..];
@@ -105,6 +106,7 @@ fn transcribe<From: NodeForm, To: NodeForm>(s: &[u8], out: &mut [u8])
 {
     let mut rest = s;
     let mut end: usize = 0;
+    // No count: a node says how far the next one is.
     while !rest.is_empty() {
         let Some(node) = From::front(rest) else {
             return;

@@ -46,6 +46,7 @@ fn ends(tables: Tables<'_>, r: &[u8], i: usize) -> bool
 }
 
 // Whether the symbol of a key is present, and so many steps can be taken from it. `first` is where its family should start in ours.
+// A recursion, as document 01 names it for a chain.
 fn goes_on(tables: Tables<'_>, key: Key, first: usize, steps: usize) -> bool
     requires { first ≤ most_characters }
     ensures { result ≡ goes_on (font_with tables.entry.ours.now tables.entry.client.now) key.size key.family steps ((font_with tables.entry.ours.now tables.entry.client.now).symbol key.size key.family key.code) }

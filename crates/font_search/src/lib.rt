@@ -46,7 +46,7 @@ fn record_in(s: &[u8], key: Key) -> Option<&[u8]>
     let mut from = 0;
     let mut to = count(s);
     let mut steps = MOST_STEPS;
-    // No `for`: two bounds draw near, and the library's searches take elements and not pieces of a slice.
+    // No `for` and no search of the library: that twelve steps are enough is proved of this count.
     while from < to {
         steps -= 1;
         let middle = (from + to) / 2;

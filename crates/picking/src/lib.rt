@@ -46,6 +46,7 @@ fn pick(style: Style, place: usize, s: &[u8]) -> Option<Spot>
     let mut first: usize = 0;
     let mut end = s.len();
     let mut current = style;
+    // No count: each step goes a list deeper.
     loop {
         match step_in(current, place - first, &s[first..end]) {
             None => return None,

@@ -34,7 +34,7 @@ pub struct Reasons {
     pub down: ShiftReason,
 }
 
-// A shift that is not there.
+// A shift that is not there. It has the definition's name, so that there is no `Default`.
 pub fn unshifted() -> ShiftReason
     ensures { shift_reason_as result ≡ rule.unshifted }
 {

@@ -77,6 +77,7 @@ impl Sp {
         self.part(5)
     }
 
+    // The derived order in the words of the rules: the clauses of these three speak of numbers in ℤ, and for `omega` over ℕ.
     pub fn less(self, o: Sp) -> bool
         ensures { Less self.0 o.0 result }
     {

@@ -60,11 +60,17 @@ or_nots true b = refl
 or_nots false b = refl
 
 -- a field that was set, by equal names
-pub head_as : (F : Font) (bytes b b' : List ℕ) (r : Result fields.FieldBox Missing) {st st' : Style} {m m' : Manner} {at at' : ℕ} → st ≡ st' →
+pub head_by : (F : Font) (bytes b b' : List ℕ) (r : Result fields.FieldBox Missing) {st st' : Style} {m m' : Manner} {at at' : ℕ} → st ≡ st' →
     m ≡ m' → at ≡ at' → HeadDone F st m bytes at b r b' → HeadDone F st' m' bytes at' b r b'
-head_as F bytes b b' r {st} {st'} {m} {m'} {at} {at'} style manner place d =
+head_by F bytes b b' r {st} {st'} {m} {m'} {at} {at'} style manner place d =
     subst (λ (at : ℕ). HeadDone F st' m' bytes at b r b') place
     (subst (λ (m : Manner). HeadDone F st' m bytes at b r b') manner (subst (λ (st : Style). HeadDone F st m bytes at b r b') style d))
+
+-- and by equal results
+pub head_as : (F : Font) (bytes b b' : List ℕ) {st st' : Style} {m m' : Manner} {at at' : ℕ} {r r' : Result fields.FieldBox Missing} → st ≡ st' → m ≡ m' →
+    at ≡ at' → r ≡ r' → HeadDone F st m bytes at b r b' → HeadDone F st' m' bytes at' b r' b'
+head_as F bytes b b' {st} {st'} {m} {m'} {at} {at'} {r} {r'} style manner place is d =
+    subst (λ (r : Result fields.FieldBox Missing). HeadDone F st' m' bytes at' b r b') is (head_by F bytes b b' r style manner place d)
 
 -- an item that was finished by the parameters P, where these are Q
 pub finished_by : {P Q : Parameters} {s : Style} {kind : Kind} {signs : Signs} {right : Neighbour} {l r : lines.Line} {a b c : fields.FieldBox} {v v' : List ℕ} →

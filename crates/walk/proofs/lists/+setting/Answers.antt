@@ -30,7 +30,7 @@ use Rattle.walk_fields.specs.declared.lines.Line as lines
 use Rattle.walk_fields.specs.FieldLaws.{head_at_lem, head_short, empty_is, head_empty, field_given, list_given, list_goes, head_list}
 use Rattle.walk_fields.specs.ListLaws.{line_more}
 use Rattle.walk_items.specs.Standing.{Two}
-use Rattle.walk_items.specs.NoadLaws.{head_as, finished_by, first_lacks, second_lacks, third_lacks, Three, set_one, set_two, set_three, lacks_one, lacks_two, none_third, finish_given}
+use Rattle.walk_items.specs.NoadLaws.{head_by, finished_by, first_lacks, second_lacks, third_lacks, Three, set_one, set_two, set_three, lacks_one, lacks_two, none_third, finish_given}
 use Rattle.walk.specs.declared.lists.Stretch.{Stretch}
 use Rattle.walk.specs.Walked.{OpenedGiven, ItemDone, Along}
 use Rattle.walk.proofs.ChoiceLaws.{choice_lacks, choice_done}
@@ -257,7 +257,7 @@ set_noad-returns-in_err-a t c =
     let own₂ = own_behind F a.line.style a.kind params c.has_signs-signed.ensures c.own_counts-own.ensures.behind_is in
     let lacks =
     lacks_one F a.line.style a.kind a.s.now a.buf.now c.set_field.new.buf noad own₁ own₂ c.room-i.ensures
-    (head_as F a.s.now _ _ (Err c.in_err-a.field-0.0) c.first_style-first.ensures c.first_manner-manner.ensures c.opening_bytes-at.ensures c.in_err-a.ensures) in
+    (head_by F a.s.now _ _ (Err c.in_err-a.field-0.0) c.first_style-first.ensures c.first_manner-manner.ensures c.opening_bytes-at.ensures c.in_err-a.ensures) in
     let exit = err_from_is_err_and c.from_residual.result c.from_residual.ensures.1 in
     rw (exit.1, exit.2) (noad_lacks F a.kind a.s.now (neighbour_as a.beyond) a.line a.buf.now _ c.requires.opens (first_lacks F a.line.style a.kind a.s.now noad lacks.1) lacks.2 lacks.0)
 
@@ -271,7 +271,7 @@ set_noad-set_second-requires t c =
     let own₂ = own_behind F a.line.style a.kind params c.has_signs-signed.ensures c.own_counts-own.ensures.behind_is in
     let one =
     set_one F a.line.style a.kind a.s.now a.buf.now c.set_field.new.buf noad own₁ own₂ c.room-i.ensures
-    (head_as F a.s.now _ _ (Ok c.in_ok-a.a) c.first_style-first.ensures c.first_manner-manner.ensures c.opening_bytes-at.ensures c.in_ok-a.ensures) in
+    (head_by F a.s.now _ _ (Ok c.in_ok-a.a) c.first_style-first.ensures c.first_manner-manner.ensures c.opening_bytes-at.ensures c.in_ok-a.ensures) in
     (omega arith, record { opened = c.requires; from = _; one = one })
 
 pub set_noad-returns : goal.set_noad-returns
@@ -284,7 +284,7 @@ set_noad-returns t c =
     let own₂ = own_behind F a.line.style a.kind params c.has_signs-signed.ensures c.own_counts-own.ensures.behind_is in
     let one =
     set_one F a.line.style a.kind a.s.now a.buf.now c.set_field.new.buf noad own₁ own₂ c.room-i.ensures
-    (head_as F a.s.now _ _ (Ok c.in_ok-a.a) c.first_style-first.ensures c.first_manner-manner.ensures c.opening_bytes-at.ensures c.in_ok-a.ensures) in
+    (head_by F a.s.now _ _ (Ok c.in_ok-a.a) c.first_style-first.ensures c.first_manner-manner.ensures c.opening_bytes-at.ensures c.in_ok-a.ensures) in
     c.set_second.ensures _ one
 
 -- ---- set_second: the second field, whatever the buffer was before the first
@@ -296,7 +296,7 @@ set_second-returns-in_err-b t c b one =
     let place = c.room-j.ensures ∙ ap (λ (n : ℕ). room_for n (length a.buf.now)) c.before_second.ensures in
     let lacks =
     lacks_two F a.line.style a.kind a.s.now one c.set_field.new.buf place
-    (head_as F a.s.now _ _ (Err c.in_err-b.field-0.0) c.second_style-style.ensures refl c.requires.one.first_whole.end_is c.in_err-b.ensures) in
+    (head_by F a.s.now _ _ (Err c.in_err-b.field-0.0) c.second_style-style.ensures refl c.requires.one.first_whole.end_is c.in_err-b.ensures) in
     let exit = err_from_is_err_and c.from_residual.result c.from_residual.ensures.1 in
     rw (exit.1, exit.2) (noad_lacks F a.kind a.s.now (neighbour_as a.beyond) a.line b _ c.requires.opened.opens
     (second_lacks F a.line.style a.kind a.s.now one.noad one.first_whole.present lacks.1) lacks.2 lacks.0)
@@ -308,7 +308,7 @@ set_second-set_third-requires t c =
     let place = c.room-j.ensures ∙ ap (λ (n : ℕ). room_for n (length a.buf.now)) c.before_second.ensures in
     let two =
     set_two F a.line.style a.kind a.s.now c.requires.one c.set_field.new.buf place
-    (head_as F a.s.now _ _ (Ok c.in_ok-b.b) c.second_style-style.ensures refl c.requires.one.first_whole.end_is c.in_ok-b.ensures) in
+    (head_by F a.s.now _ _ (Ok c.in_ok-b.b) c.second_style-style.ensures refl c.requires.one.first_whole.end_is c.in_ok-b.ensures) in
     (omega arith, record { opened = c.requires.opened; from = _; two = two })
 
 pub set_second-returns : goal.set_second-returns
@@ -318,7 +318,7 @@ set_second-returns t c b one =
     let place = c.room-j.ensures ∙ ap (λ (n : ℕ). room_for n (length a.buf.now)) c.before_second.ensures in
     c.set_third.ensures b
     (set_two F a.line.style a.kind a.s.now one c.set_field.new.buf place
-    (head_as F a.s.now _ _ (Ok c.in_ok-b.b) c.second_style-style.ensures refl one.first_whole.end_is c.in_ok-b.ensures))
+    (head_by F a.s.now _ _ (Ok c.in_ok-b.b) c.second_style-style.ensures refl one.first_whole.end_is c.in_ok-b.ensures))
 
 -- ---- set_third: the third field, if there is one, and the item
 
@@ -336,7 +336,7 @@ three t c two =
       | set_third-then-has_third+in_ok-z w ↦
           rw (w.z-is, w.buf-is)
           (set_three F a.line.style a.kind a.s.now two (Ok _) w.set_field.new.buf (sym c.has_third.ensures ∙ w.if-has_third.true) place
-          (head_as F a.s.now _ _ (Ok w.in_ok-z.z) w.third_style.ensures refl two.second_whole.end_is w.in_ok-z.ensures))
+          (head_by F a.s.now _ _ (Ok w.in_ok-z.z) w.third_style.ensures refl two.second_whole.end_is w.in_ok-z.ensures))
       | set_third-else-has_third w ↦
           rw (w.z-is, w.buf-is)
           (none_third F a.line.style a.kind a.s.now two w.empty_field-z.result (sym c.has_third.ensures ∙ w.if-has_third.false) w.empty_field-z.ensures)
@@ -349,7 +349,7 @@ set_third-returns-in_err-z t c b two =
     let place = c.room-k.ensures ∙ ap (λ (n : ℕ). room_for (n + a.b.run.count) (length a.buf.now)) c.before_second.ensures in
     let lacks =
     set_three F a.line.style a.kind a.s.now two (Err _) c.set_field.new.buf (sym c.has_third.ensures ∙ c.if-has_third.true) place
-    (head_as F a.s.now _ _ (Err c.in_err-z.field-0.0) c.third_style.ensures refl two.second_whole.end_is c.in_err-z.ensures) in
+    (head_by F a.s.now _ _ (Err c.in_err-z.field-0.0) c.third_style.ensures refl two.second_whole.end_is c.in_err-z.ensures) in
     let exit = err_from_is_err_and c.from_residual.result c.from_residual.ensures.1 in
     rw (exit.1, exit.2) (noad_lacks F a.kind a.s.now (neighbour_as a.beyond) a.line b _ c.requires.opened.opens
     (third_lacks F a.line.style a.kind a.s.now two.noad two.first_whole.present two.second_whole.present lacks.1) lacks.2 lacks.0)
