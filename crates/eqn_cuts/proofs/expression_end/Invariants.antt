@@ -1,3 +1,6 @@
+-- What has been passed from the start of an expression are whole tokens, and the first expression of all is they and that of the rest (`Going`).
+-- The measure is what is left.
+-- Assumes nothing.
 use mathlib.Core.Path.{◌≡◌}
 use mathlib.Core.Bool.{Bool, true}
 use mathlib.Core.List.{List}

@@ -1,3 +1,6 @@
+-- What has been passed are whole tokens, and the two sides of the keyword in all are those in the rest, or else those found so far (`Passing`).
+-- The measure is what is left.
+-- Assumes nothing.
 use mathlib.Core.Path.{◌≡◌}
 use mathlib.Core.Bool.{Bool, true, false}
 use mathlib.Core.List.{List, ◌++◌}

@@ -1,3 +1,5 @@
+-- What has been passed are whole tokens, and the last of them stands at the place that is kept (`LastBefore`). The measure is what is left.
+-- Assumes nothing.
 use mathlib.Core.Path.{◌≡◌}
 use mathlib.Core.List.{List, [], drop_last}
 use mathlib.Core.Logic.{◌⊎◌}

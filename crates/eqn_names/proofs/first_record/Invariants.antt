@@ -1,3 +1,5 @@
+-- No record passed was picked, so that the search goes on as from where it began. The measure is what is left.
+-- Assumes nothing.
 use mathlib.Core.Path.{◌≡◌}
 use mathlib.Core.List.{List}
 use Prim.Native.Nat.{ℕ, ◌-◌}

@@ -1,3 +1,5 @@
+-- The records that are left are sound from the last key on exactly if all are, where all so far were (`Left`).
+-- Assumes nothing.
 use mathlib.Core.Bool.{Bool}
 use mathlib.Core.List.{List}
 use mathlib.Core.Path.{◌≡◌}

@@ -1,3 +1,6 @@
+-- The measure is eight times the length of what is written, and some more for each member upward. What has been written of a list so far is
+-- `Reached`.
+-- Assumes nothing.
 use Prim.Native.Nat.{◌+◌, ◌-◌, ◌*◌}
 use lib.ListN.{length}
 use Rattle.eqn_write.proofs.ListLaws.{Reached}
