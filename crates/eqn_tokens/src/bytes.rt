@@ -38,9 +38,9 @@ pub fn are_word_bytes(s: &[u8]) -> bool
     s.iter().all(|b| is_word_byte(*b))
 }
 
-// Whether two runs of bytes are the same.
+// Whether two runs of bytes are the same. Names that begin alike mostly end in another byte, which is told before all are compared.
 pub fn are_same(a: &[u8], b: &[u8]) -> bool
     ensures { result ≡ same a.now b.now }
 {
-    a == b
+    a.last() == b.last() && a == b
 }

@@ -8,6 +8,7 @@ pub mod format;
 ghost use Rattle.std.specs.Prelude.{◌≡◌, ◌*◌, ◌<◌, ◌≤◌, length, drop};
 ghost use Rattle.font.specs.Records.{size_count, header_bytes, character_bytes};
 ghost use Rattle.font.specs.Font.{metrics_of, successor_of, past};
+ghost use Rattle.font.specs.Keys.{key_of, key_range, Bytes};
 ghost use Rattle.font.specs.Table.{SoundTables};
 ghost use Rattle.font.specs.RecordsLaws.{count, numbered};
 ghost use Rattle.font.specs.Values.{KeyOf, metrics_as, successor_as, HoldsRow, HoldsParameters};
@@ -41,6 +42,13 @@ impl Key {
             family: r[format::FAMILY],
             code: r[format::CODE],
         }
+    }
+
+    // The number by which keys are ordered, for loops over records: they compare one word, where the derived order tests part by part.
+    pub fn number(self) -> u32
+        ensures { (result ≡ key_of self.size self.family self.code) × Bytes self.family self.code × (result < key_range) }
+    {
+        (u32::from(self.size) * 256 + u32::from(self.family)) * 256 + u32::from(self.code)
     }
 }
 

@@ -19,16 +19,16 @@ pub fn all_end(tables: Tables<'_>, s: &[u8]) -> bool
 {
     let mut good = true;
     for i in 0..count(s) {
-        good = good & ends(tables, record_at(s, i), i);
+        good = good & ends(&tables, record_at(s, i), i);
     }
     good
 }
 
 // The chain of the symbol of r, the i-th record. Without the flag it has no step. With no client's table the record is its own
 // symbol's, and its successor comes next. The records of its family should start where most do that have all their codes in a row.
-fn ends(tables: Tables<'_>, r: &[u8], i: usize) -> bool
-    requires { (character_bytes ≤ length r.now) × (i ≤ most_characters) × Followed tables.ours.now tables.client.now r.now }
-    ensures { result ≡ seen_ends (font_with tables.entry.ours.now tables.entry.client.now) r.now }
+fn ends(tables: &Tables<'_>, r: &[u8], i: usize) -> bool
+    requires { (character_bytes ≤ length r.now) × (i ≤ most_characters) × Followed tables.now.ours.now tables.now.client.now r.now }
+    ensures { result ≡ seen_ends (font_with tables.now.ours.now tables.now.client.now) r.now }
 {
     if r[format::FLAG] != 1 {
         return true;
@@ -36,22 +36,20 @@ fn ends(tables: Tables<'_>, r: &[u8], i: usize) -> bool
     let key = Key::of(r);
     let first = i.saturating_sub(usize::from(key.code));
     if tables.client.is_empty() {
-        let next = Key {
-            code: r[format::SUCCESSOR],
-            ..key
-        };
-        return !goes_on(tables, next, first, LONGEST_CHAIN);
+        return !goes_on(tables, &key, r[format::SUCCESSOR], first, LONGEST_CHAIN);
     }
-    !goes_on(tables, key, first, LONGEST_CHAIN + 1)
+    !goes_on(tables, &key, key.code, first, LONGEST_CHAIN + 1)
 }
 
-// Whether the symbol of a key is present, and so many steps can be taken from it. `first` is where its family should start in ours.
-// A recursion, as document 01 names it for a chain.
-fn goes_on(tables: Tables<'_>, key: Key, first: usize, steps: usize) -> bool
+// Whether the symbol of a code is present, in the size and family of `like`, and so many steps can be taken from it. `first` is where
+// its family should start in ours. A recursion, as document 01 names it for a chain. What is the same in every step is lent and the code
+// is a byte by itself, so that the compiler makes a loop of it.
+fn goes_on(tables: &Tables<'_>, like: &Key, code: u8, first: usize, steps: usize) -> bool
     requires { first ≤ most_characters }
-    ensures { result ≡ goes_on (font_with tables.entry.ours.now tables.entry.client.now) key.size key.family steps ((font_with tables.entry.ours.now tables.entry.client.now).symbol key.size key.family key.code) }
+    ensures { result ≡ goes_on (font_with tables.now.ours.now tables.now.client.now) like.now.size like.now.family steps ((font_with tables.now.ours.now tables.now.client.now).symbol like.now.size like.now.family code) }
 {
-    let Some(r) = record_near(tables, first + usize::from(key.code), key) else {
+    let key = Key { code, ..*like };
+    let Some(r) = record_near(*tables, first + usize::from(code), key) else {
         return false;
     };
     if steps == 0 {
@@ -60,9 +58,5 @@ fn goes_on(tables: Tables<'_>, key: Key, first: usize, steps: usize) -> bool
     if r[format::FLAG] != 1 {
         return false;
     }
-    let next = Key {
-        code: r[format::SUCCESSOR],
-        ..key
-    };
-    goes_on(tables, next, first, steps - 1)
+    goes_on(tables, like, r[format::SUCCESSOR], first, steps - 1)
 }

@@ -1,6 +1,5 @@
 -- The rules for CH records, test by test.
 --     sound_from, sound_pass    the CH records in one pass that carries the least key for the next, for `are_characters`
---     last_less                    the order of keys as the code tests it, the last key against the next
 --     good_character_lem           the tests of a CH record, for `is_character`
 -- Assumes nothing.
 use mathlib.Core.Path.{◌≡◌, refl, sym, ap, ap₂, ◌∙◌}
@@ -12,13 +11,7 @@ use borrow.Author.Tests.{le-leb}
 use lib.Dec.{leb, eqb}
 use Rattle.font.specs.Records.{greatest_size, greatest_family, metric_words, size_byte, family_byte, flag_byte, successor_byte}
 use Rattle.font.specs.Records.{every, marked, good_word, good_character, before, rising}
-use Rattle.font.specs.Keys.{key_in, Bytes, InBytes, AllInBytes, before_key}
-use Rattle.std.specs.Prelude.{Option, Some, None}
-use Rattle.std.specs.Ordering.{partial_lt}
-use Rattle.std.specs.Option.{option_partial_cmp}
-use Rattle.font.proofs.KeyLaws.{number, key_less}
-use Rattle.font.specs.contracts.KeyPartialOrd.TheImpl.{partial_cmp-value}
-use Rattle.font.specs.declared.Key.{Key}
+use Rattle.font.specs.Keys.{key_in, InBytes, AllInBytes, before_key}
 use Rattle.font_records.specs.Rules.{sound_characters}
 
 -- ---- CH records, in one pass
@@ -27,24 +20,6 @@ use Rattle.font_records.specs.Rules.{sound_characters}
 unfoldable pub sound_from : ℕ → List (List ℕ) → Bool
 sound_from least [] = true
 sound_from least (r ∷ l) = (good_character r && leb least (key_in r)) && sound_from (key_in r + 1) l
-
--- the least key behind the last one
-abbrev pub least_after : Option Key → ℕ
-least_after None = 0
-least_after (Some k) = number k + 1
-
--- its family and code are bytes
-abbrev pub LastInBytes : Option Key → Type 0
-LastInBytes None = Unit {0}
-LastInBytes (Some k) = Bytes k.family k.code
-
--- the last key is less than the next where that is at least the least one behind it
-pub last_less : (last : Option Key) (k : Key) → LastInBytes last → Bytes k.family k.code →
-    partial_lt (option_partial_cmp partial_cmp-value.it) last (Some k) ≡ leb (least_after last) (number k)
-last_less None k b d = sym (le-leb 0 (number k) (omega arith))
-last_less (Some j) k b d =
-    let next : number j + 1 ≡ suc (number j) = omega arith in
-    key_less j k b d ∙ ap (λ (n : ℕ). leb n (number k)) (sym next)
 
 -- good record, order, rules for each after it, order after it
 regroup : (g b e r : Bool) → ((g && b) && (e && r)) ≡ ((g && e) && (b && r))

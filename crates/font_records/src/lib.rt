@@ -7,7 +7,7 @@ ghost use Rattle.font.specs.Records.{word_bytes, mark_bytes, parameter_bytes, he
 ghost use Rattle.font_records.specs.Rules.{sound_characters};
 ghost use Rattle.font.specs.Keys.{key_of, key_in, key_range, Bytes};
 
-use font::{Key, format};
+use font::{Key, count, format, record_at};
 
 // The greatest word of a record.
 const GREATEST_WORD: u32 = 8_388_607;
@@ -32,16 +32,17 @@ fn is_parameters(r: &[u8]) -> bool
     is_marked(r, b'P', b'A') & are_small(r, format::FIRST_PARAMETER, format::PARAMETER_COUNT)
 }
 
-// CH records, good and rising strictly.
+// CH records, good and rising strictly; `least` is the least key that the next one may have.
 pub fn are_characters(s: &[u8]) -> bool
     ensures { result ≡ sound_characters (client_records s.now) }
 {
     let mut good = true;
-    let mut last = None;
-    for r in s.chunks_exact(format::CHARACTER_BYTES) {
-        let key = Some(Key::of(r));
-        good = good & (is_character(r) & (last < key));
-        last = key;
+    let mut least = 0;
+    for i in 0..count(s) {
+        let r = record_at(s, i);
+        let key = Key::of(r).number();
+        good = good & (is_character(r) & (least <= key));
+        least = key + 1;
     }
     good
 }

@@ -46,16 +46,17 @@ fn record_in(s: &[u8], key: Key) -> Option<&[u8]>
     let mut from = 0;
     let mut to = count(s);
     let mut steps = MOST_STEPS;
+    let wanted = key.number();
     // No `for` and no search of the library: that twelve steps are enough is proved of this count.
     while from < to {
         steps -= 1;
         let middle = (from + to) / 2;
         let r = record_at(s, middle);
-        let other = Key::of(r);
-        if other == key {
+        let other = Key::of(r).number();
+        if other == wanted {
             return Some(r);
         }
-        if other < key {
+        if other < wanted {
             from = middle + 1;
         } else {
             to = middle;

@@ -11,36 +11,36 @@ use Rattle.font_chains.proofs.+goes_on.Goals as goal
 
 pub returns-in_default : goal.returns-in_default
 returns-in_default t c =
-    let a = c.args.tables in
-    let k = c.args.key in
-    let absent = read_none a.ours.now a.client.now k.size k.family k.code a.sound c.in_default.ensures in
+    let a = c.args.tables.now in
+    let k = c.args.like.now in
+    let absent = read_none a.ours.now a.client.now k.size k.family c.args.code a.sound c.in_default.ensures in
     rw absent (sym (goes_none (font_with a.ours.now a.client.now) k.size k.family c.args.steps))
 
 pub returns-then-steps-eq0 : goal.returns-then-steps-eq0
 unfolding goes_on
 returns-then-steps-eq0 t c =
-    let a = c.args.tables in
-    let k = c.args.key in
-    let found = read_some a.ours.now a.client.now k.size k.family k.code a.sound c.in-Some.ensures in
+    let a = c.args.tables.now in
+    let k = c.args.like.now in
+    let found = read_some a.ours.now a.client.now k.size k.family c.args.code a.sound c.in-Some.ensures in
     rw (found, c.if-steps-eq0.true)
 
 pub returns-then-r-ne1 : goal.returns-then-r-ne1
 unfolding metrics_of
 returns-then-r-ne1 t c =
-    let a = c.args.tables in
-    let k = c.args.key in
+    let a = c.args.tables.now in
+    let k = c.args.like.now in
     let r = c.in-Some.r.now in
-    let found = read_some a.ours.now a.client.now k.size k.family k.code a.sound c.in-Some.ensures in
+    let found = read_some a.ours.now a.client.now k.size k.family c.args.code a.sound c.in-Some.ensures in
     rw found
     (sym (goes_last (font_with a.ours.now a.client.now) k.size k.family c.args.steps (metrics_of r) (omega arith) (successor_none r c.if-r-ne1.true)))
 
 pub returns : goal.returns
 unfolding metrics_of
 returns t c =
-    let a = c.args.tables in
-    let k = c.args.key in
+    let a = c.args.tables.now in
+    let k = c.args.like.now in
     let r = c.in-Some.r.now in
-    let found = read_some a.ours.now a.client.now k.size k.family k.code a.sound c.in-Some.ensures in
+    let found = read_some a.ours.now a.client.now k.size k.family c.args.code a.sound c.in-Some.ensures in
     rw found
     (c.goes_on.ensures
     ∙ sym (goes_step (font_with a.ours.now a.client.now) k.size k.family c.args.steps (metrics_of r) (successor_byte r) (omega arith) (successor_some r c.if-r-ne1.false)))

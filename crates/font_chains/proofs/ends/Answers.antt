@@ -12,7 +12,7 @@ pub returns-then-is_empty : goal.returns-then-is_empty
 returns-then-is_empty c =
     let a = c.args in
     let k = c.of-key.ensures in
-    let chain = flagged_ends (font_with a.tables.ours.now a.tables.client.now) a.r.now c.if-r-ne1.false in
+    let chain = flagged_ends (font_with a.tables.now.ours.now a.tables.now.client.now) a.r.now c.if-r-ne1.false in
     let alone = eqb-true _ _ (sym c.is_empty.ensures ∙ c.if-is_empty.true) in
     rw (c.goes_on.ensures, k.size_is, k.family_is) (sym (c.requires.2.own alone ∙ chain))
 

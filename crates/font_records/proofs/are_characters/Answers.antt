@@ -1,53 +1,49 @@
--- `are_characters` tests every CH record and holds its key to the last: the invariant is `Left` of `sound_from`, which is
--- `sound_characters` at first (`sound_pass`).
+-- `are_characters` tests every CH record and holds its key to the least that may come next: the invariant is `Passing` of `sound_from`,
+-- which is `sound_characters` at first (`sound_pass`).
 -- Assumes nothing.
-use mathlib.Core.Path.{◌≡◌, sym, ap, ap₂, ◌∙◌}
+use mathlib.Core.Path.{◌≡◌, refl, sym, ap, ap₂, ◌∙◌}
 use mathlib.Core.Bool.{Bool, ◌&&◌}
-use mathlib.Core.List.{List}
-use Prim.Native.Nat.{ℕ}
+use Prim.Native.Nat.{ℕ, ◌+◌, ◌*◌, ◌≤◌}
+use native.Mathlib.Nat.{sub-zero}
 use native.Mathlib.Omega.{arith}
-use Rattle.std.specs.Prelude.{Some}
-use Rattle.font.specs.Records.{character_bytes, client_records, client_count}
-use Rattle.font.specs.Reading.{first_passed, none_left}
-use Rattle.font.specs.RecordsLaws.{all_in_bytes, in_pieces, first_in_pieces, none_in_pieces}
 use lib.Dec.{leb}
-use borrow.Author.Rules.{rules}
-use Rattle.font.specs.Records.{good_character}
-use Rattle.font.specs.Keys.{key_in, Bytes}
+use lib.ListN.{length, drop, length-drop}
+use Rattle.std.proofs.lemmas.List.{length-take-le}
+use Rattle.font.specs.Records.{character_bytes, pieces, client_records, client_count, good_character}
+use Rattle.font.specs.Keys.{key_in}
+use Rattle.font.specs.Reading.{again, finished}
+use Rattle.font.specs.RecordsLaws.{all_in_bytes}
 use Rattle.font.proofs.KeyLaws.{number_in}
-use Rattle.font_records.proofs.RuleLaws.{least_after, last_less, sound_from, sound_pass}
+use Rattle.font_records.proofs.RuleLaws.{sound_from, sound_pass}
 use Rattle.font_records.proofs.are_characters.Invariants.{sound}
 use Rattle.font_records.proofs.are_characters.Goals as goal
 
-pub loop-r-init : goal.loop-r-init
+pub loop-i-init : goal.loop-i-init
 unfolding client_records client_count
-loop-r-init c =
-    let made = c.chunks_exact-r-items.ensures in
+loop-i-init c =
     let s = c.args.s.now in
-    rw c.into_iter-r-iterator.ensures.into_iter_gives
-    (made.size, tt, record { rest = sound_pass (client_records s) (all_in_bytes s c.type_inv.s) ∙ ap (λ (t : List ℕ). sound_from 0 (in_pieces character_bytes t)) (sym made.rest) })
+    record { passed = omega arith; rest = rw sub-zero (sound_pass (client_records s) (all_in_bytes s c.type_inv.s)) }
 
-pub loop-r-preserved : goal.loop-r-preserved
-unfolding sound_from
-loop-r-preserved c =
-    let step = c.in-Some.ensures.steps in
-    let l = c.loop-r in
-    let r = c.in-Some.r.now in
-    let u = c.next.new.self.rest.now in
-    let key = c.of.result in
-    let bytes : Bytes key.family key.code = record { family_byte_lem = search rules; code_byte_lem = search rules } in
-    let first = first_in_pieces character_bytes r u (omega arith) step.1.0 (step.1.1 ∙ l.invariant.0) in
-    let tested : (c.is_character.result && c.lt.result) ≡ (good_character r && leb (least_after l.last) (key_in r)) =
-    ap₂ (λ (good less : Bool). good && less) c.is_character.ensures
-    (c.lt.ensures ∙ last_less l.last key l.invariant.1 bytes ∙ ap (leb (least_after l.last)) (number_in c.of.ensures)) in (
-      step.0 ∙ l.invariant.0,
-      bytes,
-      first_passed l.invariant.2 (sound (Some key)) (c.is_character.result && c.lt.result) u (rw (first, tested, number_in c.of.ensures)),
-    )
+-- a whole record stands at each number
+pub is_character-requires : goal.is_character-requires
+is_character-requires c =
+    let s = c.args.s.now in
+    let at = character_bytes * c.loop-i.i in
+    let whole : character_bytes ≤ length (drop at s) = omega (arith, length-drop at s, c.count-i-end.ensures) in
+    omega (arith, ap length c.record_at-r.ensures.result_value ∙ length-take-le character_bytes (drop at s) whole)
+
+pub loop-i-preserved : goal.loop-i-preserved
+unfolding sound_from pieces
+loop-i-preserved c =
+    let l = c.loop-i in
+    let r = c.record_at-r.ensures.result_value in
+    let key = c.number-key.result in
+    let rest = drop character_bytes (drop (character_bytes * l.i) c.args.s.now) in
+    let is = c.number-key.ensures.0 ∙ number_in c.of.ensures ∙ ap key_in r in
+    let tested = c.is_character.ensures ∙ ap good_character r in
+    again l.invariant (sound (key + 1)) character_bytes (c.is_character.result && leb l.least key) (omega arith) (omega arith)
+    (λ m left. ap₂ (λ (good : Bool) (k : ℕ). (good && leb l.least k) && sound (k + 1) m rest) (sym tested) (sym is))
 
 pub returns : goal.returns
-unfolding sound_from
-returns c =
-    let l = c.loop-r in
-    let done = none_in_pieces character_bytes l.r-iterator.rest.now (omega (arith, c.in-None.ensures.steps.1.0, l.invariant.0)) in
-    sym (none_left l.invariant.2 (ap (sound_from _) done))
+unfolding sound_from pieces
+returns c = sym (finished c.loop-i.invariant (omega arith) (λ u. refl))
