@@ -1,4 +1,4 @@
--- `report_reasons` meets its contract: five stores, by `five_stores`, of the parts that `why_report` gives.
+-- `report_reasons` meets its contract: five stores, by `five_stores`, of the parts of a `WhyReport`.
 -- Assumes nothing.
 use Rattle.std.proofs.Common.{◌≡◌, ◌≤◌, refl, sym, ap, subst, ◌∙◌, rules, w64, to_z, of_z}
 use Rattle.formula.specs.Format.{formula_limit}
