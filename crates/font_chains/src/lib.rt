@@ -42,8 +42,8 @@ fn ends(tables: &Tables<'_>, r: &[u8], i: usize) -> bool
 }
 
 // Whether the symbol of a code is present, in the size and family of `like`, and so many steps can be taken from it. `first` is where
-// its family should start in ours. A recursion, as document 01 names it for a chain. What is the same in every step is lent and the code
-// is a byte by itself, so that the compiler makes a loop of it.
+// its family should start in ours. A recursion, as document 01 names it for a chain; the tables and `like` are lent from step to step and
+// the code is a byte by itself, so that the compiler makes a loop of it.
 fn goes_on(tables: &Tables<'_>, like: &Key, code: u8, first: usize, steps: usize) -> bool
     requires { first ≤ most_characters }
     ensures { result ≡ goes_on (font_with tables.now.ours.now tables.now.client.now) like.now.size like.now.family steps ((font_with tables.now.ours.now tables.now.client.now).symbol like.now.size like.now.family code) }
