@@ -31,7 +31,8 @@ fn record_tried(s: &[u8], number: usize, key: Key) -> Option<&[u8]>
 {
     if number < count(s) {
         let r = record_at(s, number);
-        if Key::of(r) == key {
+        let other = Key::of(r).number();
+        if other == key.number() {
             return Some(r);
         }
     }
