@@ -1,3 +1,6 @@
+-- The symbol's record can be nowhere but in the range that is left, and the steps that are left are enough for it (`Halved`); the measure is
+-- the length of the range.
+-- Assumes nothing.
 use Prim.Native.Nat.{◌-◌}
 use Rattle.font.proofs.KeyLaws.{number}
 use Rattle.font_search.proofs.HalvingLaws.{Halved}
